@@ -1,0 +1,4 @@
+mod TwosComplement
+mod Sums
+mod WordBack
+mod ReadWord

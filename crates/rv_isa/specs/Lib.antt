@@ -1,0 +1,5 @@
+pub mod Fields
+pub mod Formats
+pub mod Table
+pub mod Ranges
+pub mod Words

@@ -1,0 +1,12 @@
+// The instruction table of RV32I, read both ways: from words to instructions and back.
+#![tactic(auto)]
+
+mod decoding;
+mod encoding;
+mod fields;
+mod instruction;
+
+pub use decoding::decode;
+pub use encoding::encode;
+pub use fields::sign_extend;
+pub use instruction::{BranchOp, ImmOp, Instr, LoadOp, Reg, RegOp, StoreOp};
