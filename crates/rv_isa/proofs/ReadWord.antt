@@ -1,11 +1,10 @@
 -- The table reads the word of an instruction as that instruction.
-use Rattle.std.proofs.Common.{◌≡◌, ℕ, ◌+◌, ◌*◌, ◌<◌, ◌≤◌, ◌%◌, ◌/◌, ◌^◌, ◌-◌, ℤ, pos, negsuc, arith, refl, sym, ◌∙◌, Some, None, Option, ap, Bool, true, false, cond, ◌==◌, ◌&&◌, subst, List, [], ◌∷◌, nat_lt, suc, zero, IfSome, IsNone, All, ◌↔◌}
-use Rattle.std.proofs.lemmas.Grind.{common_steps}
+use Rattle.std.proofs.Common.{◌≡◌, ℕ, ◌+◌, ◌*◌, ◌<◌, ℤ, pos, negsuc, arith, refl, ◌∙◌, Some, ap}
 use Rattle.rv_isa.specs.Fields.{bits, signed, unsigned, IsSigned}
-use Rattle.rv_isa.specs.Words.{i_word, b_word, j_word, word_of, imm_funct3, branch_funct3, load_funct3, store_funct3, op_funct3, op_funct7, imm_bits, u_word, s_word}
-use Rattle.rv_isa.specs.Formats.{opcode, funct3, funct7, rd, rs1, rs2, shift_amount, u_immediate, i_immediate, s_immediate, b_immediate, j_immediate}
-use Rattle.rv_isa.specs.Table.{instruction_of, HasNoRow, Row, table, read_by, by_opcode, by_funct3, by_funct7, by_word, branch, load, store, op_imm, shift_imm, op}
-use Rattle.rv_isa.specs.Ranges.{IsOffset, IsReg, IsInstr, IsImmediate}
+use Rattle.rv_isa.specs.Words.{word_of, imm_funct3, branch_funct3, load_funct3, store_funct3, op_funct3, op_funct7, imm_bits}
+use Rattle.rv_isa.specs.Formats.{i_immediate, s_immediate, b_immediate, j_immediate}
+use Rattle.rv_isa.specs.Table.{instruction_of}
+use Rattle.rv_isa.specs.Ranges.{IsReg, IsInstr}
 use Rattle.rv_isa.proofs.TwosComplement.{signed-unsigned, unsigned_below}
 use Rattle.rv_isa.proofs.Sums.{section_j, section_b, section_u, section_st, section_i, section_s}
 use Rattle.rv_isa.specs.declared.instruction.Reg.{Reg}

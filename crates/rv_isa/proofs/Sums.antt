@@ -1,8 +1,7 @@
 -- The fields of a word that is a sum of fields.
-use Rattle.std.proofs.Common.{◌≡◌, ℕ, ◌+◌, ◌*◌, ◌<◌, ◌≤◌, ◌%◌, ◌/◌, ◌^◌, ◌-◌, ℤ, pos, negsuc, arith, refl, sym, ◌∙◌, Some, None, Option, ap, Bool, true, false, cond, ◌==◌, ◌&&◌, subst, List, [], ◌∷◌, nat_lt, suc, zero, IfSome, IsNone, All, ◌↔◌}
-use Rattle.std.proofs.lemmas.Grind.{common_steps}
-use Rattle.rv_isa.specs.Fields.{bits, signed, unsigned, IsSigned}
-use Rattle.rv_isa.specs.Words.{i_word, b_word, j_word, word_of, imm_funct3, branch_funct3, load_funct3, store_funct3, op_funct3, op_funct7, imm_bits, u_word, s_word}
+use Rattle.std.proofs.Common.{◌≡◌, ℕ, ◌+◌, ◌*◌, ◌<◌, ◌%◌, arith}
+use Rattle.rv_isa.specs.Fields.{bits}
+use Rattle.rv_isa.specs.Words.{i_word, b_word, j_word, u_word, s_word}
 
 pub section_j : (r u : ℕ) → r < 32 → u < 2097152 → u % 2 ≡ 0
     → let w = j_word 111 r u in (bits 0 7 w ≡ 111) × (bits 7 5 w ≡ r) × (bits 31 1 w * 1048576 + bits 12 8 w * 4096 + bits 20 1 w * 2048 + bits 21 10 w * 2 ≡ u)

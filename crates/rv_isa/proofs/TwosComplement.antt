@@ -1,9 +1,9 @@
 -- Numbers in two's complement, there and back.
-use Rattle.std.proofs.Common.{◌≡◌, ℕ, ◌+◌, ◌*◌, ◌<◌, ◌≤◌, ◌%◌, ◌/◌, ◌^◌, ◌-◌, ℤ, pos, negsuc, arith, refl, sym, ◌∙◌, Some, None, Option, ap, Bool, true, false, cond, ◌==◌, ◌&&◌, subst, List, [], ◌∷◌, nat_lt, suc, zero, IfSome, IsNone, All, ◌↔◌}
+use Rattle.std.proofs.Common.{◌≡◌, ℕ, ◌*◌, ◌<◌, ◌^◌, ◌-◌, ℤ, pos, negsuc, arith, refl, true, false, cond, nat_lt, suc, zero}
 use Rattle.std.proofs.lemmas.Grind.{common_steps}
 use Rattle.std.proofs.Math.Nat.{pow-suc}
 use Rattle.std.proofs.Math.Numerals.{sub-one}
-use Rattle.rv_isa.specs.Fields.{bits, signed, unsigned, IsSigned}
+use Rattle.rv_isa.specs.Fields.{signed, unsigned, IsSigned}
 
 pub unsigned-signed : (k n : ℕ) → 0 < k → n < 2 ^ k → unsigned k (signed k n) ≡ n
 unsigned-signed k n p h = grind (arith, common_steps)

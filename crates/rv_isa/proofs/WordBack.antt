@@ -1,14 +1,13 @@
 -- A word that a row of the table has is the word of the instruction that the row reads.
-use Rattle.std.proofs.Common.{◌≡◌, ℕ, ◌+◌, ◌*◌, ◌<◌, ◌≤◌, ◌%◌, ◌/◌, ◌^◌, ◌-◌, ℤ, pos, negsuc, arith, refl, sym, ◌∙◌, Some, None, Option, ap, Bool, true, false, cond, ◌==◌, ◌&&◌, subst, List, [], ◌∷◌, nat_lt, suc, zero, IfSome, IsNone, All, ◌↔◌}
+use Rattle.std.proofs.Common.{◌≡◌, ℕ, ◌+◌, ◌*◌, ◌<◌, ◌^◌, pos, arith, refl, sym, Some, None, Option, Bool, true, false, cond, ◌==◌, ◌&&◌, subst, List, [], ◌∷◌, IfSome, IsNone, All, ◌↔◌}
 use Rattle.std.proofs.lemmas.Grind.{common_steps}
 use Rattle.std.proofs.lemmas.List.Elements.{All-nil, All-cons, All-head, All-tail}
 use Rattle.rv_isa.specs.Fields.{bits, signed, unsigned, IsSigned}
-use Rattle.rv_isa.specs.Words.{i_word, b_word, j_word, word_of, imm_funct3, branch_funct3, load_funct3, store_funct3, op_funct3, op_funct7, imm_bits, u_word, s_word}
-use Rattle.rv_isa.specs.Formats.{opcode, funct3, funct7, rd, rs1, rs2, shift_amount, u_immediate, i_immediate, s_immediate, b_immediate, j_immediate}
-use Rattle.rv_isa.specs.Table.{instruction_of, HasNoRow, Row, table, read_by, by_opcode, by_funct3, by_funct7, by_word, branch, load, store, op_imm, shift_imm, op}
-use Rattle.rv_isa.specs.Ranges.{IsOffset, IsReg, IsInstr, IsImmediate}
+use Rattle.rv_isa.specs.Words.{word_of, imm_funct3, branch_funct3, load_funct3, store_funct3, op_funct3, op_funct7, imm_bits}
+use Rattle.rv_isa.specs.Formats.{rd, rs1, u_immediate, i_immediate, j_immediate}
+use Rattle.rv_isa.specs.Table.{instruction_of, HasNoRow, Row, table, read_by, by_opcode, by_funct3, by_word, branch, load, store, op_imm, shift_imm, op}
+use Rattle.rv_isa.specs.Ranges.{IsInstr, IsImmediate}
 use Rattle.rv_isa.proofs.TwosComplement.{unsigned-signed, IsSigned-signed}
-use Rattle.rv_isa.specs.declared.instruction.Reg.{Reg}
 use Rattle.rv_isa.specs.declared.instruction.ImmOp.{ImmOp}
 use Rattle.rv_isa.specs.declared.instruction.ImmOp.TheVariants.{Addi, Slti, Sltiu, Xori, Ori, Andi, Slli, Srli, Srai}
 use Rattle.rv_isa.specs.declared.instruction.BranchOp.{BranchOp}
@@ -20,7 +19,7 @@ use Rattle.rv_isa.specs.declared.instruction.StoreOp.TheVariants.{Sb, Sh, Sw}
 use Rattle.rv_isa.specs.declared.instruction.RegOp.{RegOp}
 use Rattle.rv_isa.specs.declared.instruction.RegOp.TheVariants.{Add, Sub, Sll, Slt, Sltu, Xor, Srl, Sra, Or, And}
 use Rattle.rv_isa.specs.declared.instruction.Instr.{Instr}
-use Rattle.rv_isa.specs.declared.instruction.Instr.TheVariants.{Lui, Auipc, Jal, Jalr, Branch, Load, Store, OpImm, Op, Fence, Ecall, Ebreak}
+use Rattle.rv_isa.specs.declared.instruction.Instr.TheVariants.{Lui, Auipc, Jal, Jalr, Fence, Ecall, Ebreak}
 
 -- a word that the row has is the word of what the row reads
 record IsBack (w : ℕ) (row : Row) : Type 0 where

@@ -1,5 +1,5 @@
 -- Fields of a word, and numbers in two's complement.
-use Rattle.std.specs.Prelude.{ℕ, ◌+◌, ◌-◌, ◌*◌, ◌/◌, ◌%◌, ◌^◌, ℤ, pos, negsuc, nat_lt, ◌<◌, if◌then◌else◌}
+use Rattle.std.specs.Prelude.{ℕ, ◌-◌, ◌/◌, ◌%◌, ◌^◌, ℤ, pos, negsuc, nat_lt, ◌<◌, if◌then◌else◌}
 
 -- the bits of a word from low on, as many as width
 abbrev pub bits : ℕ → ℕ → ℕ → ℕ

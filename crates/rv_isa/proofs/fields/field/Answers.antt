@@ -1,4 +1,4 @@
-use Rattle.std.proofs.Common.{◌<◌, arith}
+use Rattle.std.proofs.Common.{arith}
 use Rattle.std.proofs.lemmas.Nat.{one_shl, and_mask}
 use Rattle.rv_isa.proofs.fields.field.Goals as goal
 

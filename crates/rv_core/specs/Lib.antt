@@ -1,0 +1,10 @@
+pub use Rattle.rv_isa.specs.Table
+pub use Rattle.rv_isa.specs.Ranges
+pub mod State
+pub mod Bytes
+pub mod Operations
+pub mod Execution
+pub mod Stepping
+pub mod Task
+pub mod Machine
+pub mod Example

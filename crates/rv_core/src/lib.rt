@@ -1,0 +1,19 @@
+// A machine of one task: the step of RV32I on 32 registers and a private memory, and the services that a
+// task calls.
+#![tactic(auto)]
+
+ghost use Rattle.rv_core.specs.Example.{Ends};
+
+mod bytes;
+mod machine;
+mod operations;
+mod services;
+
+pub use machine::Machine;
+pub use services::{Service, Step};
+
+/// A program of 12 instructions, followed by computation: its steps end by the exit that was worked out
+/// by hand.
+pub fn worked()
+    ensures { Ends }
+{}

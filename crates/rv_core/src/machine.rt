@@ -1,0 +1,334 @@
+// The machine: its state, one step of it, and the calls between steps.
+
+ghost use Rattle.std.specs.Prelude.{◌≡◌, ◌+◌, ◌*◌, ◌/◌, ◌^◌, ◌<◌, ◌≤◌, ◌%◌, IfOk, OnOk, length};
+ghost use Rattle.std.specs.Result.{result_err};
+ghost use Rattle.rv_isa.specs.Ranges.{IsInstr};
+ghost use Rattle.rv_core.specs.Bytes.{put_word, words_at};
+ghost use Rattle.rv_core.specs.State.{Next};
+ghost use Rattle.rv_core.specs.Operations.{register, with_register, sum_of, place_of};
+ghost use Rattle.rv_core.specs.Execution.{goes_on, jumps, branches, loads, stores, calls, executed};
+ghost use Rattle.rv_core.specs.Stepping.{step_of, answer, IsCall, Keeps};
+ghost use Rattle.rv_core.specs.Task.{blank, first_state, resumed, misfit, IsPlace};
+
+use crate::bytes::{load_code, put_word_in, word_in, words_out};
+use crate::operations::{
+    by_register, compute, put_in, read_in, size_of_load, size_of_store, taken,
+};
+use crate::services::{Service, Step};
+use nv_base::{NoMemory, TrapCause};
+use rv_isa::{BranchOp, Instr, LoadOp, Reg, StoreOp, decode};
+use std::alloc::Global;
+use std::marker::Model;
+
+/// The machine of one task: 32 registers, a program counter, a private memory of at most 65,536 bytes,
+/// the instructions counted since the task began, and the fuel, which is how many may be counted.
+#[derive(Drop)]
+pub struct Machine {
+    registers: [u32; 32],
+    pc: u32,
+    memory: Vec<u8>,
+    count: u32,
+    fuel: u32,
+}
+
+impl Model for Machine {
+    ghost use Rattle.std.specs.Prelude.{◌≡◌, ◌≤◌, length, slice_index};
+    ghost use Rattle.rv_core.specs.State.{MachineState};
+
+    ghost Value = { MachineState };
+
+    ghost view = { λ m. record { registers = m.registers; pc = m.pc; memory = m.memory.items; count = m.count; fuel = m.fuel } };
+
+    ghost invariant = { λ m. (length m.memory.items ≤ 65536) × (slice_index m.registers 0 ≡ 0) };
+}
+
+impl Machine {
+    /// Takes room for so many bytes of memory, all zero, with no task.
+    pub fn new(alloc: Global, bytes: u32) -> Result<Machine, NoMemory>
+        requires { bytes ≤ 65536 }
+        ensures { IfOk result (λ m. m ≡ blank bytes) }
+    {
+        let memory = vec![in alloc; 0u8; bytes as usize]?;
+        Ok(Machine {
+            registers: [0; 32],
+            pc: 0,
+            memory,
+            count: 0,
+            fuel: 0,
+        })
+    }
+
+    /// Begins a task: the code stands at 0 with zeros behind it, sp is the size of memory, a0 the argument.
+    pub fn load(&mut self, code: &[u32], arg: u32, fuel: u32)
+        requires { 4 * length code.now ≤ length self.old.memory }
+        ensures { self.new ≡ first_state code.now arg fuel (length self.old.memory) }
+    {
+        load_code(self.memory.as_mut_slice(), code);
+        self.registers = [0; 32];
+        self.registers[2] = self.memory.len() as u32;
+        self.registers[10] = arg;
+        self.pc = 0;
+        self.count = 0;
+        self.fuel = fuel;
+    }
+
+    /// Goes past the call that the machine waits on, with a0 set where a value is given.
+    pub fn resume(&mut self, a0: Option<u32>)
+        requires { self.old.pc + 4 ≤ length self.old.memory }
+        ensures { resumed self.old a0 ≡ Next self.new }
+    {
+        if let Some(value) = a0 {
+            self.registers[10] = value;
+        }
+        self.pc += 4;
+    }
+
+    /// Whether so many words fit at an address: `CallAlign` exactly where the address is no multiple of 4,
+    /// and else `CallRange` exactly where the words are not whole in memory.
+    pub fn fits(&self, at: u32, words: u32) -> Result<(), TrapCause>
+        ensures refusal { result_err result ≡ misfit self.now at words }
+        ensures ok { OnOk result (IsPlace self.now at words) }
+    {
+        if at % 4 != 0 {
+            return Err(TrapCause::CallAlign);
+        }
+        if at as u64 + 4 * words as u64 > self.memory.len() as u64 {
+            return Err(TrapCause::CallRange);
+        }
+        Ok(())
+    }
+
+    /// Puts a word into memory.
+    pub fn copy_in(&mut self, at: u32, word: u32)
+        requires { IsPlace self.old at 1 }
+        ensures exact { self.new ≡ record self.old { memory = put_word self.old.memory at word } }
+        ensures room { length self.new.memory ≡ length self.old.memory }
+        ensures limit { length self.new.memory ≤ 65536 }
+    {
+        put_word_in(self.memory.as_mut_slice(), at as usize, word);
+    }
+
+    /// Copies the words at an address out of memory.
+    pub fn copy_out(&self, at: u32, into: &mut [u32])
+        requires { IsPlace self.now at (length into.old) }
+        ensures { into.new ≡ words_at self.now.memory at (length into.old) }
+    {
+        words_out(self.memory.as_slice(), at as usize, into);
+    }
+
+    /// Counts one instruction and does it. After a call the program counter still stands on the
+    /// instruction that called.
+    pub fn step(&mut self) -> Step
+        ensures exact { step_of self.old ≡ answer result self.new }
+        ensures counted { self.old.count < self.old.fuel → self.new.count ≡ self.old.count + 1 }
+        ensures fuel { self.new.fuel ≡ self.old.fuel }
+        ensures room { length self.new.memory ≡ length self.old.memory }
+        ensures waits { IsCall result → self.new.pc + 4 ≤ length self.new.memory }
+    {
+        if self.count >= self.fuel {
+            return Step::Trap(TrapCause::Fuel);
+        }
+        self.count += 1;
+        let at = self.pc as usize;
+        if at + 4 > self.memory.len() {
+            return Step::Trap(TrapCause::Fetch);
+        }
+        let word = word_in(self.memory.as_slice(), at);
+        match decode(word) {
+            None => Step::Trap(TrapCause::Illegal),
+            Some(i) => self.execute(i),
+        }
+    }
+
+    #[tactic(auto, unfolding(crate::specs::Execution::executed))]
+    fn execute(&mut self, i: Instr) -> Step
+        requires fits { IsInstr i }
+        requires next { self.old.pc + 4 < 2 ^ 32 }
+        ensures exact { executed self.old i ≡ answer result self.new }
+        ensures stays { IsCall result → self.new.pc ≡ self.old.pc }
+        ensures kept { Keeps self.old self.new }
+    {
+        match i {
+            Instr::Lui { rd, imm } => self.set_and_go(rd, imm << 12),
+            Instr::Auipc { rd, imm } => {
+                let value = self.pc.wrapping_add(imm << 12);
+                self.set_and_go(rd, value)
+            }
+            Instr::Jal { rd, offset } => {
+                let target = self.pc.wrapping_add_signed(offset);
+                self.jump(rd, target)
+            }
+            Instr::Jalr { rd, rs1, imm } => {
+                let target = self.sum(rs1, imm) / 2 * 2;
+                self.jump(rd, target)
+            }
+            Instr::Branch {
+                op,
+                rs1,
+                rs2,
+                offset,
+            } => self.branch(op, rs1, rs2, offset),
+            Instr::Load { op, rd, rs1, imm } => self.load_value(op, rd, rs1, imm),
+            Instr::Store { op, rs1, rs2, imm } => self.store_value(op, rs1, rs2, imm),
+            Instr::OpImm { op, rd, rs1, imm } => {
+                let value = compute(by_register(op), self.register(rs1), imm.cast_unsigned());
+                self.set_and_go(rd, value)
+            }
+            Instr::Op { op, rd, rs1, rs2 } => {
+                let value = compute(op, self.register(rs1), self.register(rs2));
+                self.set_and_go(rd, value)
+            }
+            Instr::Fence { .. } => self.go_on(),
+            Instr::Ecall => self.service(),
+            Instr::Ebreak => Step::Trap(TrapCause::Break),
+        }
+    }
+
+    fn register(&self, r: Reg) -> u32
+        requires { r.0 < 32 }
+        ensures { result ≡ register self.now r.0 }
+    {
+        self.registers[r.0 as usize]
+    }
+
+    fn set_register(&mut self, r: Reg, value: u32)
+        requires { r.0 < 32 }
+        ensures exact { self.new ≡ with_register self.old r.0 value }
+        ensures kept { Keeps self.old self.new }
+    {
+        if r.0 != 0 {
+            self.registers[r.0 as usize] = value;
+        }
+    }
+
+    fn sum(&self, r: Reg, imm: i32) -> u32
+        requires { r.0 < 32 }
+        ensures { result ≡ sum_of self.now r imm }
+    {
+        self.register(r).wrapping_add_signed(imm)
+    }
+
+    fn go_on(&mut self) -> Step
+        requires { self.old.pc + 4 < 2 ^ 32 }
+        ensures exact { goes_on self.old ≡ answer result self.new }
+        ensures stays { IsCall result → self.new.pc ≡ self.old.pc }
+        ensures kept { Keeps self.old self.new }
+    {
+        self.pc += 4;
+        Step::Went
+    }
+
+    fn set_and_go(&mut self, rd: Reg, value: u32) -> Step
+        requires fits { rd.0 < 32 }
+        requires next { self.old.pc + 4 < 2 ^ 32 }
+        ensures exact { goes_on (with_register self.old rd.0 value) ≡ answer result self.new }
+        ensures stays { IsCall result → self.new.pc ≡ self.old.pc }
+        ensures kept { Keeps self.old self.new }
+    {
+        self.set_register(rd, value);
+        self.pc += 4;
+        Step::Went
+    }
+
+    // The link register is written last, since the target may have been read from it.
+    fn jump(&mut self, rd: Reg, target: u32) -> Step
+        requires fits { rd.0 < 32 }
+        requires next { self.old.pc + 4 < 2 ^ 32 }
+        ensures exact { jumps self.old target (with_register self.old rd.0 (self.old.pc + 4)) ≡ answer result self.new }
+        ensures stays { IsCall result → self.new.pc ≡ self.old.pc }
+        ensures kept { Keeps self.old self.new }
+    {
+        if target % 4 != 0 {
+            return Step::Trap(TrapCause::Jump);
+        }
+        let link = self.pc + 4;
+        self.set_register(rd, link);
+        self.pc = target;
+        Step::Went
+    }
+
+    fn branch(&mut self, op: BranchOp, rs1: Reg, rs2: Reg, offset: i32) -> Step
+        requires first { rs1.0 < 32 }
+        requires second { rs2.0 < 32 }
+        requires next { self.old.pc + 4 < 2 ^ 32 }
+        ensures exact { branches self.old op rs1 rs2 offset ≡ answer result self.new }
+        ensures stays { IsCall result → self.new.pc ≡ self.old.pc }
+        ensures kept { Keeps self.old self.new }
+    {
+        if !taken(op, self.register(rs1), self.register(rs2)) {
+            return self.go_on();
+        }
+        let target = self.pc.wrapping_add_signed(offset);
+        if target % 4 != 0 {
+            return Step::Trap(TrapCause::Jump);
+        }
+        self.pc = target;
+        Step::Went
+    }
+
+    fn load_value(&mut self, op: LoadOp, rd: Reg, rs1: Reg, imm: i32) -> Step
+        requires fits { rd.0 < 32 }
+        requires base { rs1.0 < 32 }
+        requires next { self.old.pc + 4 < 2 ^ 32 }
+        ensures exact { loads self.old op rd.0 (sum_of self.old rs1 imm) ≡ answer result self.new }
+        ensures stays { IsCall result → self.new.pc ≡ self.old.pc }
+        ensures kept { Keeps self.old self.new }
+    {
+        let at = self.sum(rs1, imm);
+        let size = size_of_load(op);
+        if at % size != 0 {
+            return Step::Trap(TrapCause::LoadAlign);
+        }
+        let at = at as usize;
+        if at + size as usize > self.memory.len() {
+            return Step::Trap(TrapCause::Load);
+        }
+        let value = read_in(op, self.memory.as_slice(), at);
+        self.set_and_go(rd, value)
+    }
+
+    fn store_value(&mut self, op: StoreOp, rs1: Reg, rs2: Reg, imm: i32) -> Step
+        requires base { rs1.0 < 32 }
+        requires source { rs2.0 < 32 }
+        requires next { self.old.pc + 4 < 2 ^ 32 }
+        ensures exact { stores self.old op (sum_of self.old rs1 imm) (register self.old rs2.0) ≡ answer result self.new }
+        ensures stays { IsCall result → self.new.pc ≡ self.old.pc }
+        ensures kept { Keeps self.old self.new }
+    {
+        let at = self.sum(rs1, imm);
+        let word = self.register(rs2);
+        let size = size_of_store(op);
+        if at % size != 0 {
+            return Step::Trap(TrapCause::StoreAlign);
+        }
+        let at = at as usize;
+        if at + size as usize > self.memory.len() {
+            return Step::Trap(TrapCause::Store);
+        }
+        put_in(op, self.memory.as_mut_slice(), at, word);
+        self.go_on()
+    }
+
+    fn service(&self) -> Step
+        ensures { calls self.now (register self.now 17) (register self.now 10) (register self.now 11) ≡ answer result self.now }
+    {
+        let first = self.registers[10];
+        let second = self.registers[11];
+        match self.registers[17] {
+            1 => Step::Call(Service::Read {
+                object: first,
+                at: second,
+            }),
+            2 => Step::Call(Service::Write {
+                object: first,
+                at: second,
+            }),
+            3 => Step::Call(Service::Spawn {
+                program: first,
+                arg: second,
+            }),
+            4 => Step::Call(Service::Finish { code: first }),
+            _ => Step::Trap(TrapCause::Call),
+        }
+    }
+}

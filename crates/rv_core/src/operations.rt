@@ -1,0 +1,99 @@
+// What each operation computes.
+
+ghost use Rattle.std.specs.Prelude.{◌≡◌, ◌+◌, ◌^◌, ◌<◌, ◌≤◌, length};
+ghost use Rattle.rv_core.specs.Operations.{computed, with_immediate, is_taken, load_size, store_size, read_at, put_at};
+
+use crate::bytes::{half_in, put_half_in, put_word_in, word_in};
+use rv_isa::{BranchOp, ImmOp, LoadOp, RegOp, StoreOp, sign_extend};
+
+pub fn size_of_load(op: LoadOp) -> u32
+    ensures size { result ≡ load_size op }
+    ensures range { (0 < result) × (result ≤ 4) }
+{
+    match op {
+        LoadOp::Lb | LoadOp::Lbu => 1,
+        LoadOp::Lh | LoadOp::Lhu => 2,
+        LoadOp::Lw => 4,
+    }
+}
+
+pub fn size_of_store(op: StoreOp) -> u32
+    ensures size { result ≡ store_size op }
+    ensures range { (0 < result) × (result ≤ 4) }
+{
+    match op {
+        StoreOp::Sb => 1,
+        StoreOp::Sh => 2,
+        StoreOp::Sw => 4,
+    }
+}
+
+pub fn read_in(op: LoadOp, memory: &[u8], at: usize) -> u32
+    requires { at + load_size op ≤ length memory.now }
+    ensures { result ≡ read_at op memory.now at }
+{
+    match op {
+        LoadOp::Lb => sign_extend(memory[at] as u32, 8).cast_unsigned(),
+        LoadOp::Lh => sign_extend(half_in(memory, at), 16).cast_unsigned(),
+        LoadOp::Lw => word_in(memory, at),
+        LoadOp::Lbu => memory[at] as u32,
+        LoadOp::Lhu => half_in(memory, at),
+    }
+}
+
+pub fn put_in(op: StoreOp, memory: &mut [u8], at: usize, word: u32)
+    requires { at + store_size op ≤ length memory.old }
+    ensures { memory.new ≡ put_at op memory.old at word }
+{
+    match op {
+        StoreOp::Sb => memory[at] = (word % 256) as u8,
+        StoreOp::Sh => put_half_in(memory, at, word % 65536),
+        StoreOp::Sw => put_word_in(memory, at, word),
+    }
+}
+
+pub fn compute(op: RegOp, a: u32, b: u32) -> u32
+    ensures { result ≡ computed op a b }
+{
+    match op {
+        RegOp::Add => a.wrapping_add(b),
+        RegOp::Sub => a.wrapping_sub(b),
+        RegOp::Sll => a.wrapping_shl(b),
+        RegOp::Slt => (a.cast_signed() < b.cast_signed()) as u32,
+        RegOp::Sltu => (a < b) as u32,
+        RegOp::Xor => a ^ b,
+        RegOp::Srl => a.wrapping_shr(b),
+        RegOp::Sra => (a.cast_signed() >> (b % 32)).cast_unsigned(),
+        RegOp::Or => a | b,
+        RegOp::And => a & b,
+    }
+}
+
+pub fn by_register(op: ImmOp) -> RegOp
+    ensures { result ≡ with_immediate op }
+{
+    match op {
+        ImmOp::Addi => RegOp::Add,
+        ImmOp::Slti => RegOp::Slt,
+        ImmOp::Sltiu => RegOp::Sltu,
+        ImmOp::Xori => RegOp::Xor,
+        ImmOp::Ori => RegOp::Or,
+        ImmOp::Andi => RegOp::And,
+        ImmOp::Slli => RegOp::Sll,
+        ImmOp::Srli => RegOp::Srl,
+        ImmOp::Srai => RegOp::Sra,
+    }
+}
+
+pub fn taken(op: BranchOp, a: u32, b: u32) -> bool
+    ensures { result ≡ is_taken op a b }
+{
+    match op {
+        BranchOp::Beq => a == b,
+        BranchOp::Bne => a != b,
+        BranchOp::Blt => a.cast_signed() < b.cast_signed(),
+        BranchOp::Bge => a.cast_signed() >= b.cast_signed(),
+        BranchOp::Bltu => a < b,
+        BranchOp::Bgeu => a >= b,
+    }
+}
