@@ -1,0 +1,2 @@
+//! The text of a report, line by line: definitions alone.
+#![tactic(auto)]

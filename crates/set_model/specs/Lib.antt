@@ -1,0 +1,5 @@
+pub mod Sets
+pub mod Limits
+pub mod Numbers
+pub mod Formatted
+pub mod Views

@@ -1,0 +1,17 @@
+//! What holds of each task set within the limits.
+
+ghost use Rattle.kernel_model.specs.Fit.{IsBase, IsSizes};
+ghost use Rattle.set_model.specs.Sets.{TaskSet};
+ghost use Rattle.set_model.specs.Limits.{IsTaskSet};
+ghost use Rattle.set_model.specs.Numbers.{sizes_of};
+ghost use Rattle.set_model.specs.Formatted.{formatted};
+
+/// The numbers of a set within the limits are fit for the kernel's model: each object has room for two versions, and a commit and a boot end by a write.
+pub fn numbers_are_fit()
+    ensures { (set : TaskSet) → IsTaskSet set → IsSizes (sizes_of set) }
+{}
+
+/// The state that a format leaves is one that a device may hold.
+pub fn formatted_state_is_fit()
+    ensures { (set : TaskSet) → IsTaskSet set → IsBase (sizes_of set) (formatted set) }
+{}

@@ -1,0 +1,93 @@
+-- The tasks of a set are a machine of the kernel's model.
+use Rattle.std.proofs.Common.{◌≡◌, ℕ, zero, suc, ◌+◌, ◌-◌, ◌<◌, ◌≤◌, Bool, true, false, List, [], ◌∷◌, length, Option, Some, None, refl, ap, subst, arith}
+use Rattle.std.specs.Prelude.{nat_lt, if◌then◌else◌}
+use Rattle.std.proofs.lemmas.Bool.{ltb-true}
+use Rattle.nv_base.specs.declared.causes.TrapCause.{TrapCause}
+use Rattle.nv_base.specs.declared.causes.TrapCause.TheVariants.{Illegal, Jump, Fetch, LoadAlign, Load, StoreAlign, Store, Break, Call, Object, CallAlign, CallRange, Program, Spawns, Fuel}
+use Rattle.rv_core.specs.State.{MachineState, StepResult, Next, Calls, Traps}
+use Rattle.rv_core.specs.Machine.{step_of, misfit, words_at}
+use Rattle.rv_core.specs.declared.services.Service.TheVariants as service
+use Rattle.kernel_model.specs.Effects.{Outcome, Write}
+use Rattle.kernel_model.specs.Runs as run
+use Rattle.kernel_model.specs.Fit.{IsMachine, IsOutcome, IsSetUp, IsWrite}
+use Rattle.set_model.specs.Sets.{TaskSet, object_at}
+use Rattle.set_model.specs.Limits.{IsTaskSet}
+use Rattle.set_model.specs.Numbers.{sizes_of}
+use Rattle.set_model.specs.Formatted.{formatted}
+use Rattle.set_model.specs.Views.{trap_of}
+use Rattle.task_model.specs.TaskSteps.{given_index, given_words, if_fits, past, served, task_steps}
+use Rattle.task_model.proofs.Fuel.{Counts, IsCounted, step_counts}
+
+cause_is_outcome : (cause : TrapCause) → IsOutcome (trap_of cause)
+cause_is_outcome Illegal = (omega arith, omega arith)
+cause_is_outcome Jump = (omega arith, omega arith)
+cause_is_outcome Fetch = (omega arith, omega arith)
+cause_is_outcome LoadAlign = (omega arith, omega arith)
+cause_is_outcome Load = (omega arith, omega arith)
+cause_is_outcome StoreAlign = (omega arith, omega arith)
+cause_is_outcome Store = (omega arith, omega arith)
+cause_is_outcome Break = (omega arith, omega arith)
+cause_is_outcome Call = (omega arith, omega arith)
+cause_is_outcome Object = (omega arith, omega arith)
+cause_is_outcome CallAlign = (omega arith, omega arith)
+cause_is_outcome CallRange = (omega arith, omega arith)
+cause_is_outcome Program = (omega arith, omega arith)
+cause_is_outcome Spawns = (omega arith, omega arith)
+cause_is_outcome Fuel = (omega arith, omega arith)
+
+pub length-words_at : (memory : List ℕ) (at n : ℕ) → length (words_at memory at n) ≡ n
+length-words_at memory at zero = refl
+length-words_at memory at (suc n) = ap suc (length-words_at memory (at + 4) n)
+
+
+-- what a machine owes of each step
+abbrev IsFit : TaskSet → MachineState → run.Step MachineState → Type 0
+IsFit set m (run.Went n) = n.fuel - n.count < m.fuel - m.count
+IsFit set m (run.Reads n o) = (o < length set.objects) × ((words : List ℕ) → (given_words n words).fuel - (given_words n words).count < m.fuel - m.count)
+IsFit set m (run.Writes n w) = (n.fuel - n.count < m.fuel - m.count) × IsWrite (sizes_of set) w
+IsFit set m (run.Spawns n s) = (s.program < length set.programs) × ((index : ℕ) → (given_index n index).fuel - (given_index n index).count < m.fuel - m.count)
+IsFit set m (run.Ends outcome) = IsOutcome outcome
+
+falls : (m n : MachineState) → IsCounted m n → n.fuel - n.count < m.fuel - m.count
+falls m n h = omega (arith, h.had, h.count, h.fuel)
+
+unless_misfit : (set : TaskSet) (m : MachineState) (fault : Option TrapCause) (step : run.Step MachineState) → IsFit set m step → IsFit set m (if_fits fault step)
+unless_misfit set m None step h = h
+unless_misfit set m (Some cause) step h = cause_is_outcome cause
+
+served_is_fit : (set : TaskSet) (m : MachineState) (r : StepResult) → Counts m r → IsFit set m (served set r)
+served_is_fit set m (Next s) h = falls m s h
+served_is_fit set m (Traps s cause) h = cause_is_outcome cause
+served_is_fit set m (Calls s (service.Finish code)) h = tt
+served_is_fit set m (Calls s (service.Read o at)) h = by_test (nat_lt o (length set.objects)) refl
+  where
+    by_test : (b : Bool) → nat_lt o (length set.objects) ≡ b → IsFit set m (if b then if_fits (misfit s at (object_at set o).size) (run.Reads s o) else run.Ends (trap_of Object))
+    by_test true e = unless_misfit set m (misfit s at (object_at set o).size) (run.Reads s o) (ltb-true o (length set.objects) e, λ words. falls m s h)
+    by_test false e = (omega arith, omega arith)
+served_is_fit set m (Calls s (service.Write o at)) h = by_test (nat_lt o (length set.objects)) refl
+  where
+    by_test : (b : Bool) → nat_lt o (length set.objects) ≡ b
+        → IsFit set m (if b then if_fits (misfit s at (object_at set o).size) (run.Writes (past s) (record { object = o; words = words_at s.memory at (object_at set o).size })) else run.Ends (trap_of Object))
+    by_test true e =
+        unless_misfit set m (misfit s at (object_at set o).size) (run.Writes (past s) (record { object = o; words = words_at s.memory at (object_at set o).size }))
+        (falls m s h, record { object = ltb-true o (length set.objects) e; words = length-words_at s.memory at (object_at set o).size })
+    by_test false e = (omega arith, omega arith)
+served_is_fit set m (Calls s (service.Spawn program arg)) h = by_test (nat_lt program (length set.programs)) refl
+  where
+    by_test : (b : Bool) → nat_lt program (length set.programs) ≡ b → IsFit set m (if b then run.Spawns s (record { program = program; arg = arg }) else run.Ends (trap_of Program))
+    by_test true e = (ltb-true program (length set.programs) e, λ index. falls m s h)
+    by_test false e = (omega arith, omega arith)
+
+pub tasks_are_a_machine : (set : TaskSet) → IsMachine (task_steps set) (sizes_of set)
+tasks_are_a_machine set = record {
+  went = λ m n e. at m (run.Went n) e;
+  reads = λ m n o e. (at m (run.Reads n o) e).0;
+  given = λ m n o words e. (at m (run.Reads n o) e).1 words;
+  wrote = λ m n w e. at m (run.Writes n w) e;
+  spawns = λ m n s e. (at m (run.Spawns n s) e).0;
+  spawned = λ m n s index e. (at m (run.Spawns n s) e).1 index;
+  ends = λ m outcome e. at m (run.Ends outcome) e;
+}
+  where
+    at : (m : MachineState) (s : run.Step MachineState) → served set (step_of m) ≡ s → IsFit set m s
+    at m s e = subst (IsFit set m) e (served_is_fit set m (step_of m) (step_counts m))

@@ -1,0 +1,66 @@
+-- How the tasks of a set run on the RV32I machine: its services, with their tests in order. This project's own.
+use Rattle.std.specs.Prelude.{ℕ, ◌+◌, ◌-◌, nat_lt, List, length, Option, Some, None, if◌then◌else◌}
+use Rattle.rv_core.specs.Bytes.{put_words}
+use Rattle.rv_core.specs.declared.services.Service.TheVariants as service
+use Rattle.nv_base.specs.declared.causes.TrapCause.{TrapCause}
+use Rattle.rv_core.specs.State.{MachineState, StepResult, Next, Calls, Traps}
+use Rattle.rv_core.specs.Machine.{step_of, first_state, misfit, words_at, register, with_register}
+use Rattle.kernel_model.specs.Effects.{Exit, Trap}
+use Rattle.kernel_model.specs.Runs.{Step, Steps, Went, Reads, Writes, Spawns, Ends}
+use Rattle.set_model.specs.Sets.{TaskSet, object_at, program_at}
+use Rattle.set_model.specs.Views.{trap_of}
+
+-- the registers by their ABI names: a1 holds an address
+abbrev pub address_of : MachineState → ℕ
+address_of s = register s 11
+
+-- behind the ECALL
+abbrev pub past : MachineState → MachineState
+past s = record s { pc = s.pc + 4 }
+
+-- the service, unless the place for an object's words does not fit
+abbrev pub if_fits : Option TrapCause → Step MachineState → Step MachineState
+if_fits None step = step
+if_fits (Some cause) step = Ends (trap_of cause)
+
+-- READ: tests Object, CallAlign, CallRange; the words come when they are given
+abbrev pub read_step : TaskSet → MachineState → ℕ → ℕ → Step MachineState
+read_step set s o at = if nat_lt o (length set.objects) then if_fits (misfit s at (object_at set o).size) (Reads s o) else Ends (Trap 10)
+
+-- WRITE: the same tests; the words at the address become the task's write
+abbrev pub write_step : TaskSet → MachineState → ℕ → ℕ → Step MachineState
+write_step set s o at =
+    if nat_lt o (length set.objects)
+    then if_fits (misfit s at (object_at set o).size) (Writes (past s) (record { object = o; words = words_at s.memory at (object_at set o).size }))
+    else Ends (Trap 10)
+
+-- SPAWN: tests Program; the ninth is stopped by the run
+abbrev pub spawn_step : TaskSet → MachineState → ℕ → ℕ → Step MachineState
+spawn_step set s program arg = if nat_lt program (length set.programs) then Spawns s (record { program = program; arg = arg }) else Ends (Trap 13)
+
+-- what a step of the machine is to its task
+abbrev pub served : TaskSet → StepResult → Step MachineState
+served set (Next s) = Went s
+served set (Traps s cause) = Ends (trap_of cause)
+served set (Calls s (service.Read o at)) = read_step set s o at
+served set (Calls s (service.Write o at)) = write_step set s o at
+served set (Calls s (service.Spawn program arg)) = spawn_step set s program arg
+served set (Calls s (service.Finish code)) = Ends (Exit code)
+
+-- after a READ: the object's words at the address, and past the ECALL
+abbrev pub given_words : MachineState → List ℕ → MachineState
+given_words s words = past (record s { memory = put_words s.memory (address_of s) words })
+
+-- after a SPAWN: its index in a0, and past the ECALL
+abbrev pub given_index : MachineState → ℕ → MachineState
+given_index s index = past (with_register s 10 index)
+
+-- the machine of a set's tasks, of which the kernel's model speaks
+abbrev pub task_steps : TaskSet → Steps MachineState
+task_steps set = record {
+  load = λ p arg. first_state (program_at set p).code arg (program_at set p).fuel set.memory;
+  step = λ s. served set (step_of s);
+  given = given_words;
+  spawned = given_index;
+  left = λ s. s.fuel - s.count;
+}

@@ -1,0 +1,24 @@
+//! The machine of a task set is one that the kernel's model speaks of.
+
+ghost use Rattle.kernel_model.specs.Fit.{IsSetUp, IsMachine};
+ghost use Rattle.set_model.specs.Sets.{TaskSet};
+ghost use Rattle.set_model.specs.Limits.{IsTaskSet};
+ghost use Rattle.set_model.specs.Numbers.{sizes_of};
+ghost use Rattle.set_model.specs.Formatted.{formatted};
+ghost use Rattle.task_model.specs.TaskSteps.{task_steps};
+
+use set_model::laws::{formatted_state_is_fit, numbers_are_fit};
+
+/// Each step of a task uses up fuel, and its services name objects and programs of the set.
+pub fn tasks_are_a_machine()
+    ensures { (set : TaskSet) → IsMachine (task_steps set) (sizes_of set) }
+{}
+
+/// So all laws of the kernel's model hold of the tasks of a set within the limits.
+pub fn task_set_is_set_up()
+    ensures { (set : TaskSet) → IsTaskSet set → IsSetUp (task_steps set) (sizes_of set) (formatted set) }
+{
+    tasks_are_a_machine();
+    numbers_are_fit();
+    formatted_state_is_fit();
+}
