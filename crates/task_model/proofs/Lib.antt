@@ -1,2 +1,2 @@
-pub mod Fuel
+pub mod StepFacts
 pub mod MachineFacts

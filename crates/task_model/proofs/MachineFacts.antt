@@ -15,8 +15,8 @@ use Rattle.set_model.specs.Limits.{IsTaskSet}
 use Rattle.set_model.specs.Numbers.{sizes_of}
 use Rattle.set_model.specs.Formatted.{formatted}
 use Rattle.set_model.specs.Views.{trap_of}
-use Rattle.task_model.specs.TaskSteps.{given_index, given_words, if_fits, past, served, task_steps}
-use Rattle.task_model.proofs.Fuel.{Counts, IsCounted, step_counts}
+use Rattle.task_model.specs.TaskSteps.{given_index, given_words, past, refusal, served, task_steps, unless}
+use Rattle.task_model.proofs.StepFacts.{Counts, IsCounted, step_counts}
 
 cause_is_outcome : (cause : TrapCause) → IsOutcome (trap_of cause)
 cause_is_outcome Illegal = (omega arith, omega arith)
@@ -51,31 +51,28 @@ IsFit set m (run.Ends outcome) = IsOutcome outcome
 falls : (m n : MachineState) → IsCounted m n → n.fuel - n.count < m.fuel - m.count
 falls m n h = omega (arith, h.had, h.count, h.fuel)
 
-unless_misfit : (set : TaskSet) (m : MachineState) (fault : Option TrapCause) (step : run.Step MachineState) → IsFit set m step → IsFit set m (if_fits fault step)
-unless_misfit set m None step h = h
-unless_misfit set m (Some cause) step h = cause_is_outcome cause
+unless_refused : (set : TaskSet) (m s : MachineState) (o at : ℕ) (step : run.Step MachineState) → (o < length set.objects → IsFit set m step) → IsFit set m (unless (refusal set s o at) step)
+unless_refused set m s o at step h = by_test (nat_lt o (length set.objects)) refl
+  where
+    either : (failed : Option TrapCause) → IsFit set m step → IsFit set m (unless failed step)
+    either None k = k
+    either (Some failed) k = cause_is_outcome failed
+    by_test : (b : Bool) → nat_lt o (length set.objects) ≡ b → IsFit set m (unless (if b then misfit s at (object_at set o).size else Some Object) step)
+    by_test true e = either (misfit s at (object_at set o).size) (h (ltb-true o (length set.objects) e))
+    by_test false e = (omega arith, omega arith)
 
 served_is_fit : (set : TaskSet) (m : MachineState) (r : StepResult) → Counts m r → IsFit set m (served set r)
 served_is_fit set m (Next s) h = falls m s h
-served_is_fit set m (Traps s cause) h = cause_is_outcome cause
+served_is_fit set m (Traps s failed) h = cause_is_outcome failed
 served_is_fit set m (Calls s (service.Finish code)) h = tt
-served_is_fit set m (Calls s (service.Read o at)) h = by_test (nat_lt o (length set.objects)) refl
-  where
-    by_test : (b : Bool) → nat_lt o (length set.objects) ≡ b → IsFit set m (if b then if_fits (misfit s at (object_at set o).size) (run.Reads s o) else run.Ends (trap_of Object))
-    by_test true e = unless_misfit set m (misfit s at (object_at set o).size) (run.Reads s o) (ltb-true o (length set.objects) e, λ words. falls m s h)
-    by_test false e = (omega arith, omega arith)
-served_is_fit set m (Calls s (service.Write o at)) h = by_test (nat_lt o (length set.objects)) refl
-  where
-    by_test : (b : Bool) → nat_lt o (length set.objects) ≡ b
-        → IsFit set m (if b then if_fits (misfit s at (object_at set o).size) (run.Writes (past s) (record { object = o; words = words_at s.memory at (object_at set o).size })) else run.Ends (trap_of Object))
-    by_test true e =
-        unless_misfit set m (misfit s at (object_at set o).size) (run.Writes (past s) (record { object = o; words = words_at s.memory at (object_at set o).size }))
-        (falls m s h, record { object = ltb-true o (length set.objects) e; words = length-words_at s.memory at (object_at set o).size })
-    by_test false e = (omega arith, omega arith)
+served_is_fit set m (Calls s (service.Read o at)) h = unless_refused set m s o at (run.Reads s o) (λ l. (l, λ words. falls m s h.0))
+served_is_fit set m (Calls s (service.Write o at)) h =
+    unless_refused set m s o at (run.Writes (past s) (record { object = o; words = words_at s.memory at (object_at set o).size }))
+    (λ l. (falls m s h.0, record { object = l; words = length-words_at s.memory at (object_at set o).size }))
 served_is_fit set m (Calls s (service.Spawn program arg)) h = by_test (nat_lt program (length set.programs)) refl
   where
     by_test : (b : Bool) → nat_lt program (length set.programs) ≡ b → IsFit set m (if b then run.Spawns s (record { program = program; arg = arg }) else run.Ends (trap_of Program))
-    by_test true e = (ltb-true program (length set.programs) e, λ index. falls m s h)
+    by_test true e = (ltb-true program (length set.programs) e, λ index. falls m s h.0)
     by_test false e = (omega arith, omega arith)
 
 pub tasks_are_a_machine : (set : TaskSet) → IsMachine (task_steps set) (sizes_of set)

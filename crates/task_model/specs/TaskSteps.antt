@@ -3,9 +3,10 @@ use Rattle.std.specs.Prelude.{ℕ, ◌+◌, ◌-◌, nat_lt, List, length, Optio
 use Rattle.rv_core.specs.Bytes.{put_words}
 use Rattle.rv_core.specs.declared.services.Service.TheVariants as service
 use Rattle.nv_base.specs.declared.causes.TrapCause.{TrapCause}
+use Rattle.nv_base.specs.declared.causes.TrapCause.TheVariants as cause
 use Rattle.rv_core.specs.State.{MachineState, StepResult, Next, Calls, Traps}
 use Rattle.rv_core.specs.Machine.{step_of, first_state, misfit, words_at, register, with_register}
-use Rattle.kernel_model.specs.Effects.{Exit, Trap}
+use Rattle.kernel_model.specs.Effects.{Exit}
 use Rattle.kernel_model.specs.Runs.{Step, Steps, Went, Reads, Writes, Spawns, Ends}
 use Rattle.set_model.specs.Sets.{TaskSet, object_at, program_at}
 use Rattle.set_model.specs.Views.{trap_of}
@@ -18,30 +19,31 @@ address_of s = register s 11
 abbrev pub past : MachineState → MachineState
 past s = record s { pc = s.pc + 4 }
 
--- the service, unless the place for an object's words does not fit
-abbrev pub if_fits : Option TrapCause → Step MachineState → Step MachineState
-if_fits None step = step
-if_fits (Some cause) step = Ends (trap_of cause)
+-- the first test of a READ or a WRITE that fails: Object, CallAlign, CallRange
+abbrev pub refusal : TaskSet → MachineState → ℕ → ℕ → Option TrapCause
+refusal set s o at = if nat_lt o (length set.objects) then misfit s at (object_at set o).size else Some cause.Object
 
--- READ: tests Object, CallAlign, CallRange; the words come when they are given
+-- the service, unless a test fails
+abbrev pub unless : Option TrapCause → Step MachineState → Step MachineState
+unless None step = step
+unless (Some failed) step = Ends (trap_of failed)
+
+-- READ: the words come when they are given
 abbrev pub read_step : TaskSet → MachineState → ℕ → ℕ → Step MachineState
-read_step set s o at = if nat_lt o (length set.objects) then if_fits (misfit s at (object_at set o).size) (Reads s o) else Ends (Trap 10)
+read_step set s o at = unless (refusal set s o at) (Reads s o)
 
--- WRITE: the same tests; the words at the address become the task's write
+-- WRITE: the words at the address become the task's write
 abbrev pub write_step : TaskSet → MachineState → ℕ → ℕ → Step MachineState
-write_step set s o at =
-    if nat_lt o (length set.objects)
-    then if_fits (misfit s at (object_at set o).size) (Writes (past s) (record { object = o; words = words_at s.memory at (object_at set o).size }))
-    else Ends (Trap 10)
+write_step set s o at = unless (refusal set s o at) (Writes (past s) (record { object = o; words = words_at s.memory at (object_at set o).size }))
 
 -- SPAWN: tests Program; the ninth is stopped by the run
 abbrev pub spawn_step : TaskSet → MachineState → ℕ → ℕ → Step MachineState
-spawn_step set s program arg = if nat_lt program (length set.programs) then Spawns s (record { program = program; arg = arg }) else Ends (Trap 13)
+spawn_step set s program arg = if nat_lt program (length set.programs) then Spawns s (record { program = program; arg = arg }) else Ends (trap_of cause.Program)
 
 -- what a step of the machine is to its task
 abbrev pub served : TaskSet → StepResult → Step MachineState
 served set (Next s) = Went s
-served set (Traps s cause) = Ends (trap_of cause)
+served set (Traps s failed) = Ends (trap_of failed)
 served set (Calls s (service.Read o at)) = read_step set s o at
 served set (Calls s (service.Write o at)) = write_step set s o at
 served set (Calls s (service.Spawn program arg)) = spawn_step set s program arg

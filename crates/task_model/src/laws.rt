@@ -1,11 +1,15 @@
 //! The machine of a task set is one that the kernel's model speaks of.
 
+ghost use Rattle.std.specs.Prelude.{◌≡◌, ℕ};
+ghost use Rattle.rv_core.specs.State.{MachineState, Calls};
+ghost use Rattle.rv_core.specs.Machine.{step_of};
+ghost use Rattle.rv_core.specs.declared.services.Service.TheVariants.{Read};
 ghost use Rattle.kernel_model.specs.Fit.{IsSetUp, IsMachine};
 ghost use Rattle.set_model.specs.Sets.{TaskSet};
 ghost use Rattle.set_model.specs.Limits.{IsTaskSet};
 ghost use Rattle.set_model.specs.Numbers.{sizes_of};
 ghost use Rattle.set_model.specs.Formatted.{formatted};
-ghost use Rattle.task_model.specs.TaskSteps.{task_steps};
+ghost use Rattle.task_model.specs.TaskSteps.{address_of, task_steps};
 
 use set_model::laws::{formatted_state_is_fit, numbers_are_fit};
 
@@ -22,3 +26,8 @@ pub fn task_set_is_set_up()
     numbers_are_fit();
     formatted_state_is_fit();
 }
+
+/// A READ names the address that a1 holds, where its words are put when they are given.
+pub fn read_names_address()
+    ensures { (m s : MachineState) (o at : ℕ) → step_of m ≡ Calls s (Read o at) → at ≡ address_of s }
+{}
