@@ -39,7 +39,6 @@ pub length-words_at : (memory : List ℕ) (at n : ℕ) → length (words_at memo
 length-words_at memory at zero = refl
 length-words_at memory at (suc n) = ap suc (length-words_at memory (at + 4) n)
 
-
 -- what a machine owes of each step
 abbrev IsFit : TaskSet → MachineState → run.Step MachineState → Type 0
 IsFit set m (run.Went n) = n.fuel - n.count < m.fuel - m.count
@@ -57,6 +56,7 @@ unless_refused set m s o at step h = by_test (nat_lt o (length set.objects)) ref
     either : (failed : Option TrapCause) → IsFit set m step → IsFit set m (unless failed step)
     either None k = k
     either (Some failed) k = cause_is_outcome failed
+
     by_test : (b : Bool) → nat_lt o (length set.objects) ≡ b → IsFit set m (unless (if b then misfit s at (object_at set o).size else Some Object) step)
     by_test true e = either (misfit s at (object_at set o).size) (h (ltb-true o (length set.objects) e))
     by_test false e = (omega arith, omega arith)

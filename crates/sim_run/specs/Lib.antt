@@ -1,0 +1,3 @@
+pub mod Set
+pub mod Unbuilt
+pub mod Stands
