@@ -6,8 +6,10 @@ mod causes;
 mod lines;
 mod memory;
 mod names;
+mod sets;
 
 pub use causes::TrapCause;
 pub use lines::{Entry, Line, Outcome, Spawn, TaskRec};
 pub use memory::NoMemory;
 pub use names::{CoreId, ObjId, Point, ProgId, Seq, TaskId};
+pub use sets::Set64;
