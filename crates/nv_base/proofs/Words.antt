@@ -1,14 +1,14 @@
 -- A set of objects as one word.
-use Rattle.std.proofs.Common.{◌≡◌, ◌≢◌, ℕ, zero, suc, ◌+◌, ◌*◌, ◌/◌, ◌%◌, ◌^◌, ◌<◌, ◌≤◌, Bool, true, false, cond, eqb, eq-eqb, ne_eqb, ◌||◌, List, [], ◌∷◌, refl, sym, ap, subst, ◌∙◌, bit_or, ltb, arith, w64}
+use Rattle.std.proofs.Common.{◌≡◌, ◌≢◌, ℕ, zero, suc, ◌+◌, ◌*◌, ◌%◌, ◌^◌, ◌<◌, ◌≤◌, Bool, true, false, cond, eqb, eq-eqb, ne_eqb, ◌||◌, List, [], ◌∷◌, refl, sym, ap, subst, ◌∙◌, bit_or, ltb, arith, w64}
 use Rattle.std.specs.List.{AllByRecursion}
 use Rattle.std.specs.Int.{bit_at}
 use Rattle.std.proofs.lemmas.Bool.{eqb-true, eqb-false, ltb-true, ltb-false}
-use Rattle.std.proofs.lemmas.Nat.{or_lt, mod_below, pow_pos}
-use Rattle.std.proofs.lemmas.Nat.Bits.{bit_at-lt, bit_at_above, bit_at_set_other, bit_at_set_same}
+use Rattle.std.proofs.lemmas.Nat.{or_lt, mod_below}
+use Rattle.std.proofs.lemmas.Nat.Bits.{bit_at_above, bit_at_set_other, bit_at_set_same}
 use Rattle.object_sets.specs.ObjectSets.{is_among, with_object, AreBelow, IsIncreasing}
 use Rattle.object_sets.proofs.Insertion.{is_among-with_object, with_object-increasing}
-use Rattle.object_sets.proofs.Spelling.{among-all, below-among, same_objects}
-use Rattle.nv_base.specs.Bits.{objects_of, ones_from, word_of}
+use Rattle.object_sets.proofs.Spelling.{below-among, same_objects}
+use Rattle.nv_base.specs.Bits.{objects_of, ones_from}
 
 ones_from-above : (p n k w : ℕ) → p < k → AllByRecursion (λ x. p < x) (ones_from n k w)
 ones_from-above p zero k w l = tt

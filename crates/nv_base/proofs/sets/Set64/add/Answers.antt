@@ -1,4 +1,4 @@
-use Rattle.std.proofs.Common.{◌∙◌, ap, sym}
+use Rattle.std.proofs.Common.{◌∙◌, ap}
 use Rattle.object_sets.specs.ObjectSets.{with_object}
 use Rattle.nv_base.proofs.Words.{objects_of-below, objects_of-increasing, objects_of-set, set_below}
 use Rattle.nv_base.proofs.sets.Set64.add.Goals as goal
