@@ -21,3 +21,6 @@ pub use sets::Set64;
 pub use std_streams::{StdSink, StdSource};
 pub use streams::{Sink, SinkFailed, Source, SourceFailed};
 pub use whole::{ReadRefusal, WriteFault, put_all, read_all};
+
+#[cfg(test)]
+mod tests;
