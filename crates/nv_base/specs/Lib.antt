@@ -1,1 +1,4 @@
 pub mod Causes
+pub mod Bits
+pub mod WordBack
+pub mod Streams
