@@ -51,7 +51,8 @@ impl Machine {
     /// Takes room for so many bytes of memory, all zero, with no task.
     pub fn new(alloc: Global, bytes: u32) -> Result<Machine, NoMemory>
         requires { bytes ≤ 65536 }
-        ensures { IfOk result (λ m. m ≡ blank bytes) }
+        ensures exact { IfOk result (λ m. m ≡ blank bytes) }
+        ensures room { IfOk result (λ m. length m.memory ≡ bytes) }
     {
         let memory = vec![in alloc; 0u8; bytes as usize]?;
         Ok(Machine {
@@ -67,7 +68,9 @@ impl Machine {
     /// Begins a task: the code stands at 0 with zeros behind it, sp is the size of memory, a0 the argument.
     pub fn load(&mut self, code: &[u32], arg: u32, fuel: u32)
         requires { 4 * length code.now ≤ length self.old.memory }
-        ensures { self.new ≡ first_state code.now arg fuel (length self.old.memory) }
+        ensures exact { self.new ≡ first_state code.now arg fuel (length self.old.memory) }
+        ensures room { length self.new.memory ≡ length self.old.memory }
+        ensures limit { length self.new.memory ≤ 65536 }
     {
         load_code(self.memory.as_mut_slice(), self.used, code);
         self.used = 4 * code.len();
@@ -82,7 +85,9 @@ impl Machine {
     /// Goes past the call that the machine waits on, with a0 set where a value is given.
     pub fn resume(&mut self, a0: Option<u32>)
         requires { self.old.pc + 4 ≤ length self.old.memory }
-        ensures { resumed self.old a0 ≡ Next self.new }
+        ensures exact { resumed self.old a0 ≡ Next self.new }
+        ensures kept { Keeps self.old self.new }
+        ensures limit { length self.new.memory ≤ 65536 }
     {
         if let Some(value) = a0 {
             self.registers[10] = value;
@@ -130,6 +135,7 @@ impl Machine {
         ensures counted { self.old.count < self.old.fuel → self.new.count ≡ self.old.count + 1 }
         ensures fuel { self.new.fuel ≡ self.old.fuel }
         ensures room { length self.new.memory ≡ length self.old.memory }
+        ensures limit { length self.new.memory ≤ 65536 }
         ensures waits { IsCall result → self.new.pc + 4 ≤ length self.new.memory }
     {
         if self.count >= self.fuel {

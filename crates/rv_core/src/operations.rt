@@ -5,7 +5,7 @@ ghost use Rattle.rv_core.specs.Bytes.{IsZeroFrom};
 ghost use Rattle.rv_core.specs.Operations.{computed, with_immediate, is_taken, load_size, store_size, read_at, put_at};
 
 use crate::bytes::{half_in, put_half_in, put_word_in, word_in};
-use rv_isa::{BranchOp, ImmOp, LoadOp, RegOp, StoreOp, sign_extend};
+use rv_isa::{BranchOp, ImmOp, LoadOp, RegOp, StoreOp};
 
 pub fn size_of_load(op: LoadOp) -> u32
     ensures size { result ≡ load_size op }
@@ -34,8 +34,8 @@ pub fn read_in(op: LoadOp, memory: &[u8], at: usize) -> u32
     ensures { result ≡ read_at op memory.now at }
 {
     match op {
-        LoadOp::Lb => sign_extend(memory[at] as u32, 8).cast_unsigned(),
-        LoadOp::Lh => sign_extend(half_in(memory, at), 16).cast_unsigned(),
+        LoadOp::Lb => (memory[at].cast_signed() as i32).cast_unsigned(),
+        LoadOp::Lh => ((half_in(memory, at) << 16).cast_signed() >> 16).cast_unsigned(),
         LoadOp::Lw => word_in(memory, at),
         LoadOp::Lbu => memory[at] as u32,
         LoadOp::Lhu => half_in(memory, at),
