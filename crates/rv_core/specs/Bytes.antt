@@ -1,6 +1,6 @@
 -- Words in a memory of bytes, the low byte first (the RISC-V unprivileged ISA manual, section 1.4 "Memory":
 -- little-endian).
-use Rattle.std.specs.Prelude.{ℕ, zero, suc, ◌+◌, ◌*◌, ◌/◌, ◌%◌, ◌^◌, List, [], ◌∷◌, slice_index, slice_set}
+use Rattle.std.specs.Prelude.{◌≡◌, ◌≤◌, ℕ, zero, suc, ◌+◌, ◌*◌, ◌/◌, ◌%◌, ◌^◌, List, [], ◌∷◌, slice_index, slice_set}
 
 -- the half word and the word at an address
 abbrev pub half_at : List ℕ → ℕ → ℕ
@@ -30,3 +30,7 @@ put_words memory at (word ∷ words) = put_words (put_word memory at word) (at +
 -- the bytes of a word
 abbrev pub bytes_of : ℕ → List ℕ
 bytes_of word = word % 2 ^ 8 ∷ word / 2 ^ 8 % 2 ^ 8 ∷ word / 2 ^ 16 % 2 ^ 8 ∷ word / 2 ^ 24 ∷ []
+
+-- all bytes from an address on are zero
+abbrev pub IsZeroFrom : ℕ → List ℕ → Type 0
+IsZeroFrom used memory = (k : ℕ) → used ≤ k → slice_index memory k ≡ 0

@@ -1,7 +1,7 @@
 // Words in a memory of bytes, the low byte first.
 
-ghost use Rattle.std.specs.Prelude.{◌≡◌, ◌+◌, ◌*◌, ◌^◌, ◌<◌, ◌≤◌, length};
-ghost use Rattle.rv_core.specs.Bytes.{word_at, half_at, put_half, put_word, words_at};
+ghost use Rattle.std.specs.Prelude.{◌≡◌, ◌+◌, ◌*◌, ◌^◌, ◌<◌, ◌≤◌, length, replicate};
+ghost use Rattle.rv_core.specs.Bytes.{word_at, half_at, put_half, put_word, words_at, IsZeroFrom};
 ghost use Rattle.rv_core.specs.Task.{loaded};
 
 pub fn half_in(memory: &[u8], at: usize) -> u32
@@ -39,11 +39,23 @@ pub fn put_word_in(memory: &mut [u8], at: usize, word: u32)
     memory[at + 3] = (word / 16777216) as u8;
 }
 
-pub fn load_code(memory: &mut [u8], code: &[u32])
-    requires { 4 * length code.now ≤ length memory.old }
-    ensures { memory.new ≡ loaded code.now (length memory.old) }
+fn clear(memory: &mut [u8], used: usize)
+    requires inside { used ≤ length memory.old }
+    requires zeros { IsZeroFrom used memory.old }
+    ensures { memory.new ≡ replicate (length memory.old) 0 }
 {
-    memory.fill(0);
+    memory[..used].fill(0);
+}
+
+// The bytes from `used` on are zero already, so that they need not be touched.
+pub fn load_code(memory: &mut [u8], used: usize, code: &[u32])
+    requires fits { 4 * length code.now ≤ length memory.old }
+    requires inside { used ≤ length memory.old }
+    requires zeros { IsZeroFrom used memory.old }
+    ensures exact { memory.new ≡ loaded code.now (length memory.old) }
+    ensures zeros { IsZeroFrom (4 * length code.now) memory.new }
+{
+    clear(memory, used);
     let mut at = 0;
     for word in code {
         put_word_in(memory, at, *word);

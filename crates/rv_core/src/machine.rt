@@ -5,12 +5,12 @@ ghost use Rattle.std.specs.Result.{result_err};
 ghost use Rattle.rv_isa.specs.Ranges.{IsInstr};
 ghost use Rattle.rv_core.specs.Bytes.{put_word, words_at};
 ghost use Rattle.rv_core.specs.State.{Next};
-ghost use Rattle.rv_core.specs.Operations.{register, with_register, sum_of, place_of};
+ghost use Rattle.rv_core.specs.Operations.{register, with_register, sum_of, store_size, put_at};
 ghost use Rattle.rv_core.specs.Execution.{goes_on, jumps, branches, loads, stores, calls, executed};
 ghost use Rattle.rv_core.specs.Stepping.{step_of, answer, IsCall, Keeps};
 ghost use Rattle.rv_core.specs.Task.{blank, first_state, resumed, misfit, IsPlace};
 
-use crate::bytes::{load_code, put_word_in, word_in, words_out};
+use crate::bytes::{load_code, word_in, words_out};
 use crate::operations::{
     by_register, compute, put_in, read_in, size_of_load, size_of_store, taken,
 };
@@ -27,6 +27,9 @@ pub struct Machine {
     registers: [u32; 32],
     pc: u32,
     memory: Vec<u8>,
+
+    // no byte at or above this was written, so that a task begins without touching them
+    used: usize,
     count: u32,
     fuel: u32,
 }
@@ -39,20 +42,24 @@ impl Model for Machine {
 
     ghost view = { λ m. record { registers = m.registers; pc = m.pc; memory = m.memory.items; count = m.count; fuel = m.fuel } };
 
-    ghost invariant = { λ m. (length m.memory.items ≤ 65536) × (slice_index m.registers 0 ≡ 0) };
+    ghost use Rattle.rv_core.specs.Bytes.{IsZeroFrom};
+
+    ghost invariant = { λ m. (length m.memory.items ≤ 65536) × (slice_index m.registers 0 ≡ 0) × (m.used ≤ length m.memory.items) × IsZeroFrom m.used m.memory.items };
 }
 
 impl Machine {
     /// Takes room for so many bytes of memory, all zero, with no task.
     pub fn new(alloc: Global, bytes: u32) -> Result<Machine, NoMemory>
         requires { bytes ≤ 65536 }
-        ensures { IfOk result (λ m. m ≡ blank bytes) }
+        ensures exact { IfOk result (λ m. m ≡ blank bytes) }
+        ensures room { IfOk result (λ m. length m.memory ≡ bytes) }
     {
         let memory = vec![in alloc; 0u8; bytes as usize]?;
         Ok(Machine {
             registers: [0; 32],
             pc: 0,
             memory,
+            used: 0,
             count: 0,
             fuel: 0,
         })
@@ -61,9 +68,12 @@ impl Machine {
     /// Begins a task: the code stands at 0 with zeros behind it, sp is the size of memory, a0 the argument.
     pub fn load(&mut self, code: &[u32], arg: u32, fuel: u32)
         requires { 4 * length code.now ≤ length self.old.memory }
-        ensures { self.new ≡ first_state code.now arg fuel (length self.old.memory) }
+        ensures exact { self.new ≡ first_state code.now arg fuel (length self.old.memory) }
+        ensures room { length self.new.memory ≡ length self.old.memory }
+        ensures limit { length self.new.memory ≤ 65536 }
     {
-        load_code(self.memory.as_mut_slice(), code);
+        load_code(self.memory.as_mut_slice(), self.used, code);
+        self.used = 4 * code.len();
         self.registers = [0; 32];
         self.registers[2] = self.memory.len() as u32;
         self.registers[10] = arg;
@@ -75,7 +85,9 @@ impl Machine {
     /// Goes past the call that the machine waits on, with a0 set where a value is given.
     pub fn resume(&mut self, a0: Option<u32>)
         requires { self.old.pc + 4 ≤ length self.old.memory }
-        ensures { resumed self.old a0 ≡ Next self.new }
+        ensures exact { resumed self.old a0 ≡ Next self.new }
+        ensures kept { Keeps self.old self.new }
+        ensures limit { length self.new.memory ≤ 65536 }
     {
         if let Some(value) = a0 {
             self.registers[10] = value;
@@ -105,7 +117,7 @@ impl Machine {
         ensures room { length self.new.memory ≡ length self.old.memory }
         ensures limit { length self.new.memory ≤ 65536 }
     {
-        put_word_in(self.memory.as_mut_slice(), at as usize, word);
+        self.put(StoreOp::Sw, at as usize, word);
     }
 
     /// Copies the words at an address out of memory.
@@ -123,6 +135,7 @@ impl Machine {
         ensures counted { self.old.count < self.old.fuel → self.new.count ≡ self.old.count + 1 }
         ensures fuel { self.new.fuel ≡ self.old.fuel }
         ensures room { length self.new.memory ≡ length self.old.memory }
+        ensures limit { length self.new.memory ≤ 65536 }
         ensures waits { IsCall result → self.new.pc + 4 ≤ length self.new.memory }
     {
         if self.count >= self.fuel {
@@ -305,8 +318,18 @@ impl Machine {
         if at + size as usize > self.memory.len() {
             return Step::Trap(TrapCause::Store);
         }
-        put_in(op, self.memory.as_mut_slice(), at, word);
+        self.put(op, at, word);
         self.go_on()
+    }
+
+    fn put(&mut self, op: StoreOp, at: usize, word: u32)
+        requires { at + store_size op ≤ length self.old.memory }
+        ensures exact { self.new ≡ record self.old { memory = put_at op self.old.memory at word } }
+        ensures limit { length self.new.memory ≤ 65536 }
+        ensures kept { Keeps self.old self.new }
+    {
+        put_in(op, self.memory.as_mut_slice(), at, word);
+        self.used = self.used.max(at + size_of_store(op) as usize);
     }
 
     fn service(&self) -> Step

@@ -1,10 +1,11 @@
 // What each operation computes.
 
-ghost use Rattle.std.specs.Prelude.{◌≡◌, ◌+◌, ◌^◌, ◌<◌, ◌≤◌, length};
+ghost use Rattle.std.specs.Prelude.{◌≡◌, ◌+◌, ◌^◌, ◌<◌, ◌≤◌, ℕ, length, max};
+ghost use Rattle.rv_core.specs.Bytes.{IsZeroFrom};
 ghost use Rattle.rv_core.specs.Operations.{computed, with_immediate, is_taken, load_size, store_size, read_at, put_at};
 
 use crate::bytes::{half_in, put_half_in, put_word_in, word_in};
-use rv_isa::{BranchOp, ImmOp, LoadOp, RegOp, StoreOp, sign_extend};
+use rv_isa::{BranchOp, ImmOp, LoadOp, RegOp, StoreOp};
 
 pub fn size_of_load(op: LoadOp) -> u32
     ensures size { result ≡ load_size op }
@@ -33,8 +34,8 @@ pub fn read_in(op: LoadOp, memory: &[u8], at: usize) -> u32
     ensures { result ≡ read_at op memory.now at }
 {
     match op {
-        LoadOp::Lb => sign_extend(memory[at] as u32, 8).cast_unsigned(),
-        LoadOp::Lh => sign_extend(half_in(memory, at), 16).cast_unsigned(),
+        LoadOp::Lb => (memory[at].cast_signed() as i32).cast_unsigned(),
+        LoadOp::Lh => ((half_in(memory, at) << 16).cast_signed() >> 16).cast_unsigned(),
         LoadOp::Lw => word_in(memory, at),
         LoadOp::Lbu => memory[at] as u32,
         LoadOp::Lhu => half_in(memory, at),
@@ -43,7 +44,8 @@ pub fn read_in(op: LoadOp, memory: &[u8], at: usize) -> u32
 
 pub fn put_in(op: StoreOp, memory: &mut [u8], at: usize, word: u32)
     requires { at + store_size op ≤ length memory.old }
-    ensures { memory.new ≡ put_at op memory.old at word }
+    ensures exact { memory.new ≡ put_at op memory.old at word }
+    ensures zeros { (used : ℕ) → IsZeroFrom used memory.old → IsZeroFrom (max used (at + store_size op)) memory.new }
 {
     match op {
         StoreOp::Sb => memory[at] = (word % 256) as u8,

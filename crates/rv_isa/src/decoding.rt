@@ -3,35 +3,33 @@ ghost use Rattle.rv_isa.specs.Formats.{opcode, funct3, i_immediate, s_immediate,
 ghost use Rattle.rv_isa.specs.Ranges.{IsInstr};
 ghost use Rattle.rv_isa.specs.Table.{instruction_of, HasNoRow};
 
-use crate::fields::{field, register, sign_extend};
+use crate::fields::{field, register};
 use crate::instruction::{BranchOp, ImmOp, Instr, LoadOp, RegOp, StoreOp};
 
 fn i_offset(word: u32) -> i32
     ensures { result ≡ i_immediate word }
 {
-    sign_extend(field(word, 20, 12), 12)
+    word.cast_signed() >> 20
 }
 
 fn s_offset(word: u32) -> i32
     ensures { result ≡ s_immediate word }
 {
-    sign_extend((field(word, 25, 7) << 5) + field(word, 7, 5), 12)
+    (word.cast_signed() >> 25) * 32 + field(word, 7, 5) as i32
 }
 
 fn b_offset(word: u32) -> i32
     ensures { result ≡ b_immediate word }
 {
-    let high = (field(word, 31, 1) << 12) + (field(word, 7, 1) << 11);
-    let low = (field(word, 25, 6) << 5) + (field(word, 8, 4) << 1);
-    sign_extend(high + low, 13)
+    let low = (field(word, 7, 1) << 11) + (field(word, 25, 6) << 5) + (field(word, 8, 4) << 1);
+    (word.cast_signed() >> 31) * 4096 + low as i32
 }
 
 fn j_offset(word: u32) -> i32
     ensures { result ≡ j_immediate word }
 {
-    let high = (field(word, 31, 1) << 20) + (field(word, 12, 8) << 12);
-    let low = (field(word, 20, 1) << 11) + (field(word, 21, 10) << 1);
-    sign_extend(high + low, 21)
+    let low = (field(word, 12, 8) << 12) + (field(word, 20, 1) << 11) + (field(word, 21, 10) << 1);
+    (word.cast_signed() >> 31) * 1048576 + low as i32
 }
 
 #[tactic(auto, unfolding(crate::specs::Table::instruction_of))]

@@ -1,5 +1,5 @@
 ghost use Rattle.std.specs.Prelude.{◌≡◌, ◌+◌, ◌-◌, ◌*◌, ◌^◌, ◌<◌, ◌≤◌};
-ghost use Rattle.rv_isa.specs.Fields.{bits, signed, unsigned, IsSigned};
+ghost use Rattle.rv_isa.specs.Fields.{bits, unsigned, IsSigned};
 
 use crate::instruction::Reg;
 
@@ -18,20 +18,6 @@ pub fn register(word: u32, low: u32) -> Reg
     ensures { result.0 ≡ bits low 5 word }
 {
     Reg(field(word, low, 5) as u8)
-}
-
-/// The number of `width` bits, read as signed.
-pub fn sign_extend(number: u32, width: u32) -> i32
-    requires low { 0 < width }
-    requires high { width < 32 }
-    requires fits { number < 2 ^ width }
-    ensures { result ≡ signed width number }
-{
-    if number < 1 << (width - 1) {
-        number as i32
-    } else {
-        !(((1 << width) - 1 - number) as i32)
-    }
 }
 
 /// The low `width` bits of a number in two's complement.

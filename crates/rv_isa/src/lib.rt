@@ -8,5 +8,4 @@ mod instruction;
 
 pub use decoding::decode;
 pub use encoding::encode;
-pub use fields::sign_extend;
 pub use instruction::{BranchOp, ImmOp, Instr, LoadOp, Reg, RegOp, StoreOp};
