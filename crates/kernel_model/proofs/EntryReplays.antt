@@ -143,8 +143,8 @@ item_on-found whole t e i h = go (t.tasks e.task) refl h
 replay_of : (whole : Programs) (t : Tables) (rs : List Rerun) → Replays whole t (map (λ r. r.item) rs) → replayed_on whole t (map place_of rs) ≡ Good rs
 replay_of whole t [] h = refl
 replay_of whole t (r ∷ rs) h =
-    stepped whole t (place_of r) (map place_of rs) (Some r.item) (item_on-run whole t r.item h.0 h.1 h.2)
-    ∙ ap (rerun_before r) (replay_of whole (after r.item t) rs h.3)
+    stepped whole t (place_of r) (map place_of rs) (Some r.item) (item_on-run whole t r.item h.0.0 h.0.1 h.0.2)
+    ∙ ap (rerun_before r) (replay_of whole (after r.item t) rs h.1)
 
 -- and a good replay is one of finishes
 of_replay : (whole : Programs) (t : Tables) (ps : List Place) (rs : List Rerun) → replayed_on whole t ps ≡ Good rs → (map place_of rs ≡ ps) × Replays whole t (map (λ r. r.item) rs)
@@ -160,7 +160,7 @@ of_replay whole t (p ∷ ps) rs h = go (item_on whole t p.entry) refl (λ i. of_
     on i f (Good xs) rest g =
         let k = rest xs refl in
         let e : (let r : Rerun = record { place = p.place; item = i } in r) ∷ xs ≡ rs = cc g in
-        subst IsOf e (ap₂ (λ (x : Entry) (zs : List Place). (let z : Place = record { place = p.place; entry = x } in z) ∷ zs) f.entry k.0, (f.task, f.is_open, f.run, k.1))
+        subst IsOf e (ap₂ (λ (x : Entry) (zs : List Place). (let z : Place = record { place = p.place; entry = x } in z) ∷ zs) f.entry k.0, ((f.task, f.is_open, f.run), k.1))
 
     go : (o : Option Item) → item_on whole t p.entry ≡ o → ((i : Item) (xs : List Rerun) → replayed_on whole (after i t) ps ≡ Good xs → (map place_of xs ≡ ps) × Replays whole (after i t) (map (λ r. r.item) xs)) → IsOf rs
     go None e rest = absurd (let k = sym (stepped whole t p ps None e) ∙ h in cc k)

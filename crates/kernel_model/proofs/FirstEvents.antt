@@ -4,6 +4,7 @@ use Rattle.std.proofs.Math.Seq.{take-suc}
 use Rattle.std.proofs.lemmas.Bool.{cases_lt}
 use Rattle.std.proofs.lemmas.List.{take-append-drop}
 use Rattle.std.proofs.lemmas.Option.{get_or_from_slice_get, slice_get_within}
+use Rattle.std.specs.Option.{option_to_list}
 use Rattle.kernel_model.specs.Runs.{Steps}
 use Rattle.kernel_model.specs.Items.{Entry, Item, listing}
 use Rattle.kernel_model.specs.Replay.{Base}
@@ -11,13 +12,13 @@ use Rattle.kernel_model.specs.Sizes.{Sizes}
 use Rattle.kernel_model.specs.Turns.{Line, Start}
 use Rattle.kernel_model.specs.Events.{Event, State, with_finish, lines_of, next, state_after}
 use Rattle.kernel_model.specs.Durable.{event_writes, flipped_by, listed, writes_after}
-use Rattle.kernel_model.specs.Report.{IsFresh, entry_or_none, found_lines, told, unprinted}
+use Rattle.kernel_model.specs.Report.{IsFresh, found_lines, told, unprinted}
 use Rattle.kernel_model.specs.Fit.{HasIds, IsSetUp}
 use Rattle.kernel_model.specs.Execution.{Execution, start_of, state_at, writes_at}
 use Rattle.kernel_model.specs.Sound.{IsSound}
 use Rattle.kernel_model.proofs.DurableLaws.{listed_step, one_write}
-use Rattle.kernel_model.proofs.Reached.{history-bound, lines_of-append, run_fresh, state_after-append, writes_after-append}
-use Rattle.kernel_model.proofs.ReportLaws.{report_told, told-append, told-found}
+use Rattle.kernel_model.proofs.Reached.{history-bound, lines_of-append, run_ids, state_after-append, writes_after-append}
+use Rattle.kernel_model.proofs.ReportLaws.{report_told, start_fresh, told-append, told-found}
 use Rattle.kernel_model.proofs.StepLaws.{history-step, next_sound, run_sound, sound-ids}
 
 -- the first n + 1 of a list
@@ -127,9 +128,9 @@ module _ {M : Type 0} (x : Execution M) where
       ids : HasIds x.base (length (state_at x m).history + length rest)
       ids = omega (arith, x.ids, length-take n x.events, ap length split, length-append (take m x.events) rest, history-bound {M = M} x.steps x.sizes x.base (take m x.events) (start_of x))
 
-  pub first_told : (n : ℕ) → told (take n (lines_of x.steps x.sizes x.base (start_of x) x.events)) ++ entry_or_none (unprinted (state_at x n)) ≡ listing (listed (state_at x n))
+  pub first_told : (n : ℕ) → told (take n (lines_of x.steps x.sizes x.base (start_of x) x.events)) ++ option_to_list (unprinted (state_at x n)) ≡ listing (listed (state_at x n))
   first_told n =
-      ap (λ (l : List Line). told l ++ entry_or_none (unprinted (state_at x n))) (sym (lines_first x.steps x.sizes x.base (start_of x) x.events n))
+      ap (λ (l : List Line). told l ++ option_to_list (unprinted (state_at x n))) (sym (lines_first x.steps x.sizes x.base (start_of x) x.events n))
       ∙ sym (told-append (lines_of x.steps x.sizes x.base (start_of x) (take n x.events)) (found_lines (unprinted (state_at x n)))
       ∙ ap (λ (l : List Entry). told (lines_of x.steps x.sizes x.base (start_of x) (take n x.events)) ++ l) (told-found (unprinted (state_at x n))))
       ∙ report_told x.steps x.sizes x.base x.set_up (take n x.events) (ids_of_first n) x.cores x.power x.boots
@@ -137,4 +138,4 @@ module _ {M : Type 0} (x : Execution M) where
   pub fresh_at : (n core task at : ℕ) → slice_get (lines_of x.steps x.sizes x.base (start_of x) x.events) n ≡ Some (Start core task at) → IsFresh x.base (state_at x n) task
   fresh_at n core task at h =
       let e = line_event x.steps x.sizes x.base (start_of x) x.events n (Start core task at) h in
-      run_fresh x.steps x.sizes x.base x.set_up (take n x.events) (ids_of_first n) x.cores x.power x.boots e.0 core task at e.2
+      start_fresh x.steps x.sizes x.base x.set_up (state_at x n) (run_sound x.steps x.sizes x.base x.set_up (take n x.events) (ids_of_first n) x.cores x.power x.boots) (run_ids x.steps x.sizes x.base x.set_up (take n x.events) (ids_of_first n) x.cores x.power x.boots) e.0 core task at e.2

@@ -1,6 +1,7 @@
 //! The first events of a run, and one more.
 
 ghost use Rattle.std.specs.Prelude.{ℕ, ◌≡◌, ◌≤◌, ◌+◌, ◌++◌, ◌∷◌, [], ◌⊎◌, List, Option, length, take, slice_get};
+ghost use Rattle.std.specs.Option.{option_to_list};
 ghost use Rattle.kernel_model.specs.Runs.{Steps};
 ghost use Rattle.kernel_model.specs.Items.{Item, listing};
 ghost use Rattle.kernel_model.specs.Replay.{Base};
@@ -8,7 +9,7 @@ ghost use Rattle.kernel_model.specs.Sizes.{Sizes};
 ghost use Rattle.kernel_model.specs.Turns.{Line};
 ghost use Rattle.kernel_model.specs.Events.{Event, State, lines_of, next, state_after};
 ghost use Rattle.kernel_model.specs.Durable.{event_writes, listed, writes_after};
-ghost use Rattle.kernel_model.specs.Report.{IsFresh, entry_or_none, told, unprinted};
+ghost use Rattle.kernel_model.specs.Report.{IsFresh, told, unprinted};
 ghost use Rattle.kernel_model.specs.Execution.{Execution, start_of, state_at, writes_at};
 
 /// One event more leads to the next state, and adds its line and its writes.
@@ -52,7 +53,7 @@ pub fn listing_only_grows<M>()
 
 /// The finishes that the first lines tell are listed then, in the same order, and at most the last one listed is not told.
 pub fn first_lines_tell_listing<M>()
-    ensures { (x : Execution M) (n : ℕ) → told (take n (lines_of x.steps x.sizes x.base (start_of x) x.events)) ++ entry_or_none (unprinted (state_at x n)) ≡ listing (listed (state_at x n)) }
+    ensures { (x : Execution M) (n : ℕ) → told (take n (lines_of x.steps x.sizes x.base (start_of x) x.events)) ++ option_to_list (unprinted (state_at x n)) ≡ listing (listed (state_at x n)) }
 {}
 
 /// A start line's task is open at its event, and has no entry that is durable then.

@@ -1,4 +1,4 @@
--- Sets of objects, as increasing lists of their numbers: this project's own.
+-- Sets of objects, kept as increasing lists of their numbers: this project's own.
 use Rattle.std.specs.Prelude.{ℕ, ◌<◌, ◌==◌, nat_lt, Bool, false, ◌||◌, List, [], ◌∷◌, if◌then◌else◌}
 use Rattle.std.specs.List.{AllByRecursion}
 
@@ -16,7 +16,11 @@ inserted o (x ∷ xs) = if nat_lt o x then o ∷ x ∷ xs else x ∷ inserted o 
 abbrev pub with_object : ℕ → List ℕ → List ℕ
 with_object o xs = if is_among o xs then xs else inserted o xs
 
--- an increasing list
+-- an increasing list: each number is below all that follow it
 abbrev pub IsIncreasing : List ℕ → Type 0
 IsIncreasing [] = Unit {0}
 IsIncreasing (x ∷ xs) = AllByRecursion (λ y. x < y) xs × IsIncreasing xs
+
+-- all objects are below a number
+abbrev pub AreBelow : ℕ → List ℕ → Type 0
+AreBelow n xs = AllByRecursion (λ x. x < n) xs

@@ -1,0 +1,7 @@
+use Rattle.kernel_model.specs.Runs.{whole_run}
+use Rattle.kernel_model.proofs.DurableLaws.{history_serial}
+use Rattle.kernel_model.proofs.StepLaws.{listed_history}
+use Rattle.kernel_model.proofs.machine.sound_listing_is_serial.Goals as goal
+
+pub returns : goal.returns
+returns g c = λ steps sizes base s set_up h l. history_serial (whole_run steps) base set_up.based.old set_up.based.in_order _ (listed_history steps sizes base s.history h.history h.records s.cores h.cores).0 l
