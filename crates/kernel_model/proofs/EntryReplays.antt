@@ -480,3 +480,6 @@ one_history whole base entries f g s t =
         let e : Good (reruns_of s.history) ≡ Good (reruns_of t.history) =
             sym (replayed_history whole base s.history s.replays) ∙ ap (replay whole base) (s.entries_are ∙ sym t.entries_are) ∙ replayed_history whole base t.history t.replays
         in cc e
+
+pub none_serial : (whole : Programs) (base : Base) (entries : List Entry) (place : ℕ) (f : Base) → replay whole base entries ≡ Wrong place → Serial whole base entries f → ⊥
+none_serial whole base entries place f h s = let k : Wrong place ≡ Good (serial_are whole base entries f s).reruns = sym h ∙ (serial_are whole base entries f s).good in cc k

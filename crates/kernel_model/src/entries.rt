@@ -43,6 +43,11 @@ pub fn serial_entries_are_replayed()
     ensures { (whole : Programs) (base : Base) (entries : List Entry) (f : Base) → Serial whole base entries f → AreSerial whole base entries f }
 {}
 
+/// A listing with a wrong place is serial with no state.
+pub fn wrong_entries_are_not_serial()
+    ensures { (whole : Programs) (base : Base) (entries : List Entry) (place : ℕ) (f : Base) → replay whole base entries ≡ Replayed.Wrong place → Serial whole base entries f → ⊥ }
+{}
+
 /// Serial entries have one history.
 pub fn entries_have_one_history()
     ensures { (whole : Programs) (base : Base) (entries : List Entry) (f g : Base) (s : Serial whole base entries f) (t : Serial whole base entries g) → s.history ≡ t.history }
