@@ -28,7 +28,7 @@ row_6_objects : objects_in (replay_6 (entry 1 2 1 (Exit 0) 3 ∷ entry 2 1 0 (Ex
 row_6_objects = refl
 
 -- with their points exchanged the copy comes last
-row_6_exchanged : objects_in (replay_6 (entry 1 2 0 (Exit 0) 3 ∷ entry 2 1 1 (Exit 1) 3 ∷ [])) ≡ (9 ∷ []) ∷ (9 ∷ []) ∷ []
+row_6_exchanged : objects_in (replay_6 (entry 1 2 0 (Exit 0) 3 ∷ entry 2 1 1 (Exit 1) 3 ∷ [])) ≡ (9 ∷ []) ∷ (10 ∷ []) ∷ []
 row_6_exchanged = refl
 
 -- another outcome, of the entry that comes last
