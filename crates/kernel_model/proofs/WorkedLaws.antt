@@ -1,13 +1,13 @@
 -- The tasks of the worked runs owe what a machine owes, and the runs have the premises of the laws.
-use Rattle.std.proofs.Common.{◌≡◌, ℕ, zero, suc, ◌+◌, ◌<◌, Bool, true, false, cond, ltb, List, [], ◌∷◌, refl, ap, subst, replicate, length, arith}
+use Rattle.std.proofs.Common.{◌≡◌, ℕ, zero, suc, ◌<◌, Bool, true, false, cond, ltb, List, [], ◌∷◌, refl, ap, subst, replicate, length, arith}
 use Rattle.std.proofs.lemmas.List.{length-replicate}
 use Rattle.std.proofs.lemmas.Bool.{ltb-true}
 use Rattle.kernel_model.specs.Sizes.{Sizes}
-use Rattle.kernel_model.specs.Effects.{Outcome, Exit, Trap, Spawn, words_of}
+use Rattle.kernel_model.specs.Effects.{Trap, words_of}
 use Rattle.kernel_model.specs.Runs.{Step, Went, Reads, Writes, Spawns, Ends}
 use Rattle.kernel_model.specs.Fit.{IsMachine, IsOutcome, IsWrite, IsSetUp}
 use Rattle.kernel_model.specs.WorkedTasks.{Op, Work, Add, Take, Put, Fork, Stop, StopSum, Spent, Task, machine_of, step_of, toy, with_first}
-use Rattle.kernel_model.specs.WorkedRuns.{adding, copy_and_put, resumed_later, two_objects}
+use Rattle.kernel_model.specs.WorkedRuns.{adding, copy_and_put, resumed_later}
 
 words-size : (n k : ℕ) → length (with_first n (replicate k 0)) ≡ k
 words-size n zero = refl

@@ -2,11 +2,11 @@
 use Rattle.std.specs.Prelude.{◌≡◌, ℕ, ◌+◌, ◌*◌, List, [], ◌∷◌, ◌++◌, get_or, Some, None}
 use Rattle.kernel_model.specs.Sizes.{Sizes}
 use Rattle.kernel_model.specs.Effects.{Exit, Trap, Spawn}
-use Rattle.kernel_model.specs.Runs.{fuel_cause, spawns_cause}
-use Rattle.kernel_model.specs.Replay.{Base, TaskRec, max_id, with_children}
+use Rattle.kernel_model.specs.Runs.{spawns_cause, fuel_cause}
+use Rattle.kernel_model.specs.Replay.{TaskRec, max_id, with_children}
 use Rattle.kernel_model.specs.Turns.{Start, Stale, RefuseEmpty, RefuseSlots, RefuseRecords, Finish, Found, Failed, Booted}
-use Rattle.kernel_model.specs.Events.{Event, Fail, Power, On, Boot}
-use Rattle.kernel_model.specs.WorkedTasks.{Scene, Task, adder, copier, entry, finishes_of, formatted, forker, leaves, order_of, replayed, shows, state, steps, task, writer}
+use Rattle.kernel_model.specs.Events.{On, Boot, Fail}
+use Rattle.kernel_model.specs.WorkedTasks.{task, adder, copier, forker, writer, steps, entry, state, formatted, Scene, shows, leaves, finishes_of, order_of, replayed}
 
 -- one object of one word, one program, one record
 abbrev pub one_object : Sizes

@@ -1,13 +1,13 @@
 -- Tasks of a few instructions, for worked runs: this project's own. Each takes as many turns as the RISC-V program that it stands for.
-use Rattle.std.specs.Prelude.{ℕ, zero, suc, ◌+◌, ◌/◌, ◌%◌, nat_lt, List, [], ◌∷◌, ◌++◌, length, get_or, take, map, replicate, Option, None, if◌then◌else◌}
+use Rattle.std.specs.Prelude.{ℕ, zero, suc, ◌+◌, ◌/◌, ◌%◌, nat_lt, List, [], ◌∷◌, ◌++◌, length, get_or, take, map, replicate, None, if◌then◌else◌}
 use Rattle.kernel_model.specs.Sizes.{Sizes}
 use Rattle.kernel_model.specs.Effects.{Outcome, Exit, Trap, Spawn, Objects}
-use Rattle.kernel_model.specs.Runs.{Step, Steps, Went, Reads, Writes, Spawns, Ends, fuel_cause}
-use Rattle.kernel_model.specs.Items.{Entry, Item, serial_order}
-use Rattle.kernel_model.specs.Replay.{Base, TaskRec, after_all, tables_of}
+use Rattle.kernel_model.specs.Runs.{Reads, Spawns, Writes, Step, Went, Ends, Steps, fuel_cause}
+use Rattle.kernel_model.specs.Items.{Item, Entry, serial_order}
+use Rattle.kernel_model.specs.Replay.{TaskRec, Base, tables_of, after_all}
 use Rattle.kernel_model.specs.Turns.{Line, Nothing}
-use Rattle.kernel_model.specs.Events.{Event, CoreStep, Power, On, State, opened, state_after}
-use Rattle.kernel_model.specs.Durable.{Durable, durable, listed}
+use Rattle.kernel_model.specs.Events.{Power, State, Event, CoreStep, opened, state_after}
+use Rattle.kernel_model.specs.Durable.{durable, listed}
 use Rattle.kernel_model.specs.Report.{report_lines}
 
 -- one instruction
