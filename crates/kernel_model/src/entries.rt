@@ -7,6 +7,7 @@ ghost use Rattle.kernel_model.specs.Items.{Entry, Item};
 ghost use Rattle.kernel_model.specs.Replay.{Base, Tables, tables_of};
 ghost use Rattle.kernel_model.specs.Serial.{Serial};
 ghost use Rattle.kernel_model.specs.EntryReplay.{AreSerial, Place, Replayed, Rerun, after_reruns, comes_before, entry_order, item_on, places_from, replay, replayed_on};
+ghost use Rattle.kernel_model.specs.WorkedReplays.{CopyFirst, FinishedTwice, OtherOutcome, PointsExchanged};
 
 /// The serial order of a listing has each of its entries once, in ascending order.
 pub fn entry_order_sorts()
@@ -51,4 +52,9 @@ pub fn wrong_entries_are_not_serial()
 /// Serial entries have one history.
 pub fn entries_have_one_history()
     ensures { (whole : Programs) (base : Base) (entries : List Entry) (f g : Base) (s : Serial whole base entries f) (t : Serial whole base entries g) → s.history ≡ t.history }
+{}
+
+/// Replays of two worked finishes: in serial order, with their points exchanged, with another outcome, and with one finish twice.
+pub fn worked_replays()
+    ensures { CopyFirst × PointsExchanged × OtherOutcome × FinishedTwice }
 {}
