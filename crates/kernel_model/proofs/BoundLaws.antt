@@ -1,5 +1,5 @@
 -- The bounds of objects.
-use Rattle.std.proofs.Common.{◌≡◌, ℕ, ◌+◌, ◌≤◌, ◌<◌, Bool, true, false, cond, max, List, [], ◌∷◌, get_or, Option, Some, None, refl, sym, ap, ap₂, ◌∙◌, subst, arith}
+use Rattle.std.proofs.Common.{◌≡◌, ℕ, ◌≤◌, Bool, true, false, cond, max, List, [], ◌∷◌, get_or, Option, Some, None, refl, ap, ◌∙◌, subst, arith}
 use Rattle.std.specs.List.{AllByRecursion}
 use Rattle.kernel_model.specs.Sizes.{Sizes}
 use Rattle.kernel_model.specs.Effects.{Outcome, Run, Write, written}
@@ -8,7 +8,7 @@ use Rattle.kernel_model.specs.Items.{Item}
 use Rattle.kernel_model.specs.Replay.{Base, clock_of}
 use Rattle.kernel_model.specs.Versions.{Read, Version, version_read}
 use Rattle.kernel_model.specs.Intervals.{Interval, finish_interval, last_touch, raised_for, read_interval, touches, within}
-use Rattle.kernel_model.specs.Cores.{Attempt, Committing, Core, Idle, Ready, run_of}
+use Rattle.kernel_model.specs.Cores.{Attempt, Committing, Idle, Ready, run_of}
 use Rattle.kernel_model.specs.Events.{Event, State, next, with_finish}
 use Rattle.kernel_model.specs.History.{Follows}
 use Rattle.kernel_model.specs.Sound.{IsSound, IsSoundCore}

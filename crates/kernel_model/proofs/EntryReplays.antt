@@ -1,8 +1,8 @@
 -- The replay of entries is that of their history.
-use Rattle.std.proofs.Common.{◌≡◌, ℕ, zero, suc, ◌+◌, ◌≤◌, ◌<◌, ◌⊎◌, inl, inr, ⊎_elim, Bool, true, false, cond, ltb, eqb, max, ◌||◌, List, [], ◌∷◌, ◌++◌, append_assoc, length, length-append, slice_get, Option, Some, None, refl, sym, ap, ap₂, ◌∙◌, subst, add-one, arith, sum_by}
+use Rattle.std.proofs.Common.{◌≡◌, ℕ, ◌+◌, ◌<◌, Bool, true, false, cond, ltb, eqb, max, ◌||◌, List, [], ◌∷◌, ◌++◌, append_assoc, length, length-append, Option, Some, None, refl, sym, ap, ap₂, ◌∙◌, subst, arith, sum_by}
 use Rattle.std.specs.Prelude.{◌&&◌, map}
 use Rattle.std.specs.List.{AllByRecursion}
-use Rattle.std.proofs.lemmas.Bool.{eq-eqb, ne_eqb, eqb-true, eqb-false, cases_eq, le-ltb}
+use Rattle.std.proofs.lemmas.Bool.{eq-eqb, ne_eqb, eqb-true, le-ltb}
 use Rattle.std.proofs.lemmas.List.{append-nil}
 use Rattle.std.proofs.lemmas.List.Sums.{sum_by-cons}
 use Rattle.std.specs.List.Sorted.{IsPermutation}
@@ -10,8 +10,8 @@ use Rattle.kernel_model.specs.Effects.{Exit, Outcome, Programs, Run, Spawn, Trap
 use Rattle.kernel_model.specs.Items.{Entry, Item, entry_of, listing, placed, precedes, serial_order}
 use Rattle.kernel_model.specs.Replay.{AreNumbered, Base, Replays, Tables, after, after_all, clock_of, next_id, tables_of}
 use Rattle.kernel_model.specs.Serial.{Serial}
-use Rattle.kernel_model.specs.EntryReplay.{AreSerial, ChildrenFollow, Good, Leaves, NumbersFollow, Place, Replayed, Rerun, Wrong, after_reruns, comes_before, entry_order, is_same_outcome, item_if_open, item_if_same, item_on, item_with, latest, places_from, put_in_order, replay, replayed_on, rerun_before, spawns_at}
-use Rattle.kernel_model.proofs.EntryOrder.{AreApart, apart_first, apart_permutation, apart_rest, order-permutation, order_below, order_last, permuted-all, places_apart}
+use Rattle.kernel_model.specs.EntryReplay.{AreSerial, ChildrenFollow, Good, NumbersFollow, Place, Replayed, Rerun, Wrong, after_reruns, entry_order, is_same_outcome, item_if_open, item_if_same, item_on, item_with, latest, places_from, put_in_order, replay, replayed_on, rerun_before, spawns_at}
+use Rattle.kernel_model.proofs.EntryOrder.{AreApart, apart_first, apart_permutation, apart_rest, order-permutation, order_last, permuted-all, places_apart}
 use Rattle.kernel_model.proofs.EntrySteps.{stepped}
 use Rattle.kernel_model.proofs.OneState.{same_entries}
 
@@ -238,9 +238,10 @@ append-children rs place next (x ∷ xs) e h = let k = append-children rs (place
 follows : (rs : List Rerun) (base : Base) (history : List Item) → Agree rs history → AreNumbered base history → NumbersFollow base.number (listing history) × ChildrenFollow rs 0 base.next (listing history)
 follows rs base [] h n = (tt, tt)
 follows rs base (i ∷ history) h n =
-    let rest = follows rs base history (agree_older rs i history h) n.2 in
-    (numbers-append base.number (listing history) (entry_of i) rest.0 (omega (arith, n.0, length-listing history)),
-    children-append rs 0 base.next (listing history) (entry_of i) rest.1 (n.1 ∙ sym (ends-next_id rs base history (agree_older rs i history h))))
+    let rest = follows rs base history (agree_older rs i history h) n.2 in (
+      numbers-append base.number (listing history) (entry_of i) rest.0 (omega (arith, n.0, length-listing history)),
+      children-append rs 0 base.next (listing history) (entry_of i) rest.1 (n.1 ∙ sym (ends-next_id rs base history (agree_older rs i history h))),
+    )
 
 numbered_by : (rs : List Rerun) (base : Base) (history : List Item) → Agree rs history → NumbersFollow base.number (listing history) → ChildrenFollow rs 0 base.next (listing history) → AreNumbered base history
 numbered_by rs base [] h n c = tt
@@ -457,9 +458,10 @@ item-other e k r (x ∷ xs) ne = go (item-other e k r xs ne) (precedes r.item x.
 at_own : (rs : List Rerun) (history : List Item) → ((e : Entry) (k : ℕ) → k < length history → item_or e k rs ≡ item_or e k (reruns_of history)) → AreAt rs history
 unfolding AreAt reruns_of
 at_own rs [] h = tt
-at_own rs (i ∷ history) h =
-    (sym (h (entry_of i) (length history) (omega arith) ∙ item-same (entry_of i) (record { place = length history; item = i }) (reruns_of history) (reruns_below history)),
-    at_own rs history (λ e k l. h e k (omega (arith, l)) ∙ item-other e k (record { place = length history; item = i }) (reruns_of history) (λ f. omega (arith, f, l))))
+at_own rs (i ∷ history) h = (
+  sym (h (entry_of i) (length history) (omega arith) ∙ item-same (entry_of i) (record { place = length history; item = i }) (reruns_of history) (reruns_below history)),
+  at_own rs history (λ e k l. h e k (omega (arith, l)) ∙ item-other e k (record { place = length history; item = i }) (reruns_of history) (λ f. omega (arith, f, l))),
+)
 
 same_at : (rs : List Rerun) (g h : List Item) → AreAt rs g → AreAt rs h → map entry_of g ≡ map entry_of h → g ≡ h
 unfolding AreAt
@@ -478,7 +480,7 @@ one_history whole base entries f g s t =
     same : reruns_of s.history ≡ reruns_of t.history
     same =
         let e : Good (reruns_of s.history) ≡ Good (reruns_of t.history) =
-            sym (replayed_history whole base s.history s.replays) ∙ ap (replay whole base) (s.entries_are ∙ sym t.entries_are) ∙ replayed_history whole base t.history t.replays
+        sym (replayed_history whole base s.history s.replays) ∙ ap (replay whole base) (s.entries_are ∙ sym t.entries_are) ∙ replayed_history whole base t.history t.replays
         in cc e
 
 pub none_serial : (whole : Programs) (base : Base) (entries : List Entry) (place : ℕ) (f : Base) → replay whole base entries ≡ Wrong place → Serial whole base entries f → ⊥

@@ -1,9 +1,10 @@
 -- The steps of a replay of entries.
-use Rattle.std.proofs.Common.{◌≡◌, ℕ, List, [], ◌∷◌, ◌++◌, Option, Some, None, refl, sym, ap, ◌∙◌, subst}
-use Rattle.kernel_model.specs.Effects.{Programs}
-use Rattle.kernel_model.specs.Items.{Item}
-use Rattle.kernel_model.specs.Replay.{Tables, after}
-use Rattle.kernel_model.specs.EntryReplay.{Good, Place, Replayed, Rerun, Wrong, after_reruns, item_on, replayed_on, rerun_before}
+use Rattle.std.proofs.Common.{◌≡◌, ℕ, List, [], ◌∷◌, ◌++◌, Option, Some, None, refl, sym, ap, ap₂, ◌∙◌, subst}
+use Rattle.kernel_model.specs.Effects.{Objects, Programs}
+use Rattle.kernel_model.specs.Items.{Entry, Item}
+use Rattle.kernel_model.specs.Replay.{Base, Tables, TaskRec, after}
+use Rattle.kernel_model.specs.EntryReplay.{Good, Leaves, Place, Replayed, Rerun, Wrong, after_reruns, item_on, replayed_on, rerun_before}
+use Rattle.kernel_model.proofs.OneState.{same_tasks}
 
 -- what one step comes to
 abbrev pub step : Programs → Tables → Place → List Place → Option Item → Replayed
@@ -96,3 +97,9 @@ fails whole t (p ∷ ps) place h = go (item_on whole t p.entry) refl (λ i. fail
     go : (o : Option Item) → item_on whole t p.entry ≡ o → ((i : Item) → replayed_on whole (after i t) ps ≡ Wrong place → FailsAt whole (after i t) ps place) → FailsAt whole t (p ∷ ps) place
     go None f rest = here f (let k = sym (stepped whole t p ps None f) ∙ h in cc k)
     go (Some i) f rest = on i f (replayed_on whole (after i t) ps) (rest i) (sym (stepped whole t p ps (Some i) f) ∙ h)
+
+pub one_leaves : (base : Base) (entries : List Entry) (reruns : List Rerun) (f g : Base) → Leaves base entries reruns f → Leaves base entries reruns g → f ≡ g
+one_leaves base entries reruns f g h k =
+    ap₂ (λ (o : Objects) (t : List TaskRec). let r : Base = record { objects = o; tasks = t; clock = f.clock; number = f.number; next = f.next } in r) (h.objects ∙ sym k.objects) (same_tasks f.tasks g.tasks h.by_id k.by_id (λ id. h.tasks id ∙ sym (k.tasks id)))
+    ∙ ap₂ (λ (c d : ℕ). let r : Base = record { objects = g.objects; tasks = g.tasks; clock = c; number = d; next = f.next } in r) (h.clock ∙ sym k.clock) (h.number ∙ sym k.number)
+    ∙ ap (λ (e : ℕ). let r : Base = record { objects = g.objects; tasks = g.tasks; clock = g.clock; number = g.number; next = e } in r) (h.next ∙ sym k.next)

@@ -1,8 +1,7 @@
 -- The first events of a run, and one more.
-use Rattle.std.proofs.Common.{◌≡◌, ℕ, zero, suc, ◌+◌, ◌-◌, ◌≤◌, ◌<◌, ◌⊎◌, inl, inr, ⊎_elim, List, [], ◌∷◌, ◌++◌, append_assoc, length, take, drop, slice_get, Option, Some, None, refl, sym, ap, ap₂, ◌∙◌, subst, add-one, length-append, length-take, arith}
+use Rattle.std.proofs.Common.{◌≡◌, ℕ, zero, suc, ◌+◌, ◌-◌, ◌≤◌, ◌<◌, ◌⊎◌, inl, inr, ⊎_elim, List, [], ◌∷◌, ◌++◌, append_assoc, length, take, slice_get, Option, Some, None, refl, sym, ap, ◌∙◌, add-one, length-append, length-take, arith}
 use Rattle.std.proofs.Math.Seq.{take-suc}
 use Rattle.std.proofs.lemmas.Bool.{cases_lt}
-use Rattle.std.proofs.lemmas.List.{take-append-drop}
 use Rattle.std.proofs.lemmas.Option.{get_or_from_slice_get, slice_get_within}
 use Rattle.std.specs.Option.{option_to_list}
 use Rattle.kernel_model.specs.Runs.{Steps}
@@ -14,7 +13,7 @@ use Rattle.kernel_model.specs.Events.{Event, State, with_finish, lines_of, next,
 use Rattle.kernel_model.specs.Durable.{event_writes, flipped_by, listed, writes_after}
 use Rattle.kernel_model.specs.Report.{IsFresh, found_lines, told, unprinted}
 use Rattle.kernel_model.specs.Fit.{HasIds, IsSetUp}
-use Rattle.kernel_model.specs.Execution.{Execution, start_of, state_at, writes_at}
+use Rattle.kernel_model.specs.Execution.{Execution, start_of, state_at}
 use Rattle.kernel_model.specs.Sound.{IsSound}
 use Rattle.kernel_model.proofs.DurableLaws.{listed_step, one_write}
 use Rattle.kernel_model.proofs.Reached.{history-bound, lines_of-append, run_ids, state_after-append, writes_after-append}
@@ -39,10 +38,11 @@ module _ {M : Type 0} (steps : Steps M) (sizes : Sizes) (base : Base) where
       (state_after steps sizes base s (take (n + 1) events) ≡ (next steps sizes base t e).0)
       × (lines_of steps sizes base s (take (n + 1) events) ≡ lines_of steps sizes base s (take n events) ++ (next steps sizes base t e).1 ∷ [])
       × (writes_after steps sizes base s (take (n + 1) events) ≡ writes_after steps sizes base s (take n events) + event_writes t e))
-  one_more s events n e h =
-      (ap (state_after steps sizes base s) longer ∙ state_after-append steps sizes base (take n events) (e ∷ []) s,
-      ap (lines_of steps sizes base s) longer ∙ lines_of-append steps sizes base (take n events) (e ∷ []) s,
-      omega (arith, ap (writes_after steps sizes base s) longer, writes_after-append steps sizes base (take n events) (e ∷ []) s))
+  one_more s events n e h = (
+    ap (state_after steps sizes base s) longer ∙ state_after-append steps sizes base (take n events) (e ∷ []) s,
+    ap (lines_of steps sizes base s) longer ∙ lines_of-append steps sizes base (take n events) (e ∷ []) s,
+    omega (arith, ap (writes_after steps sizes base s) longer, writes_after-append steps sizes base (take n events) (e ∷ []) s),
+  )
     where
       longer : take (n + 1) events ≡ take n events ++ e ∷ []
       longer = take_one_more n events e h
@@ -71,6 +71,11 @@ module _ {M : Type 0} (steps : Steps M) (sizes : Sizes) (base : Base) where
   writes_grow s [] (suc m) (suc n) l = omega arith
   writes_grow s (e ∷ events) (suc m) (suc n) l = omega (arith, writes_grow (next steps sizes base s e).0 events m n (omega (arith, l)))
 
+  pub writes_within : (s : State M) (events : List Event) (m : ℕ) → writes_after steps sizes base s (take m events) ≤ writes_after steps sizes base s events
+  writes_within s events zero = omega arith
+  writes_within s [] (suc m) = omega arith
+  writes_within s (e ∷ events) (suc m) = omega (arith, writes_within (next steps sizes base s e).0 events m)
+
   -- one event more makes one write more at most
   one_write_more : (s : State M) (events : List Event) (n : ℕ) → writes_after steps sizes base s (take (suc n) events) ≤ writes_after steps sizes base s (take n events) + 1
   one_write_more s [] n = omega arith
@@ -83,7 +88,7 @@ module _ {M : Type 0} (steps : Steps M) (sizes : Sizes) (base : Base) where
       ⊎_elim (λ h. inr (omega (arith, h, m, more))) (λ h. inl (omega (arith, h, l))) (cases_lt (writes_after steps sizes base s (take n events)) k)
     where
       more : writes_after steps sizes base s (take (n + 1) events) ≤ writes_after steps sizes base s (take n events) + 1
-      more = rw add-one (one_write_more s events n)
+      more = let z : n + 1 ≡ suc n = add-one n in rw z (one_write_more s events n)
 
   -- each count of writes is reached
   pub count_reached : (events : List Event) (s : State M) (k : ℕ) → k ≤ writes_after steps sizes base s events → (n : ℕ) × (n ≤ length events) × (writes_after steps sizes base s (take n events) ≡ k)

@@ -1,5 +1,6 @@
 -- The serial replay of a listing from its entries alone: one-copy serializability of Bernstein, Hadzilacos and Goodman, with the serial order and the numbers of this project.
 use Rattle.std.specs.Prelude.{◌≡◌, ℕ, ◌+◌, ◌==◌, max, nat_lt, Bool, false, ◌&&◌, ◌||◌, List, [], ◌∷◌, length, map, sum_by, Option, Some, None, if◌then◌else◌}
+use Rattle.std.specs.List.{enumerate_from}
 use Rattle.kernel_model.specs.Effects.{Outcome, Exit, Trap, Spawn, Objects, Run, Programs}
 use Rattle.kernel_model.specs.Items.{Item, Entry}
 use Rattle.kernel_model.specs.Replay.{Base, Tables, task_under, tables_of, after, after_all}
@@ -10,10 +11,9 @@ pub record Place : Type 0 where
   pub place : ℕ
   pub entry : Entry
 
--- the places of a listing, from this one on
+-- the entries of a listing with their places, from this one on
 abbrev pub places_from : ℕ → List Entry → List Place
-places_from place [] = []
-places_from place (e ∷ entries) = record { place = place; entry = e } ∷ places_from (place + 1) entries
+places_from place entries = map (λ p. record { place = p.0; entry = p.1 }) (enumerate_from place entries)
 
 -- by point, then by number, then by place
 abbrev pub comes_before : Place → Place → Bool

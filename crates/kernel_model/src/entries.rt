@@ -4,9 +4,9 @@ ghost use Rattle.std.specs.Prelude.{ℕ, ◌≡◌, ◌∷◌, ◌++◌, [], Lis
 ghost use Rattle.std.specs.List.Sorted.{IsPermutation, IsSortedBy};
 ghost use Rattle.kernel_model.specs.Effects.{Programs};
 ghost use Rattle.kernel_model.specs.Items.{Entry, Item};
-ghost use Rattle.kernel_model.specs.Replay.{Base, Tables, tables_of};
-ghost use Rattle.kernel_model.specs.Serial.{Serial};
-ghost use Rattle.kernel_model.specs.EntryReplay.{AreSerial, Place, Replayed, Rerun, after_reruns, comes_before, entry_order, item_on, places_from, replay, replayed_on};
+ghost use Rattle.kernel_model.specs.Replay.{Base, Tables, TaskRec, tables_of, task_under};
+ghost use Rattle.kernel_model.specs.Serial.{InIdOrder, Serial};
+ghost use Rattle.kernel_model.specs.EntryReplay.{AreSerial, Leaves, Place, Replayed, Rerun, after_reruns, comes_before, entry_order, item_on, places_from, replay, replayed_on};
 ghost use Rattle.kernel_model.specs.WorkedReplays.{CopyFirst, FinishedTwice, OtherOutcome, PointsExchanged};
 
 /// The serial order of a listing has each of its entries once, in ascending order.
@@ -32,6 +32,16 @@ pub fn wrong_entry_has_no_finish()
         → (done : List Place) × (rest : List Place) × (p : Place) × (reruns : List Rerun)
         × (entry_order entries ≡ done ++ p ∷ rest) × (p.place ≡ place) × (replayed_on whole (tables_of base) done ≡ Replayed.Good reruns)
         × (item_on whole (after_reruns reruns (tables_of base)) p.entry ≡ Option.None) }
+{}
+
+/// A replay leaves one state.
+pub fn replay_leaves_one_state()
+    ensures { (base : Base) (entries : List Entry) (reruns : List Rerun) (f g : Base) → Leaves base entries reruns f → Leaves base entries reruns g → f ≡ g }
+{}
+
+/// Open tasks in the order of their ids are one list, where they have the same task under each id.
+pub fn ids_tell_tasks()
+    ensures { (tasks others : List TaskRec) → InIdOrder tasks → InIdOrder others → ((id : ℕ) → task_under tasks id ≡ task_under others id) → tasks ≡ others }
 {}
 
 /// Entries whose replay is good, with the numbers and ids that they name, are serial.

@@ -27,10 +27,11 @@ pub fn first_lines<M>()
         → (lines_of steps sizes base s (take n events) ≡ take n (lines_of steps sizes base s events)) × (length (lines_of steps sizes base s events) ≡ length events) }
 {}
 
-/// More events make no fewer writes.
+/// More events make no fewer writes, and none make more than all.
 pub fn writes_only_grow<M>()
-    ensures { (steps : Steps M) (sizes : Sizes) (base : Base) (s : State M) (events : List Event) (m n : ℕ) → m ≤ n
-        → writes_after steps sizes base s (take m events) ≤ writes_after steps sizes base s (take n events) }
+    ensures { (steps : Steps M) (sizes : Sizes) (base : Base) (s : State M) (events : List Event) (m : ℕ)
+        → ((n : ℕ) → m ≤ n → writes_after steps sizes base s (take m events) ≤ writes_after steps sizes base s (take n events))
+        × (writes_after steps sizes base s (take m events) ≤ writes_after steps sizes base s events) }
 {}
 
 /// Each count up to the writes of a run is that of some number of its events.
