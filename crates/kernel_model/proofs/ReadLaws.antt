@@ -1,0 +1,53 @@
+-- An outside read leaves its attempt an interval that is not empty.
+use Rattle.std.proofs.Common.{◌≡◌, ℕ, ◌<◌, Bool, true, false, List, [], ◌∷◌, Option, Some, None, max, min, leb, ltb, refl, sym, ap, arith}
+use Rattle.std.specs.Prelude.{◌&&◌}
+use Rattle.std.proofs.lemmas.Bool.{leb-false, ltb-true, lt-leb}
+use Rattle.kernel_model.specs.Effects.{words_of, written}
+use Rattle.kernel_model.specs.Items.{Item}
+use Rattle.kernel_model.specs.Replay.{Base}
+use Rattle.kernel_model.specs.Versions.{Version, chosen, versions, versions_to}
+use Rattle.kernel_model.specs.Intervals.{Interval, is_empty, is_reached, sooner, within}
+use Rattle.kernel_model.specs.Room.{is_below, meet}
+use Rattle.kernel_model.specs.History.{IsNumbered}
+use Rattle.kernel_model.proofs.RoomLaws.{chosen-all, chosen-meets}
+use Rattle.kernel_model.proofs.VersionLaws.{tops}
+
+-- the newest version ends where all do
+newest-end : (end : Option ℕ) (base : Base) (o : ℕ) (history : List Item) (u : Version) → chosen None (versions_to end base o history) ≡ Some u → u.end ≡ end
+newest-end end base o [] u e = let same : record { writer = base.number; begin = base.clock; end = end; words = words_of base.objects o } ≡ u = cc in ap (λ (x : Version). x.end) (sym same)
+newest-end end base o (i ∷ history) u e = go (newest-end end base o history u) (written i.run.writes o) e
+  where
+    go : (chosen None (versions_to end base o history) ≡ Some u → u.end ≡ end) → (w : Option (List ℕ)) → chosen None (tops end base o i history w) ≡ Some u → u.end ≡ end
+    go rest None e = rest e
+    go rest (Some words) e = let same : record { writer = i.number; begin = i.point; end = end; words = words } ≡ u = cc in ap (λ (x : Version). x.end) (sym same)
+
+-- below two ends is below the sooner of them
+below_both : (p : ℕ) (a b : Option ℕ) → (is_below p a && is_below p b) ≡ true → is_reached p (sooner a b) ≡ false
+below_both p None None h = refl
+below_both p None (Some b) h = lt-leb b p (ltb-true p b h)
+below_both p (Some a) None h = lt-leb a p (go (ltb p a) refl h)
+  where
+    go : (t : Bool) → ltb p a ≡ t → (t && true) ≡ true → p < a
+    go true e f = ltb-true p a e
+    go false e f = absurd (cc f)
+below_both p (Some a) (Some b) h = go (ltb p a) (ltb p b) refl refl h
+  where
+    go : (t u : Bool) → ltb p a ≡ t → ltb p b ≡ u → (t && u) ≡ true → leb (min a b) p ≡ false
+    go true true e f g = lt-leb (min a b) p (omega (arith, ltb-true p a e, ltb-true p b f))
+    go true false e f g = absurd (cc g)
+    go false u e f g = absurd (cc g)
+
+-- so with a version that meets it an interval is not empty
+meets-place : (v : Version) (i : Interval) → meet v i ≡ true → is_empty (within (Some v) i) ≡ false
+meets-place v i h = below_both (max v.begin i.lo) v.end i.hi h
+
+-- and the chosen version meets it
+pub chosen-place : (base : Base) (history : List Item) (o : ℕ) (i : Interval) (v : Version) → IsNumbered base history → is_empty i ≡ false → chosen i.hi (versions base o history) ≡ Some v → is_empty (within (Some v) i) ≡ false
+chosen-place base history o i v n ne e = go i.hi refl ne e
+  where
+    go : (hi : Option ℕ) → i.hi ≡ hi → is_reached i.lo hi ≡ false → chosen hi (versions base o history) ≡ Some v → is_empty (within (Some v) (record { lo = i.lo; hi = i.hi })) ≡ false
+    go None f ne e = rw (f, newest-end None base o history v e) refl
+    go (Some hi) f ne e =
+        rw f (meets-place v (record { lo = i.lo; hi = Some hi })
+        (chosen-all (λ u. u.writer ≡ v.writer → meet u (record { lo = i.lo; hi = Some hi }) ≡ true) (Some hi) (versions base o history) v
+        (chosen-meets i.lo hi (leb-false hi i.lo ne) base o history n None tt v e) e refl))
