@@ -1,5 +1,5 @@
 -- The replay of entries is that of their history.
-use Rattle.std.proofs.Common.{◌≡◌, ℕ, ◌+◌, ◌<◌, Bool, true, false, cond, ltb, eqb, max, ◌||◌, List, [], ◌∷◌, ◌++◌, append_assoc, length, length-append, Option, Some, None, refl, sym, ap, ap₂, ◌∙◌, subst, arith, sum_by}
+use Rattle.std.proofs.Common.{suc, slice_get, ◌≤◌, ◌-◌, ◌≡◌, ℕ, ◌+◌, ◌<◌, Bool, true, false, cond, ltb, eqb, max, ◌||◌, List, [], ◌∷◌, ◌++◌, append_assoc, length, length-append, Option, Some, None, refl, sym, ap, ap₂, ◌∙◌, subst, arith, sum_by}
 use Rattle.std.specs.Prelude.{◌&&◌, map}
 use Rattle.std.specs.List.{AllByRecursion}
 use Rattle.std.proofs.lemmas.Bool.{eq-eqb, ne_eqb, eqb-true, le-ltb}
@@ -8,7 +8,7 @@ use Rattle.std.proofs.lemmas.List.Sums.{sum_by-cons}
 use Rattle.std.specs.List.Sorted.{IsPermutation}
 use Rattle.kernel_model.specs.Effects.{Exit, Outcome, Programs, Run, Spawn, Trap}
 use Rattle.kernel_model.specs.Items.{Entry, Item, entry_of, listing, placed, precedes, serial_order}
-use Rattle.kernel_model.specs.Replay.{AreNumbered, Base, Replays, Tables, after, after_all, clock_of, next_id, tables_of}
+use Rattle.kernel_model.specs.Replay.{AreNumbered, Base, IsRunOn, Replays, Tables, after, after_all, clock_of, next_id, tables_of}
 use Rattle.kernel_model.specs.Serial.{Serial}
 use Rattle.kernel_model.specs.EntryReplay.{AreSerial, ChildrenFollow, Good, NumbersFollow, Place, Replayed, Rerun, Wrong, after_reruns, entry_order, is_same_outcome, item_if_open, item_if_same, item_on, item_with, latest, places_from, put_in_order, replay, replayed_on, rerun_before, spawns_at}
 use Rattle.kernel_model.proofs.EntryOrder.{AreApart, apart_first, apart_permutation, apart_rest, order-permutation, order_last, permuted-all, places_apart}
@@ -138,6 +138,9 @@ item_on-found whole t e i h = go (t.tasks e.task) refl h
     go (Some task) f h =
         let k = if_same_gives e (whole task.program task.arg t.objects) i h in
         subst (IsFound whole t e) k.0 (record { task = task; is_open = f; run = refl; entry = entry_with e (whole task.program task.arg t.objects) k.1 })
+
+pub item_entry : (whole : Programs) (t : Tables) (e : Entry) → ((i : Item) → item_on whole t e ≡ Some i → IsRunOn whole i t × (entry_of i ≡ e)) × (item_on whole t e ≡ None → (i : Item) → IsRunOn whole i t → entry_of i ≡ e → ⊥)
+item_entry whole t e = ((λ i h. let f = item_on-found whole t e i h in ((f.task, f.is_open, f.run), f.entry)), λ h i r same. let k : item_on whole t e ≡ Some i = subst (λ (x : Entry). item_on whole t x ≡ Some i) same (item_on-run whole t i r.0 r.1 r.2) in let l : None ≡ Some i = sym h ∙ k in cc l)
 
 -- a replay of finishes is good
 replay_of : (whole : Programs) (t : Tables) (rs : List Rerun) → Replays whole t (map (λ r. r.item) rs) → replayed_on whole t (map place_of rs) ≡ Good rs
@@ -485,3 +488,48 @@ one_history whole base entries f g s t =
 
 pub none_serial : (whole : Programs) (base : Base) (entries : List Entry) (place : ℕ) (f : Base) → replay whole base entries ≡ Wrong place → Serial whole base entries f → ⊥
 none_serial whole base entries place f h s = let k : Wrong place ≡ Good (serial_are whole base entries f s).reruns = sym h ∙ (serial_are whole base entries f s).good in cc k
+
+-- the entry at a place
+entries_at : (j : ℕ) (entries : List Entry) → AllByRecursion (λ p. (j ≤ p.place) × (slice_get entries (p.place - j) ≡ Some p.entry)) (places_from j entries)
+entries_at j [] = tt
+entries_at j (e ∷ entries) = ((omega arith, let z : j - j ≡ 0 = omega arith in rw z refl), later (places_from (j + 1) entries) (entries_at (j + 1) entries))
+  where
+    later : (ps : List Place) → AllByRecursion (λ p. (j + 1 ≤ p.place) × (slice_get entries (p.place - (j + 1)) ≡ Some p.entry)) ps → AllByRecursion (λ p. (j ≤ p.place) × (slice_get (e ∷ entries) (p.place - j) ≡ Some p.entry)) ps
+    later [] h = tt
+    later (p ∷ ps) h = let l : j + 1 ≤ p.place = h.0.0 in let z : p.place - j ≡ suc (p.place - (j + 1)) = omega (arith, l) in ((omega (arith, l), rw z h.0.1), later ps h.1)
+
+in_middle : (P : Place → Type 0) (done rest : List Place) (p : Place) → AllByRecursion P (done ++ p ∷ rest) → P p
+in_middle P [] rest p h = h.0
+in_middle P (x ∷ done) rest p h = in_middle P done rest p h.1
+
+-- no place before it is the same
+new_place : (done rest : List Place) (p : Place) → AreApart (done ++ p ∷ rest) → AllByRecursion (λ x. x.place ≡ p.place → ⊥) done
+new_place [] rest p h = tt
+new_place (x ∷ done) rest p h = (in_middle (λ y. x.place ≡ y.place → ⊥) done rest p (apart_first x (done ++ p ∷ rest) h), new_place done rest p (apart_rest x (done ++ p ∷ rest) h))
+
+spawns-absent : (k : ℕ) (rs : List Rerun) → AllByRecursion (λ x. x.place ≡ k → ⊥) (map place_of rs) → spawns_at k rs ≡ 0
+spawns-absent k [] h = refl
+spawns-absent k (r ∷ rs) h = rw (ne_eqb r.place k h.0) (spawns-absent k rs h.1)
+
+spawns-last : (rs : List Rerun) (r : Rerun) (k : ℕ) → AllByRecursion (λ x. x.place ≡ r.place → ⊥) (map place_of rs) → spawns_at k (rs ++ r ∷ []) ≡ cond (eqb r.place k) (spawns_of r) (spawns_at k rs)
+spawns-last [] r k h = refl
+spawns-last (x ∷ rs) r k h = go (spawns-last rs r k h.1) (eqb x.place k) refl
+  where
+    go : spawns_at k (rs ++ r ∷ []) ≡ cond (eqb r.place k) (spawns_of r) (spawns_at k rs) → (b : Bool) → eqb x.place k ≡ b →
+        cond b (spawns_of x) (spawns_at k (rs ++ r ∷ [])) ≡ cond (eqb r.place k) (spawns_of r) (cond b (spawns_of x) (spawns_at k rs))
+    go rest true e = let same : x.place ≡ k = eqb-true x.place k e in rw (ne_eqb r.place k (λ f. h.0 (same ∙ sym f))) refl
+    go rest false e = rest
+
+pub next_place : (whole : Programs) (t : Tables) (entries : List Entry) (done rest : List Place) (p : Place) (reruns : List Rerun) → entry_order entries ≡ done ++ p ∷ rest → replayed_on whole t done ≡ Good reruns →
+    (slice_get entries p.place ≡ Some p.entry) × (spawns_at p.place reruns ≡ 0)
+    × ((i : Item) (k : ℕ) → spawns_at k (reruns ++ (let r : Rerun = record { place = p.place; item = i } in r) ∷ []) ≡ cond (eqb p.place k) (length i.run.spawns) (spawns_at k reruns))
+next_place whole t entries done rest p reruns e h = (let z : p.place - 0 ≡ p.place = omega arith in rw z at at_place.1, spawns-absent p.place reruns absent, λ i k. spawns-last reruns (record { place = p.place; item = i }) k absent)
+  where
+    at_place : (0 ≤ p.place) × (slice_get entries (p.place - 0) ≡ Some p.entry)
+    at_place = in_middle (λ x. (0 ≤ x.place) × (slice_get entries (x.place - 0) ≡ Some x.entry)) done rest p
+        (subst (AllByRecursion (λ x. (0 ≤ x.place) × (slice_get entries (x.place - 0) ≡ Some x.entry))) e (permuted-all (λ x. (0 ≤ x.place) × (slice_get entries (x.place - 0) ≡ Some x.entry)) (places_from 0 entries) (entry_order entries) (order-permutation (places_from 0 entries)) (entries_at 0 entries)))
+
+    absent : AllByRecursion (λ x. x.place ≡ p.place → ⊥) (map place_of reruns)
+    absent =
+        subst (AllByRecursion (λ x. x.place ≡ p.place → ⊥)) (sym (of_replay whole t done reruns h).0)
+        (new_place done rest p (subst AreApart e (apart_permutation (places_from 0 entries) (entry_order entries) (order-permutation (places_from 0 entries)) (places_apart 0 entries))))
