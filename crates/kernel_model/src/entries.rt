@@ -5,7 +5,7 @@ ghost use Rattle.std.specs.Ordering.{is_lt, nat_cmp, ordering_then};
 ghost use Rattle.std.specs.List.Sorted.{IsPermutation, IsSortedBy};
 ghost use Rattle.kernel_model.specs.Effects.{Programs};
 ghost use Rattle.kernel_model.specs.Items.{Entry, Item, entry_of};
-ghost use Rattle.kernel_model.specs.Replay.{Base, IsRunOn, Tables, TaskRec, tables_of, task_under};
+ghost use Rattle.kernel_model.specs.Replay.{Base, IsRunOn, Tables, TaskRec, after, tables_of, task_under};
 ghost use Rattle.kernel_model.specs.Serial.{InIdOrder, Serial};
 ghost use Rattle.kernel_model.specs.EntryReplay.{AreSerial, Leaves, Place, Replayed, Rerun, after_reruns, comes_before, entry_order, item_on, places_from, replay, replayed_on, spawns_at};
 ghost use Rattle.kernel_model.specs.WorkedReplays.{CopyFirst, FinishedTwice, OtherOutcome, PointsExchanged};
@@ -43,7 +43,9 @@ pub fn next_place_is_new()
 /// A good replay goes on with the next entry in serial order, where this has a finish on the tables so far, and else ends there.
 pub fn replay_goes_on()
     ensures { (whole : Programs) (t : Tables) (done rest : List Place) (p : Place) (reruns : List Rerun) → replayed_on whole t done ≡ Replayed.Good reruns
-        → ((i : Item) → item_on whole (after_reruns reruns t) p.entry ≡ Option.Some i → replayed_on whole t (done ++ p ∷ []) ≡ Replayed.Good (reruns ++ record { place = p.place; item = i } ∷ []))
+        → ((i : Item) → item_on whole (after_reruns reruns t) p.entry ≡ Option.Some i
+        → (replayed_on whole t (done ++ p ∷ []) ≡ Replayed.Good (reruns ++ record { place = p.place; item = i } ∷ []))
+        × (after_reruns (reruns ++ record { place = p.place; item = i } ∷ []) t ≡ after i (after_reruns reruns t)))
         × (item_on whole (after_reruns reruns t) p.entry ≡ Option.None → replayed_on whole t (done ++ p ∷ rest) ≡ Replayed.Wrong p.place) }
 {}
 

@@ -1,4 +1,4 @@
-use Rattle.kernel_model.proofs.EntryReplays.{item_entry}
+use Rattle.kernel_model.proofs.EntryItems.{item_entry}
 use Rattle.kernel_model.proofs.entries.item_has_entry.Goals as goal
 
 pub returns : goal.returns

@@ -1,4 +1,4 @@
-use Rattle.kernel_model.proofs.EntryReplays.{next_place}
+use Rattle.kernel_model.proofs.EntryItems.{next_place}
 use Rattle.kernel_model.proofs.entries.next_place_is_new.Goals as goal
 
 pub returns : goal.returns
