@@ -1,7 +1,8 @@
 -- The serial order of entries: sorted by point, number and place, and the only order that is.
-use Rattle.std.proofs.Common.{◌≡◌, ℕ, zero, suc, ◌+◌, ◌≤◌, ◌<◌, ◌⊎◌, inl, inr, ⊎_elim, Bool, true, false, cond, ltb, eqb, ◌||◌, List, [], ◌∷◌, ◌++◌, length, refl, sym, ap, ap₂, ◌∙◌, subst, add-one, arith, sum_by}
+use Rattle.std.proofs.Common.{Less, Equal, Greater, ◌≡◌, ℕ, zero, suc, ◌+◌, ◌≤◌, ◌<◌, ◌⊎◌, inl, inr, ⊎_elim, Bool, true, false, cond, ltb, eqb, ◌||◌, List, [], ◌∷◌, ◌++◌, length, refl, sym, ap, ap₂, ◌∙◌, subst, add-one, arith, sum_by}
 use Rattle.std.specs.Prelude.{◌&&◌}
 use Rattle.std.specs.List.{AllByRecursion}
+use Rattle.std.specs.Ordering.{is_lt, nat_cmp, ordering_then}
 use Rattle.std.specs.List.Sorted.{IsPermutation, IsSortedBy}
 use Rattle.std.proofs.lemmas.Bool.{eq-eqb, ne_eqb, eqb-false, cases_eq}
 use Rattle.std.proofs.lemmas.Bool.Decides.{nat_tests}
@@ -24,6 +25,19 @@ lex_one p q m n j k h = grind (arith, nat_tests)
 lex_other : (p q m n j k : ℕ) → (j ≡ k → ⊥) → lex p q m n j k ≡ false → lex q p n m k j ≡ true
 lex_other p q m n j k ne h = grind (arith, nat_tests)
 
+by_tests : (a b c d e f : Bool) →
+    is_lt (ordering_then (cond a Less (cond b Equal Greater)) (ordering_then (cond c Less (cond d Equal Greater)) (cond e Less (cond f Equal Greater)))) ≡ (a || (b && (c || (d && e))))
+by_tests true b c d e f = refl
+by_tests false false c d e f = refl
+by_tests false true true d e f = refl
+by_tests false true false false e f = refl
+by_tests false true false true true f = refl
+by_tests false true false true false true = refl
+by_tests false true false true false false = refl
+
+by_keys : (p q m n j k : ℕ) → is_lt (ordering_then (nat_cmp p q) (ordering_then (nat_cmp m n) (nat_cmp j k))) ≡ lex p q m n j k
+by_keys p q m n j k = by_tests (ltb p q) (eqb p q) (ltb m n) (eqb m n) (ltb j k) (eqb j k)
+
 over : (a b c : Place) → comes_before a b ≡ true → comes_before b c ≡ true → comes_before a c ≡ true
 over a b c g h = lex_over a.entry.point b.entry.point c.entry.point a.entry.number b.entry.number c.entry.number a.place b.place c.place g h
 
@@ -35,6 +49,9 @@ or_after a b ne h = lex_other a.entry.point b.entry.point a.entry.number b.entry
 
 not_both : (a b : Place) → comes_before a b ≡ true → comes_before b a ≡ true → ⊥
 not_both a b g h = let k = not_after a b g in cc (k, h)
+
+pub compare_keys : (a b : Place) → is_lt (ordering_then (nat_cmp a.entry.point b.entry.point) (ordering_then (nat_cmp a.entry.number b.entry.number) (nat_cmp a.place b.place))) ≡ comes_before a b
+compare_keys a b = by_keys a.entry.point b.entry.point a.entry.number b.entry.number a.place b.place
 
 -- each comes before all that follow
 abbrev pub Ascends : List Place → Type 0

@@ -56,6 +56,10 @@ pub one_good : (whole : Programs) (t : Tables) (done : List Place) (p : Place) (
     replayed_on whole t (done ++ p ∷ []) ≡ Good (rs ++ (let r : Rerun = record { place = p.place; item = i } in r) ∷ [])
 one_good whole t done p rs h i e = good_before whole t done (p ∷ []) rs h ∙ ap (all_before rs) (stepped whole (after_reruns rs t) p [] (Some i) e) ∙ all_good rs ((let r : Rerun = record { place = p.place; item = i } in r) ∷ [])
 
+pub one_after : (rs : List Rerun) (r : Rerun) (t : Tables) → after_reruns (rs ++ r ∷ []) t ≡ after r.item (after_reruns rs t)
+one_after [] r t = refl
+one_after (x ∷ rs) r t = one_after rs r (after x.item t)
+
 pub one_wrong : (whole : Programs) (t : Tables) (done rest : List Place) (p : Place) (rs : List Rerun) → replayed_on whole t done ≡ Good rs → item_on whole (after_reruns rs t) p.entry ≡ None →
     replayed_on whole t (done ++ p ∷ rest) ≡ Wrong p.place
 one_wrong whole t done rest p rs h e = good_before whole t done (p ∷ rest) rs h ∙ ap (all_before rs) (stepped whole (after_reruns rs t) p rest None e) ∙ all_wrong rs p.place

@@ -1,14 +1,17 @@
 -- An outside read leaves its attempt an interval that is not empty.
-use Rattle.std.proofs.Common.{◌≡◌, ℕ, ◌<◌, Bool, true, false, List, [], ◌∷◌, Option, Some, None, max, min, leb, ltb, refl, sym, ap, arith}
-use Rattle.std.specs.Prelude.{◌&&◌}
-use Rattle.std.proofs.lemmas.Bool.{leb-false, ltb-true, lt-leb}
+use Rattle.std.proofs.Common.{◌≡◌, ℕ, ◌<◌, Bool, true, false, cond, eqb, List, [], ◌∷◌, Option, Some, None, max, min, leb, ltb, refl, sym, ap, arith, ◌∙◌}
+use Rattle.std.specs.Prelude.{◌&&◌, is_none}
+use Rattle.std.specs.List.{AllByRecursion}
+use Rattle.std.proofs.lemmas.Bool.{eq-eqb, eqb-false, eqb-true, ne_eqb, leb-false, ltb-true, lt-leb}
 use Rattle.kernel_model.specs.Effects.{words_of, written}
 use Rattle.kernel_model.specs.Items.{Item}
 use Rattle.kernel_model.specs.Replay.{Base}
-use Rattle.kernel_model.specs.Versions.{Version, chosen, versions, versions_to}
+use Rattle.kernel_model.specs.Versions.{Read, Version, chosen, find_version, older, version_read, versions, versions_to}
 use Rattle.kernel_model.specs.Intervals.{Interval, is_empty, is_reached, sooner, within}
 use Rattle.kernel_model.specs.Room.{is_below, meet}
 use Rattle.kernel_model.specs.History.{IsNumbered}
+use Rattle.kernel_model.specs.Chain.{is_newest}
+use Rattle.kernel_model.proofs.Points.{found}
 use Rattle.kernel_model.proofs.RoomLaws.{chosen-all, chosen-meets}
 use Rattle.kernel_model.proofs.VersionLaws.{tops}
 
@@ -51,3 +54,41 @@ chosen-place base history o i v n ne e = go i.hi refl ne e
         rw f (meets-place v (record { lo = i.lo; hi = Some hi })
         (chosen-all (λ u. u.writer ≡ v.writer → meet u (record { lo = i.lo; hi = Some hi }) ≡ true) (Some hi) (versions base o history) v
         (chosen-meets i.lo hi (leb-false hi i.lo ne) base o history n None tt v e) e refl))
+
+-- what ends at some point has an end, and so has all that is older
+all_ended : (p : ℕ) (base : Base) (o : ℕ) (history : List Item) → AllByRecursion (λ v. is_none v.end ≡ false) (versions_to (Some p) base o history)
+all_ended p base o [] = (refl, tt)
+all_ended p base o (i ∷ history) =
+    elim (written i.run.writes o) as (λ w. AllByRecursion (λ v. is_none v.end ≡ false) (tops (Some p) base o i history w)) [
+      | None ↦ all_ended p base o history
+      | Some words ↦ (refl, all_ended i.point base o history)
+    ]
+
+older_ended : (base : Base) (o : ℕ) (history : List Item) → AllByRecursion (λ v. is_none v.end ≡ false) (older (versions base o history))
+older_ended base o [] = tt
+older_ended base o (i ∷ history) =
+    elim (written i.run.writes o) as (λ w. AllByRecursion (λ v. is_none v.end ≡ false) (older (tops None base o i history w))) [
+      | None ↦ older_ended base o history
+      | Some words ↦ all_ended i.point base o history
+    ]
+
+-- of some versions, where only the first has no end
+first_unended : (vs : List Version) (n : ℕ) (u v : Version) → AllByRecursion (λ v. is_none v.end ≡ false) (older vs) → chosen None vs ≡ Some u → u.end ≡ None → find_version n vs ≡ Some v → is_none v.end ≡ eqb n u.writer
+first_unended [] n u v h c d e = absurd (cc c)
+first_unended (x ∷ xs) n u v h c d e = go (eqb x.writer n) refl e
+  where
+    same : x ≡ u
+    same = cc
+
+    go : (b : Bool) → eqb x.writer n ≡ b → cond b (Some x) (find_version n xs) ≡ Some v → is_none v.end ≡ eqb n u.writer
+    go true f e =
+        let here : u ≡ v = sym same ∙ cc in
+        let at : u.writer ≡ n = ap (λ (y : Version). y.writer) (sym same) ∙ eqb-true x.writer n f in
+        rw (← here, d, eq-eqb n u.writer (sym at)) refl
+    go false f e =
+        let other : n ≡ u.writer → ⊥ = λ g. eqb-false x.writer n f (ap (λ (y : Version). y.writer) same ∙ sym g) in
+        rw (ne_eqb n u.writer other) (found (λ v. is_none v.end ≡ false) n xs v h e)
+
+-- the version that was read has not ended just where its writer is that of the newest
+pub newest-read : (base : Base) (history : List Item) (r : Read) (u v : Version) → version_read base history r ≡ Some v → chosen None (versions base r.object history) ≡ Some u → is_newest (Some v) ≡ eqb r.writer u.writer
+newest-read base history r u v e c = first_unended (versions base r.object history) r.writer u v (older_ended base r.object history) c (newest-end None base r.object history u c) e

@@ -99,7 +99,7 @@ abbrev pub NumbersFollow : ℕ → List Entry → Type 0
 NumbersFollow number [] = Unit {0}
 NumbersFollow number (e ∷ entries) = (e.number ≡ number + 1) × NumbersFollow (number + 1) entries
 
--- from this place on, the children have all ids from the next one on
+-- the children of the entries from this place on have the ids from next on, one after another
 abbrev pub ChildrenFollow : List Rerun → (place next : ℕ) → List Entry → Type 0
 ChildrenFollow reruns place next [] = Unit {0}
 ChildrenFollow reruns place next (e ∷ entries) = (e.first ≡ next) × ChildrenFollow reruns (place + 1) (next + spawns_at place reruns) entries
@@ -109,7 +109,7 @@ abbrev pub latest : ℕ → List Entry → ℕ
 latest clock [] = clock
 latest clock (e ∷ entries) = max e.point (latest clock entries)
 
--- f is the state that the replay of these entries leaves
+-- f is the state that these entries leave, where the replay found these finishes
 pub record Leaves (base : Base) (entries : List Entry) (reruns : List Rerun) (f : Base) : Type 0 where
   pub objects : f.objects ≡ (after_reruns reruns (tables_of base)).objects
   pub tasks : (id : ℕ) → task_under f.tasks id ≡ (after_reruns reruns (tables_of base)).tasks id
@@ -118,7 +118,7 @@ pub record Leaves (base : Base) (entries : List Entry) (reruns : List Rerun) (f 
   pub number : f.number ≡ base.number + length entries
   pub next : f.next ≡ base.next + sum_by (λ r. length r.item.run.spawns) reruns
 
--- the replay of the entries is good, leaves f, and gives the numbers and the ids that they name
+-- the entries replay and leave f, and their numbers and the ids of their children follow one another
 pub record AreSerial (whole : Programs) (base : Base) (entries : List Entry) (f : Base) : Type 0 where
   pub reruns : List Rerun
   pub good : replay whole base entries ≡ Good reruns

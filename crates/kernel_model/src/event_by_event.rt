@@ -49,7 +49,8 @@ pub fn lost_call_leaves<M>()
 
 /// What is listed stays listed, and in its place.
 pub fn listing_only_grows<M>()
-    ensures { (x : Execution M) (m n : ℕ) → m ≤ n → (newer : List Item) × (listed (state_at x n) ≡ newer ++ listed (state_at x m)) }
+    ensures { (x : Execution M) (m n : ℕ) → m ≤ n → (newer : List Item) × (listed (state_at x n) ≡ newer ++ listed (state_at x m))
+        × (listing (listed (state_at x n)) ≡ listing (listed (state_at x m)) ++ listing newer) }
 {}
 
 /// The finishes that the first lines tell are listed then, in the same order, and at most the last one listed is not told.

@@ -1,4 +1,4 @@
-use Rattle.kernel_model.proofs.EntryReplays.{one_history}
+use Rattle.kernel_model.proofs.EntryHistory.{one_history}
 use Rattle.kernel_model.proofs.entries.entries_have_one_history.Goals as goal
 
 pub returns : goal.returns

@@ -1,4 +1,4 @@
-use Rattle.kernel_model.proofs.EntryReplays.{are_serial}
+use Rattle.kernel_model.proofs.EntryHistory.{are_serial}
 use Rattle.kernel_model.proofs.entries.replayed_entries_are_serial.Goals as goal
 
 pub returns : goal.returns

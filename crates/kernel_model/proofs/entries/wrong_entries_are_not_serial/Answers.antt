@@ -1,4 +1,4 @@
-use Rattle.kernel_model.proofs.EntryReplays.{none_serial}
+use Rattle.kernel_model.proofs.EntryHistory.{none_serial}
 use Rattle.kernel_model.proofs.entries.wrong_entries_are_not_serial.Goals as goal
 
 pub returns : goal.returns
