@@ -16,10 +16,6 @@ field word n = word ++ decimal n
 abbrev pub line_feed : List ℕ
 line_feed = 10 ∷ []
 
--- ` core C task T`
-abbrev pub holder_text : ℕ → ℕ → List ℕ
-holder_text core task = field (codes " core ") core ++ field (codes " task ") task
-
 abbrev pub outcome_text : Outcome → List ℕ
 outcome_text (Exit code) = field (codes " exit ") code
 outcome_text (Trap cause) = codes " trap " ++ word_of cause
@@ -33,13 +29,14 @@ abbrev pub found_text : Option Entry → List ℕ
 found_text None = []
 found_text (Some e) = entry_text (codes "found ") e
 
+-- `start`, `stale`, `refuse`, `finish`, `found`, `fail`, `boot`
 abbrev pub line_text : TaskSet → Line → List ℕ
 line_text set Nothing = []
-line_text set (Start core task at) = codes "start" ++ holder_text core task ++ field (codes " at ") at ++ line_feed
-line_text set (Stale core task lo hi) = field (codes "stale ") lo ++ field (codes " ") hi ++ holder_text core task ++ line_feed
-line_text set (RefuseEmpty core task lo hi) = field (codes "refuse empty ") lo ++ field (codes " ") hi ++ holder_text core task ++ line_feed
-line_text set (RefuseSlots core task object) = codes "refuse slots " ++ (object_at set object).name ++ holder_text core task ++ line_feed
-line_text set (RefuseRecords core task pending spawns) = field (codes "refuse records ") pending ++ field (codes " ") spawns ++ holder_text core task ++ line_feed
+line_text set (Start core task at) = field (codes "start core ") core ++ field (codes " task ") task ++ field (codes " at ") at ++ line_feed
+line_text set (Stale core task lo hi) = field (codes "stale ") lo ++ field (codes " ") hi ++ field (codes " core ") core ++ field (codes " task ") task ++ line_feed
+line_text set (RefuseEmpty core task lo hi) = field (codes "refuse empty ") lo ++ field (codes " ") hi ++ field (codes " core ") core ++ field (codes " task ") task ++ line_feed
+line_text set (RefuseSlots core task object) = codes "refuse slots " ++ (object_at set object).name ++ field (codes " core ") core ++ field (codes " task ") task ++ line_feed
+line_text set (RefuseRecords core task pending spawns) = field (codes "refuse records ") pending ++ field (codes " ") spawns ++ field (codes " core ") core ++ field (codes " task ") task ++ line_feed
 line_text set (Finish e) = entry_text (codes "finish ") e
 line_text set (Found e) = entry_text (codes "found ") e
 line_text set Failed = codes "fail" ++ line_feed

@@ -1,3 +1,4 @@
 pub mod Set
 pub mod Unbuilt
 pub mod Stands
+pub mod LineText
