@@ -1,4 +1,6 @@
 pub mod Set
 pub mod Unbuilt
+pub mod Script
+pub mod Texts
 pub mod Stands
-pub mod LineText
+pub mod Tails

@@ -1,23 +1,28 @@
 -- Which states of the event machine the kernel of one core stands for.
-use Rattle.std.specs.Prelude.{◌≡◌, ℕ, ◌+◌, ◌≤◌, Bool, true, false, List, [], ◌∷◌, length, Option, Some, None}
+use Rattle.std.specs.Prelude.{◌≡◌, ℕ, zero, ◌+◌, ◌≤◌, ◌++◌, take, Bool, true, false, List, [], ◌∷◌, length, Option, Some, None}
 use Rattle.rv_core.specs.State.{MachineState, Calls}
 use Rattle.rv_core.specs.Machine.{IsPlace}
 use Rattle.rv_core.specs.declared.services.Service.{Service}
 use Rattle.nv_base.specs.declared.lines.Outcome.{Outcome}
 use Rattle.nv_base.specs.declared.lines.Outcome.TheVariants as outcome
 use Rattle.nv_base.specs.declared.lines.Line.{Line}
+use Rattle.nv_base.specs.declared.lines.Line.TheVariants as line
 use Rattle.kernel_model.specs.Effects.{Write}
 use Rattle.kernel_model.specs.Items.{Item}
 use Rattle.kernel_model.specs.Versions.{Read}
 use Rattle.kernel_model.specs.Cores.{Attempt, Core, Idle, Running, Copying, Ready, Committing, run_of}
 use Rattle.kernel_model.specs.Verdicts.{finish_of}
 use Rattle.kernel_model.specs.Turns.{Nothing, run_turn}
-use Rattle.kernel_model.specs.Events.{State, On, CoreStep, next}
+use Rattle.kernel_model.specs.Events.{State, Event, On, CoreStep, next}
+use Rattle.kernel_model.specs.Durable.{listed, state_left}
+use Rattle.kernel_model.specs.Report.{found_lines, unprinted}
 use Rattle.set_model.specs.Sets.{TaskSet}
 use Rattle.set_model.specs.Numbers.{sizes_of}
 use Rattle.set_model.specs.Formatted.{formatted}
 use Rattle.set_model.specs.Views.{outcome_of, line_of}
 use Rattle.task_model.specs.TaskSteps.{address_of, served, task_steps}
+use Rattle.report_text.specs.Report.{end_part, lines_text}
+use Rattle.headline.specs.Run.{after}
 use Rattle.sim_run.specs.Set.{set_with}
 use Rattle.sim_run.specs.declared.kernel.OneCore.{OneCore}
 use Rattle.sim_run.specs.declared.kernel.Phase.{Phase}
@@ -96,3 +101,31 @@ pub record IsSameTask (old new : OneCore) : Type 0 where
   pub value : new.value ≡ old.value
   pub code : new.code ≡ old.code
   pub argument : new.argument ≡ old.argument
+
+-- the kernel stands for the state after the first n events
+pub record Carries (set : TaskSet) (events : List Event) (k : OneCore) (n : ℕ) : Type 0 where
+  pub set_is : set_of k ≡ set
+  pub kept : IsKept k
+  pub m : MachineState
+  pub state : after set (take n events) ≡ state_in m k
+
+-- the text of all that comes after the last event
+abbrev pub tail_text : TaskSet → State MachineState → List ℕ
+tail_text set s = lines_text set (found_lines (unprinted s)) ++ end_part set (state_left (formatted set) (listed s)) s.boots
+
+-- the finish that is durable and not told, by how it ended
+abbrev pub found_in : Phase → Option Outcome
+found_in (phase.Committing outcome zero) = Some outcome
+found_in _ = None
+
+-- the finish that is durable
+abbrev pub durable_in : Phase → Option Outcome
+durable_in (phase.Finished outcome) = Some outcome
+durable_in p = found_in p
+
+-- no line but these comes from a kernel of one core and one task
+abbrev pub IsTold : Line → Type 0
+IsTold line.Nothing = Unit {0}
+IsTold (line.Start core task at) = Unit {0}
+IsTold (line.Finish entry) = Unit {0}
+IsTold _ = ⊥

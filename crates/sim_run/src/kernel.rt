@@ -1,7 +1,9 @@
 //! The event machine of one core with one task over one object of one word. A commit is counted by its turns.
 
+use crate::text_buffer::TextBuffer;
 use nv_base::{CoreId, Entry, Line, NoMemory, Outcome, Point, Seq, TaskId, TrapCause};
 use rv_core::{Machine, Service, Step};
+use smallest_script::SmallestScript;
 use std::alloc::Global;
 
 /// The memory of an attempt, in bytes.
@@ -41,15 +43,37 @@ pub struct OneCore {
 }
 
 impl OneCore {
-    ghost use Rattle.std.specs.Prelude.{◌≡◌, ◌≤◌, ◌<◌, ◌+◌, ℕ, true, false, length, IfOk, IfSome, IsSome, IsNone, OnOk, [], ◌∷◌};
+    ghost use Rattle.std.specs.Prelude.{◌≡◌, ◌≤◌, ◌<◌, ◌+◌, ℕ, true, false, length, IfOk, IfSome, IsSome, IsNone, OnOk, [], ◌∷◌, ◌++◌, unwrap_or};
     ghost use Rattle.std.specs.Result.{result_err};
     ghost use Rattle.rv_core.specs.Machine.{IsPlace, step_of};
     ghost use Rattle.task_model.specs.TaskSteps.{address_of, given_words, refusal};
     ghost use Rattle.rv_core.specs.declared.services.Service.TheVariants.{Read, Write};
     ghost use Rattle.kernel_model.specs.Items.{entry_of as listed_entry};
     ghost use Rattle.set_model.specs.Views.{entry_of};
-    ghost use Rattle.sim_run.specs.Stands.{IsKept, IsSameTask, Leads, Serves, core_in, item_of, set_of, write_of, writes_of};
+    ghost use Rattle.sim_run.specs.Stands.{Carries, IsKept, IsSameTask, IsTold, Leads, Serves, core_in, durable_in, found_in, item_of, set_of, state_in, tail_text, write_of, writes_of};
+    ghost use Rattle.rv_core.specs.State.{MachineState};
+    ghost use Rattle.smallest_script.specs.View.{smallest_of};
+    ghost use Rattle.sim_run.specs.Script.{events_in, set_in};
+    ghost use Rattle.sim_run.specs.Tails.{found_text, text_after, text_before};
+    ghost use Rattle.sim_run.specs.Texts.{text_in};
     ghost use Rattle.sim_run.specs.Unbuilt.{asks_for_task, is_unbuilt};
+
+    /// Takes the machine for the script's task.
+    pub fn new(alloc: Global, script: SmallestScript) -> Result<OneCore, NoMemory>
+        requires { length script.code.items ≤ 64 }
+        ensures { IfOk result (λ k. Carries (set_in (smallest_of script)) (events_in (smallest_of script)) k 0) }
+    {
+        let machine = Machine::new(alloc, MEMORY)?;
+        Ok(OneCore {
+            machine,
+            value: script.value,
+            code: script.code,
+            argument: script.argument,
+            read: false,
+            written: None,
+            phase: Phase::Idle,
+        })
+    }
 
     /// One step of the core, and the line that it prints. None where the step asks for a task.
     pub fn turn(&mut self) -> Option<Line>
@@ -57,6 +81,7 @@ impl OneCore {
         ensures kept { IsSome result → IsKept self.new }
         ensures same { IsSameTask self.old self.new }
         ensures leads { IfSome result (λ line. Leads self.old self.new line) }
+        ensures told { IfSome result IsTold }
         ensures built { IsSome result → is_unbuilt (core_in self.old.machine self.old self.old.phase) ≡ false }
         ensures unbuilt { IsNone result → is_unbuilt (core_in self.old.machine self.old self.old.phase) ≡ true }
     {
@@ -75,6 +100,7 @@ impl OneCore {
         requires idle { self.old.phase ≡ Phase.Idle }
         ensures kept { IsKept self.new }
         ensures same { IsSameTask self.old self.new }
+        ensures told { IsTold result }
         ensures leads { Leads self.old self.new result }
     {
         self.machine.load(self.code.as_slice(), self.argument, FUEL);
@@ -94,6 +120,7 @@ impl OneCore {
         ensures kept { IsSome result → IsKept self.new }
         ensures same { IsSameTask self.old self.new }
         ensures leads { IfSome result (λ line. Leads self.old self.new line) }
+        ensures told { IfSome result IsTold }
         ensures built { IsSome result → asks_for_task (step_of self.old.machine) ≡ false }
         ensures unbuilt { IsNone result → asks_for_task (step_of self.old.machine) ≡ true }
     {
@@ -193,6 +220,7 @@ impl OneCore {
         requires copying { self.old.phase ≡ Phase.Copying at }
         ensures kept { IsKept self.new }
         ensures same { IsSameTask self.old self.new }
+        ensures told { IsTold result }
         ensures leads { Leads self.old self.new result }
     {
         self.give(at, self.value)
@@ -204,6 +232,7 @@ impl OneCore {
         requires ready { self.old.phase ≡ Phase.Ready outcome }
         ensures kept { IsKept self.new }
         ensures same { IsSameTask self.old self.new }
+        ensures told { IsTold result }
         ensures leads { Leads self.old self.new result }
     {
         self.phase = Phase::Committing(outcome, self.words_kept(outcome) + INDEX_WRITES);
@@ -240,6 +269,7 @@ impl OneCore {
         requires committing { self.old.phase ≡ Phase.Committing outcome left }
         ensures kept { IsKept self.new }
         ensures same { IsSameTask self.old self.new }
+        ensures told { IsTold result }
         ensures leads { Leads self.old self.new result }
     {
         if left > 0 {
@@ -248,5 +278,78 @@ impl OneCore {
         }
         self.phase = Phase::Finished(outcome);
         Line::Finish(self.entry(outcome))
+    }
+
+    /// The finish that is durable and that no line has told.
+    fn found(&self) -> Option<Outcome>
+        ensures { result ≡ found_in self.now.phase }
+    {
+        match self.phase {
+            Phase::Committing(outcome, 0) => Some(outcome),
+            _ => None,
+        }
+    }
+
+    /// The finish that is durable.
+    fn durable(&self) -> Option<Outcome>
+        ensures { result ≡ durable_in self.now.phase }
+    {
+        match self.phase {
+            Phase::Finished(outcome) => Some(outcome),
+            _ => self.found(),
+        }
+    }
+
+    /// What comes after the last event: a finish that is found, and the state that is read back.
+    pub fn put_tail(&self, text: &mut TextBuffer)
+        requires { text_in text.old ≡ [] }
+        ensures { (m : MachineState) → text_in text.new ≡ tail_text (set_of self.now) (state_in m self.now) }
+    {
+        self.put_found(text);
+        match self.durable() {
+            Some(outcome) => self.put_after(text, outcome),
+            None => self.put_before(text),
+        }
+    }
+
+    fn put_found(&self, text: &mut TextBuffer)
+        requires { text_in text.old ≡ [] }
+        ensures text { text_in text.new ≡ found_text (self.now) }
+        ensures len { length (text_in text.new) ≤ 200 }
+    {
+        if let Some(outcome) = self.found() {
+            text.put_entry(b"found ", &self.entry(outcome));
+        }
+    }
+
+    /// The state before the task has finished.
+    fn put_before(&self, text: &mut TextBuffer)
+        requires { length (text_in text.old) ≤ 200 }
+        ensures { text_in text.new ≡ text_in text.old ++ text_before self.now }
+    {
+        text.put_end(0, 0, 2, 0);
+        text.put_object(self.value);
+        text.put_open(TaskId(1), self.argument);
+        text.put(b"done\n");
+    }
+
+    /// The state after the task has finished with this outcome.
+    fn put_after(&self, text: &mut TextBuffer, outcome: Outcome)
+        requires { length (text_in text.old) ≤ 200 }
+        ensures { text_in text.new ≡ text_in text.old ++ text_after self.now outcome }
+    {
+        text.put_end(self.words_kept(outcome), 1, 2, 0);
+        text.put_object(self.word_after(outcome));
+        text.put(b"done\n");
+    }
+
+    /// The object's word after a finish with this outcome.
+    fn word_after(&self, outcome: Outcome) -> u32
+        ensures { result ≡ unwrap_or (write_of outcome self.now.written) self.now.value }
+    {
+        match (outcome, self.written) {
+            (Outcome::Exit(_), Some(word)) => word,
+            _ => self.value,
+        }
     }
 }

@@ -2,4 +2,4 @@
 #![tactic(auto)]
 
 mod kernel;
-mod line_buffer;
+mod text_buffer;

@@ -1,10 +1,10 @@
--- The line in a buffer, and the lines of the smallest form of script.
+-- The text in a buffer, and the lines of the smallest form of script.
 use Rattle.std.specs.Prelude.{ℕ, List, ◌++◌, codes}
 use Rattle.report_text.specs.Lines.{field, line_feed}
-use Rattle.sim_run.specs.declared.line_buffer.LineBuffer.{LineBuffer}
+use Rattle.sim_run.specs.declared.text_buffer.TextBuffer.{TextBuffer}
 
-abbrev pub line_in : LineBuffer → List ℕ
-line_in b = b.bytes.items
+abbrev pub text_in : TextBuffer → List ℕ
+text_in b = b.bytes.items
 
 abbrev pub start_text : ℕ → ℕ → ℕ → List ℕ
 start_text core task at = field (codes "start core ") core ++ field (codes " task ") task ++ field (codes " at ") at ++ line_feed

@@ -1,4 +1,4 @@
-use Rattle.sim_run.proofs.line_buffer.LineBuffer.+put_digits.Given as goal
+use Rattle.sim_run.proofs.text_buffer.TextBuffer.+put_digits.Given as goal
 
 abbrev pub decreases-put_digits : goal.decreases-put_digits
 decreases-put_digits l = l.n
