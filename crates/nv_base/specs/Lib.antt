@@ -2,3 +2,4 @@ pub mod Causes
 pub mod Bits
 pub mod WordBack
 pub mod Streams
+pub mod Room

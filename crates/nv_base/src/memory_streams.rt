@@ -73,10 +73,13 @@ pub struct MemSink {
 }
 
 impl MemSink {
+    ghost use Rattle.nv_base.specs.Room.{room_of};
+
     /// An empty sink with room for this many bytes. The calls of `put` that `fails` lists, counted
     /// from 1, fail, and so does each call on a full sink. `NoMemory` where the room or the list
     /// could not be made.
     pub fn new(alloc: Global, room: usize, fails: &[u32]) -> Result<MemSink, NoMemory>
+        ensures room { IfOk result (λ s. room_of s ≡ room) }
         ensures taken { IfOk result (λ s. ⟦<MemSink as Sink>⟧.taken s ≡ Some []) }
         ensures faults { IfOk result (λ s. ⟦<MemSink as Sink>⟧.faults s ≡ 0) }
     {
