@@ -1,3 +1,4 @@
 pub mod Turns
 pub mod Services
 pub mod Decimals
+pub mod TailTexts

@@ -4,3 +4,5 @@ pub mod Script
 pub mod Texts
 pub mod Stands
 pub mod Tails
+pub mod Exits
+pub mod Puts

@@ -2,4 +2,8 @@
 #![tactic(auto)]
 
 mod kernel;
+mod run;
+mod status;
 mod text_buffer;
+
+pub use status::Status;
