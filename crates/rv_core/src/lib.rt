@@ -9,6 +9,9 @@ mod machine;
 mod operations;
 mod services;
 
+#[cfg(test)]
+mod tests;
+
 pub use machine::Machine;
 pub use services::{Service, Step};
 
