@@ -3,7 +3,7 @@
 use super::*;
 use nv_base::TrapCause;
 
-// The words of the worked example, which counts down from its argument and exits by 121.
+// The words of the worked example, which exits by its argument and 21.
 const CODE: [u32; 12] = [
     5243539, 7340819, 6456243, 544219171, 536880131, 8651955, 4292117651, 4270927395, 4290850307,
     11404595, 4196499, 115,
