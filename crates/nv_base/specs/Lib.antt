@@ -1,1 +1,5 @@
 pub mod Causes
+pub mod Bits
+pub mod WordBack
+pub mod Streams
+pub mod Room

@@ -5,9 +5,22 @@
 mod causes;
 mod lines;
 mod memory;
+mod memory_streams;
 mod names;
+mod sets;
+mod std_streams;
+mod streams;
+mod whole;
 
 pub use causes::TrapCause;
 pub use lines::{Entry, Line, Outcome, Spawn, TaskRec};
 pub use memory::NoMemory;
+pub use memory_streams::{MemSink, MemSource};
 pub use names::{CoreId, ObjId, Point, ProgId, Seq, TaskId};
+pub use sets::Set64;
+pub use std_streams::{StdSink, StdSource};
+pub use streams::{Sink, SinkFailed, Source, SourceFailed};
+pub use whole::{ReadRefusal, WriteFault, put_all, read_all};
+
+#[cfg(test)]
+mod tests;
