@@ -8,12 +8,13 @@ mod bytes;
 mod machine;
 mod operations;
 mod services;
+#[cfg(test)]
+mod tests;
 
 pub use machine::Machine;
 pub use services::{Service, Step};
 
-/// A program of 12 instructions, followed by computation: its steps end by the exit that was worked out
-/// by hand.
+/// A program of 12 instructions, followed by computation: it ends by the exit that was worked out by hand.
 pub fn worked()
     ensures { Ends }
 {}

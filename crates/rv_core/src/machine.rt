@@ -44,7 +44,8 @@ impl Model for Machine {
 
     ghost use Rattle.rv_core.specs.Bytes.{IsZeroFrom};
 
-    ghost invariant = { λ m. (length m.memory.items ≤ 65536) × (slice_index m.registers 0 ≡ 0) × (m.used ≤ length m.memory.items) × IsZeroFrom m.used m.memory.items };
+    ghost invariant = { λ m. (length m.memory.items ≤ 65536) × (slice_index m.registers 0 ≡ 0)
+        × (m.used ≤ length m.memory.items) × IsZeroFrom m.used m.memory.items };
 }
 
 impl Machine {
@@ -247,7 +248,8 @@ impl Machine {
     fn jump(&mut self, rd: Reg, target: u32) -> Step
         requires fits { rd.0 < 32 }
         requires next { self.old.pc + 4 < 2 ^ 32 }
-        ensures exact { jumps self.old target (with_register self.old rd.0 (self.old.pc + 4)) ≡ answer result self.new }
+        ensures exact { let linked = with_register self.old rd.0 (self.old.pc + 4) in
+            jumps self.old target linked ≡ answer result self.new }
         ensures stays { IsCall result → self.new.pc ≡ self.old.pc }
         ensures kept { Keeps self.old self.new }
     {
@@ -304,7 +306,8 @@ impl Machine {
         requires base { rs1.0 < 32 }
         requires source { rs2.0 < 32 }
         requires next { self.old.pc + 4 < 2 ^ 32 }
-        ensures exact { stores self.old op (sum_of self.old rs1 imm) (register self.old rs2.0) ≡ answer result self.new }
+        ensures exact { stores self.old op (sum_of self.old rs1 imm) (register self.old rs2.0)
+            ≡ answer result self.new }
         ensures stays { IsCall result → self.new.pc ≡ self.old.pc }
         ensures kept { Keeps self.old self.new }
     {
@@ -333,7 +336,8 @@ impl Machine {
     }
 
     fn service(&self) -> Step
-        ensures { calls self.now (register self.now 17) (register self.now 10) (register self.now 11) ≡ answer result self.now }
+        ensures { calls self.now (register self.now 17) (register self.now 10) (register self.now 11)
+            ≡ answer result self.now }
     {
         let first = self.registers[10];
         let second = self.registers[11];

@@ -45,7 +45,8 @@ pub fn read_in(op: LoadOp, memory: &[u8], at: usize) -> u32
 pub fn put_in(op: StoreOp, memory: &mut [u8], at: usize, word: u32)
     requires { at + store_size op ≤ length memory.old }
     ensures exact { memory.new ≡ put_at op memory.old at word }
-    ensures zeros { (used : ℕ) → IsZeroFrom used memory.old → IsZeroFrom (max used (at + store_size op)) memory.new }
+    ensures zeros { (used : ℕ) → IsZeroFrom used memory.old
+        → IsZeroFrom (max used (at + store_size op)) memory.new }
 {
     match op {
         StoreOp::Sb => memory[at] = (word % 256) as u8,

@@ -5,6 +5,8 @@ mod decoding;
 mod encoding;
 mod fields;
 mod instruction;
+#[cfg(test)]
+mod tests;
 
 pub use decoding::decode;
 pub use encoding::encode;

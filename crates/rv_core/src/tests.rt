@@ -1,0 +1,43 @@
+// One run from the first instruction to the exit, and words put into memory and read back.
+
+use super::*;
+use nv_base::TrapCause;
+
+// The words of the worked example, which exits by its argument and 21.
+const CODE: [u32; 12] = [
+    5243539, 7340819, 6456243, 544219171, 536880131, 8651955, 4292117651, 4270927395, 4290850307,
+    11404595, 4196499, 115,
+];
+
+#[test]
+fn runs_to_the_exit(rt: HostRuntime) {
+    let Ok(mut machine) = Machine::new(rt.alloc(), 1024) else {
+        panic!(rt; "no memory");
+    };
+    machine.load(&CODE, 100, 12);
+    for _ in 0..11 {
+        assert!(rt; machine.step() == Step::Went);
+    }
+    assert!(rt; machine.step() == Step::Call(Service::Finish { code: 121 }));
+    assert!(rt; machine.step() == Step::Trap(TrapCause::Fuel));
+}
+
+#[test]
+fn reads_back_what_was_put(rt: HostRuntime) {
+    let Ok(mut machine) = Machine::new(rt.alloc(), 1024) else {
+        panic!(rt; "no memory");
+    };
+    let mut words = [0; 2];
+    match machine.fits(1016, 2) {
+        Ok(()) => machine.copy_out(1016, &mut words),
+        Err(_) => panic!(rt; "two words do not fit"),
+    }
+    match machine.fits(1020, 1) {
+        Ok(()) => machine.copy_in(1020, 0x01020304),
+        Err(_) => panic!(rt; "one word does not fit"),
+    }
+    machine.copy_out(1016, &mut words);
+    assert_eq!(rt; words[1], 0x01020304);
+    assert!(rt; machine.fits(1018, 1) == Err(TrapCause::CallAlign));
+    assert!(rt; machine.fits(1020, 2) == Err(TrapCause::CallRange));
+}
