@@ -1,0 +1,28 @@
+-- What a sink took, piece by piece.
+use Rattle.std.proofs.Common.{◌≡◌, ℕ, ◌+◌, ◌≤◌, List, [], ◌∷◌, ◌++◌, length, take, Option, Some, None, refl, ap, sym, ◌∙◌, subst, append_assoc, length-append, arith}
+use Rattle.std.proofs.lemmas.List.{take-append-le}
+use Rattle.std.proofs.Math.Seq.{take-append-add}
+use Rattle.nv_base.specs.Streams.{PutFront, grown}
+
+pub grown_nothing : (o : Option (List ℕ)) → o ≡ grown o []
+grown_nothing None = refl
+grown_nothing (Some x) = ap (λ y. Some y) (sym (append-empty x))
+  where
+    append-empty : (xs : List ℕ) → xs ++ [] ≡ xs
+    append-empty [] = refl
+    append-empty (y ∷ ys) = ap (λ zs. y ∷ zs) (append-empty ys)
+
+pub grown_twice : (o : Option (List ℕ)) (a b : List ℕ) → grown (grown o a) b ≡ grown o (a ++ b)
+grown_twice None a b = refl
+grown_twice (Some x) a b = ap (λ y. Some y) (append_assoc x a b)
+
+pub put_more : (o p q : Option (List ℕ)) (a b : List ℕ) → p ≡ grown o a → q ≡ grown p b → q ≡ grown o (a ++ b)
+put_more o p q a b e f = f ∙ ap (λ x. grown x b) e ∙ grown_twice o a b
+
+-- a front of the next piece is a front of the whole
+pub front_later : (o p q : Option (List ℕ)) (a b rest whole : List ℕ) → whole ≡ (a ++ b) ++ rest → p ≡ grown o a → PutFront p q b → PutFront o q whole
+front_later o p q a b rest whole e f h =
+    let n : ℕ = h.0 in
+    let t : take (length a + n) ((a ++ b) ++ rest) ≡ a ++ take n b =
+        ap (take (length a + n)) (append_assoc a b rest) ∙ take-append-add a (b ++ rest) n ∙ ap (λ x. a ++ x) (take-append-le n b rest h.1) in
+    (length a + n, rw e (rw (length-append (a ++ b) rest, length-append a b) (omega (arith, h.1))), put_more o p q a (take n b) f h.2 ∙ ap (grown o) (sym t) ∙ ap (λ w. grown o (take (length a + n) w)) (sym e))
