@@ -5,7 +5,7 @@ use Rattle.std.specs.List.{AllByRecursion, All, flat_map}
 use Rattle.std.specs.Str.Parse.{digits_value}
 use Rattle.std.proofs.lemmas.List.Elements.{All-from_recursion}
 use Rattle.smallest_script.specs.Form.{Smallest, IsSmallest, IsWord, IsLine, IsCode, spaced}
-use Rattle.smallest_script.specs.Parts.{text_of_lines, head, StartsWithCode}
+use Rattle.smallest_script.specs.Parts.{text_of_lines, head}
 use Rattle.smallest_script.proofs.Lists.{each_append}
 use Rattle.smallest_script.proofs.Digits.{word_small}
 use Rattle.smallest_script.proofs.LineOfWords.{length-spaced}

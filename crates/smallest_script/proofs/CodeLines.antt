@@ -1,12 +1,12 @@
 -- The lines of the code, read from the front.
-use Rattle.std.proofs.Common.{◌≡◌, ◌⊎◌, ℕ, ◌+◌, ◌*◌, ◌%◌, ◌^◌, ◌≤◌, ◌<◌, Bool, true, false, List, [], ◌∷◌, ◌++◌, length, map, refl, sym, ◌∙◌, ap, subst, arith, inl, inr, codes, append_assoc, length-append}
+use Rattle.std.proofs.Common.{◌≡◌, ◌⊎◌, ℕ, ◌+◌, ◌%◌, ◌^◌, ◌≤◌, true, false, List, [], ◌∷◌, ◌++◌, length, map, refl, sym, ◌∙◌, ap, subst, arith, inl, inr, codes, append_assoc, length-append}
 use Rattle.std.specs.List.{AllByRecursion, flat_map}
 use Rattle.std.specs.Str.Parse.{digits_value}
 use Rattle.std.proofs.lemmas.Grind.{flat_map-append}
 use Rattle.std.proofs.lemmas.List.{append-nil, append_cancel_left}
-use Rattle.smallest_script.specs.Form.{IsLine, IsCode, spaced}
+use Rattle.smallest_script.specs.Form.{IsLine, spaced}
 use Rattle.smallest_script.specs.Parts.{is_line, words_of, text_of_lines, IsOneLine, StartsWithLine, StartsWithCode}
-use Rattle.smallest_script.proofs.Lists.{each_append, line_unique, same_line}
+use Rattle.smallest_script.proofs.Lists.{each_append, line_unique}
 use Rattle.smallest_script.proofs.LineOfWords.{spaced_words_of, line_from_test, test_from_line, values_of_words, spaced_is_one_line, spaced_unique, length-spaced}
 
 -- so many lines have been read, with these words, and this is left
@@ -137,9 +137,9 @@ line_goes_on read code text behind rest line left words last e h l not_end bad k
     elim (next h.done k.lines rest line left last more l) [
       | ends a is b ↦ absurd (not_end is)
       | goes_on some is c ↦ elim bad [
-          | inl full ↦ omega (arith, some, counted, few, many)
-          | inr wrong ↦ let clash : true ≡ false = sym is ∙ wrong in absurd cc
-        ]
+        | inl full ↦ omega (arith, some, counted, few, many)
+        | inr wrong ↦ let clash : true ≡ false = sym is ∙ wrong in absurd cc
+      ]
     ]
 
 -- there are at most 8 lines of words

@@ -1,5 +1,5 @@
 -- A literal and a number behind it.
-use Rattle.std.proofs.Common.{◌≡◌, ℕ, ◌≤◌, List, [], ◌∷◌, ◌++◌, refl, sym, ◌∙◌, ap, arith}
+use Rattle.std.proofs.Common.{◌≡◌, ℕ, ◌≤◌, List, ◌∷◌, ◌++◌, sym, ◌∙◌, ap}
 use Rattle.std.proofs.lemmas.List.{append_cancel_left}
 use Rattle.smallest_script.specs.Form.{IsNumber}
 use Rattle.smallest_script.specs.Parts.{StartsWithLine, StartsWithField}

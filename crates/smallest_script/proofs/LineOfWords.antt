@@ -1,6 +1,6 @@
 -- A line as its words.
-use Rattle.std.proofs.Common.{◌≡◌, ℕ, zero, suc, ◌+◌, ◌*◌, ◌^◌, ◌≤◌, ◌<◌, ◌%◌, Bool, true, false, List, [], ◌∷◌, ◌++◌, ◌&&◌, length, map, ltb, leb, eqb, refl, sym, ◌∙◌, ap, lit<, arith, inl, inr, append_assoc, length-append}
-use Rattle.std.specs.List.{AllByRecursion, list_all, slice_split, flat_map, join_with_byte, All}
+use Rattle.std.proofs.Common.{◌≡◌, ℕ, ◌+◌, ◌*◌, ◌^◌, ◌≤◌, ◌%◌, Bool, true, false, List, [], ◌∷◌, ◌++◌, length, map, leb, eqb, refl, sym, ◌∙◌, ap, arith, length-append}
+use Rattle.std.specs.List.{AllByRecursion, list_all, flat_map, join_with_byte, All}
 use Rattle.std.specs.Str.Parse.{digits_value}
 use Rattle.std.proofs.lemmas.Bool.{leb-true, le-leb, and_parts, and_from}
 use Rattle.std.proofs.lemmas.List.{append-nil}

@@ -1,8 +1,8 @@
 -- Lists cut at their first line feed.
-use Rattle.std.proofs.Common.{◌≡◌, ℕ, ◌+◌, ◌<◌, ◌≤◌, suc, Bool, true, false, List, [], ◌∷◌, ◌++◌, length, take, drop, get_or, ltb, eqb, refl, ap, arith, inl, inr, Some, None, length-take, length-append, get_or-take}
+use Rattle.std.proofs.Common.{◌≡◌, ℕ, ◌+◌, ◌<◌, ◌≤◌, Bool, true, false, List, [], ◌∷◌, ◌++◌, length, take, drop, get_or, ltb, eqb, refl, ap, arith, inl, inr, Some, None, length-take, length-append, get_or-take}
 use Rattle.std.specs.List.{AllByRecursion, list_all, position, position_or_len}
-use Rattle.std.proofs.lemmas.Bool.{ltb-true, lt-ltb, eqb-true, cases_lt, and_parts, and_from}
-use Rattle.std.proofs.lemmas.List.{append_cancel_left, get_or-append_right}
+use Rattle.std.proofs.lemmas.Bool.{ltb-true, eqb-true, cases_lt, and_parts, and_from}
+use Rattle.std.proofs.lemmas.List.{get_or-append_right}
 use Rattle.std.proofs.lemmas.List.Elements.{All-from_get_or, recursion_from_All}
 use Rattle.std.proofs.lemmas.List.Sums.{fails_before_first, passes_at_first, split_at_first}
 use Rattle.std.proofs.lemmas.Option.{cond_some}
@@ -64,8 +64,8 @@ before_is_one_line : (text : List ℕ) (i : ℕ) → position_or_len is_feed tex
 before_is_one_line text i e lt =
     recursion_from_All (λ b. eqb b 10 ≡ false) (take i text)
     (All-from_get_or (λ b. eqb b 10 ≡ false) (take i text) 0 (λ k within.
-        let below : k < i = omega (arith, length-take i text) in
-        rw (get_or-take i text k 0 below) (fails_before_first is_feed text k 0 (omega (arith, e)))))
+    let below : k < i = omega (arith, length-take i text) in
+    rw (get_or-take i text k 0 below) (fails_before_first is_feed text k 0 (omega (arith, e)))))
 
 -- a line feed ends the first line
 pub line_found : (text : List ℕ) (i : ℕ) → position is_feed text ≡ Some i → StartsWithLine (take i text) text (drop (i + 1) text)

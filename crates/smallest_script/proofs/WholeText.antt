@@ -1,10 +1,8 @@
 -- The whole text, as its parts.
-use Rattle.std.proofs.Common.{◌≡◌, ℕ, ◌+◌, ◌*◌, ◌^◌, ◌≤◌, ◌<◌, List, [], ◌∷◌, ◌++◌, length, map, refl, sym, ◌∙◌, ap, arith, codes, append_assoc, length-append}
-use Rattle.std.specs.List.{AllByRecursion, All, flat_map}
-use Rattle.std.specs.Str.Parse.{digits_value}
+use Rattle.std.proofs.Common.{◌≡◌, ℕ, List, [], ◌∷◌, ◌++◌, map, refl, sym, ◌∙◌, arith, codes, append_assoc}
 use Rattle.std.proofs.lemmas.Grind.{flat_map-append}
 use Rattle.std.proofs.lemmas.List.Folds.{flat_map-map}
-use Rattle.smallest_script.specs.Form.{Smallest, Written, IsSmallest, spaced, lines_of, text_of}
+use Rattle.smallest_script.specs.Form.{Smallest, Written, IsSmallest, spaced, text_of}
 use Rattle.smallest_script.specs.Parts.{text_of_lines, head, StartsWithField, StartsWithCode, IsEnd}
 use Rattle.smallest_script.proofs.Fields.{same_field}
 use Rattle.smallest_script.proofs.CodeLines.{same_code}

@@ -15,7 +15,7 @@ is_word word = (length word == 8) && list_all is_hexadecimal word
 abbrev pub words_of : List ℕ → List (List ℕ)
 words_of line = slice_split (λ b. b == 32) line
 
--- 1 to 8 words with one space between them, as a test
+-- 1 to 8 words with one space between them, as a test: 8 words and 7 spaces are 71 bytes
 abbrev pub is_line : List ℕ → Bool
 is_line line = nat_le (length line) 71 && list_all is_word (words_of line)
 

@@ -12,10 +12,7 @@ const MOST_LINES: u32 = 8;
 
 /// Adds the words of the code with which the text begins, and gives what stands behind it. None
 /// where the text begins with no code.
-pub fn take_code<'a>(
-    text: &'a [u8],
-    code: &mut Vec<u32>,
-) -> Result<Option<&'a [u8]>, AllocError>
+pub fn take_code<'a>(text: &'a [u8], code: &mut Vec<u32>) -> Result<Option<&'a [u8]>, AllocError>
     requires { code.old.items ≡ [] }
     ensures found { IfOk result (λ r. IfSome r (λ rest. StartsWithCode code.new.items text.now rest.now)) }
     ensures none { IfOk result (λ r. IfNone r ((words rest : List ℕ) → StartsWithCode words text.now rest → ⊥)) }
@@ -23,6 +20,7 @@ pub fn take_code<'a>(
     let Some(mut rest) = behind(b"code add 100\n", text) else {
         return Ok(None);
     };
+    // One turn more than there may be lines: the last can find nothing but the end.
     for read in 0..=MOST_LINES {
         let Some((line, left)) = first_line(rest) else {
             return Ok(None);

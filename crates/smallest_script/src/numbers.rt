@@ -1,4 +1,4 @@
-// Decimal numbers.
+// Digits, and decimal numbers.
 
 ghost use Rattle.std.specs.Prelude.{◌≡◌, ℕ, ◌≤◌, ◌==◌, ◌&&◌, not, nat_le, length, IfSome, IfNone};
 ghost use Rattle.std.specs.Char.{digit_value as value_of_digit};

@@ -2,7 +2,8 @@ use super::*;
 use std::alloc::{AllocError, Global};
 use std::test::Fail;
 
-const WORKED: &[u8] = b"nvk 1\ncores 1\nmemory 1024\nrecords 1\nobject x 1 2 5\ncode add 100\n00050413 00000513 20000593 00100893\n00000073 20002283 008282b3 20502023\n00200893 00000073 00400893 00000073\nend\ntask add 7\nsteps 0*40\nrun\n";
+const WORKED: &[u8] =
+    b"nvk 1\ncores 1\nmemory 1024\nrecords 1\nobject x 1 2 5\ncode add 100\n00050413 00000513 20000593 00100893\n00000073 20002283 008282b3 20502023\n00200893 00000073 00400893 00000073\nend\ntask add 7\nsteps 0*40\nrun\n";
 
 const WORD: &str = "00050413\n";
 
@@ -14,7 +15,9 @@ fn text(
     argument: &str,
     steps: &str,
 ) -> Result<String, AllocError> {
-    format!(in alloc; "nvk 1\ncores 1\nmemory 1024\nrecords 1\nobject x 1 2 {value}\ncode add 100\n{code}end\ntask add {argument}\nsteps 0*{steps}\nrun\n")
+    format!(in alloc;
+        "nvk 1\ncores 1\nmemory 1024\nrecords 1\nobject x 1 2 {value}\ncode add 100\n{code}end\ntask add {argument}\nsteps 0*{steps}\nrun\n"
+    )
 }
 
 /// Whether the bytes are read as a script.
@@ -58,8 +61,10 @@ fn bounds_are_found(rt: HostRuntime) -> Result<(), Fail> {
 
 #[test]
 fn near_misses_are_none(rt: HostRuntime) -> Result<(), Fail> {
-    let nine_words = "00000000 00000000 00000000 00000000 00000000 00000000 00000000 00000000 00000000\n";
-    let nine_lines = "00000000\n00000000\n00000000\n00000000\n00000000\n00000000\n00000000\n00000000\n00000000\n";
+    let nine_words =
+        "00000000 00000000 00000000 00000000 00000000 00000000 00000000 00000000 00000000\n";
+    let nine_lines =
+        "00000000\n00000000\n00000000\n00000000\n00000000\n00000000\n00000000\n00000000\n00000000\n";
     for (value, code, argument, steps) in [
         ("", WORD, "7", "40"),
         ("00000000005", WORD, "7", "40"),

@@ -18,8 +18,8 @@ returns-then-eq-clause-none c =
     elim c.if-read-eq0.branch [
       | then-read-eq0 w ↦
           rw w.result-is (λ words rest h.
-              some_line_is_read c.loop-read.read c.loop-read.code.items c.args.text.now c.in-Some.rest.now c.loop-read.rest.now c.in-Some-first_line.line.now c.in-Some-first_line.left.now words rest
-              c.in-Some.ensures c.loop-read.invariant w.if-read-eq0.true c.in-Some-first_line.ensures.found is h)
+          some_line_is_read c.loop-read.read c.loop-read.code.items c.args.text.now c.in-Some.rest.now c.loop-read.rest.now c.in-Some-first_line.line.now c.in-Some-first_line.left.now words rest
+          c.in-Some.ensures c.loop-read.invariant w.if-read-eq0.true c.in-Some-first_line.ensures.found is h)
       | else-read-eq0 w ↦ rw w.result-is tt
     ]
 

@@ -1,6 +1,4 @@
-use Rattle.std.proofs.Common.{◌≡◌, true, take, rules, arith}
-use Rattle.std.specs.Str.Parse.{digits_value}
-use Rattle.std.proofs.lemmas.List.{take_all}
+use Rattle.std.proofs.Common.{◌≡◌, true, arith}
 use Rattle.smallest_script.specs.Parts.{is_number}
 use Rattle.smallest_script.proofs.Digits.{digit_more, number_read, test_from_number}
 use Rattle.smallest_script.proofs.numbers.number.Goals as goal

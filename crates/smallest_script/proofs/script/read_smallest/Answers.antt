@@ -1,5 +1,3 @@
-use Rattle.std.proofs.Common.{sym}
-use Rattle.smallest_script.specs.View.{smallest_of}
 use Rattle.smallest_script.proofs.WholeText.{no_value, no_code, no_end, whole, same_script}
 use Rattle.smallest_script.proofs.Bounds.{words_are_words, some_words, few_words}
 use Rattle.smallest_script.proofs.script.read_smallest.Goals as goal

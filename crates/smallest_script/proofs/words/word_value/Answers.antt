@@ -1,4 +1,3 @@
-use Rattle.std.proofs.Common.{arith}
 use Rattle.smallest_script.proofs.Digits.{word_more}
 use Rattle.smallest_script.proofs.words.word_value.Goals as goal
 
