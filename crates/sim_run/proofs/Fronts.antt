@@ -1,8 +1,8 @@
 -- What a sink took, piece by piece.
-use Rattle.std.proofs.Common.{◌≡◌, ℕ, ◌+◌, ◌≤◌, List, [], ◌∷◌, ◌++◌, length, take, Option, Some, None, refl, ap, sym, ◌∙◌, subst, append_assoc, length-append, arith}
+use Rattle.std.proofs.Common.{◌≡◌, ℕ, ◌+◌, ◌≤◌, List, [], ◌∷◌, ◌++◌, length, take, Option, Some, None, refl, ap, sym, ◌∙◌, subst, append_assoc, length-append, inl, inr, arith}
 use Rattle.std.proofs.lemmas.List.{take-append-le}
 use Rattle.std.proofs.Math.Seq.{take-append-add}
-use Rattle.nv_base.specs.Streams.{PutFront, grown}
+use Rattle.nv_base.specs.Streams.{PutFront, Rose, grown}
 
 pub grown_nothing : (o : Option (List ℕ)) → o ≡ grown o []
 grown_nothing None = refl
@@ -26,3 +26,7 @@ front_later o p q a b rest whole e f h =
     let t : take (length a + n) ((a ++ b) ++ rest) ≡ a ++ take n b =
         ap (take (length a + n)) (append_assoc a b rest) ∙ take-append-add a (b ++ rest) n ∙ ap (λ x. a ++ x) (take-append-le n b rest h.1) in
     (length a + n, rw e (rw (length-append (a ++ b) rest, length-append a b) (omega (arith, h.1))), put_more o p q a (take n b) f h.2 ∙ ap (grown o) (sym t) ∙ ap (λ w. grown o (take (length a + n) w)) (sym e))
+
+-- a count that rose at last rose in all
+pub rose_later : (a b c : ℕ) → a ≤ b → Rose b c → Rose a c
+rose_later a b c l h = (omega (arith, h.0), elim h.1 [ inl x ↦ inl (omega arith) | inr e ↦ inr e ])
