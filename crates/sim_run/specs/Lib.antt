@@ -6,3 +6,5 @@ pub mod Stands
 pub mod Tails
 pub mod Exits
 pub mod Puts
+pub mod Answers
+pub mod Input

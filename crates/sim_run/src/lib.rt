@@ -1,6 +1,7 @@
 //! The simulator: it carries a run from the bytes that come in to the bytes that go out.
 #![tactic(auto)]
 
+mod input;
 mod kernel;
 mod run;
 mod status;
