@@ -8,3 +8,5 @@ pub mod Exits
 pub mod Puts
 pub mod Answers
 pub mod Input
+pub mod Words
+pub mod Carried

@@ -1,10 +1,12 @@
 //! The simulator: it carries a run from the bytes that come in to the bytes that go out.
 #![tactic(auto)]
 
+mod call;
 mod input;
 mod kernel;
 mod run;
 mod status;
 mod text_buffer;
 
+pub use call::simulate;
 pub use status::Status;
