@@ -1,2 +1,6 @@
 pub mod StepFacts
 pub mod MachineFacts
+pub mod WriteFacts
+pub mod Shapes
+pub mod Services
+pub mod Ends

@@ -1,1 +1,4 @@
 pub mod TaskSteps
+pub mod OneProgram
+pub mod Progress
+pub mod WholeRun
