@@ -4,3 +4,4 @@ pub mod WriteFacts
 pub mod Shapes
 pub mod Services
 pub mod Ends
+pub mod Rests
