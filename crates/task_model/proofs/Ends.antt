@@ -5,7 +5,7 @@ use Rattle.nv_base.specs.declared.lines.Outcome.TheVariants as outcome
 use Rattle.nv_base.specs.declared.lines.Outcome.{Outcome}
 use Rattle.kernel_model.specs.Effects.{Effects, Objects, ended}
 use Rattle.set_model.specs.Sets.{TaskSet}
-use Rattle.set_model.specs.Views.{outcome_of, spawn_of, trap_of}
+use Rattle.set_model.specs.Views.{outcome_of, spawn_of}
 use Rattle.task_model.specs.Progress.{Stands}
 use Rattle.task_model.specs.WholeRun.{IsWholeRun}
 use Rattle.task_model.specs.declared.progress.Progress.{Progress}

@@ -1,5 +1,5 @@
 -- What is left of a run from here is what was left of it at first.
-use Rattle.std.proofs.Common.{◌≡◌, ℕ, zero, suc, ◌+◌, ◌-◌, ◌<◌, ◌≤◌, true, List, [], ◌∷◌, length, map, cond, Some, None, refl, sym, ap, subst, ◌∙◌, arith}
+use Rattle.std.proofs.Common.{◌≡◌, ℕ, zero, suc, ◌+◌, ◌-◌, ◌<◌, ◌≤◌, List, [], length, map, cond, Some, None, sym, ap, subst, ◌∙◌, arith}
 use Rattle.std.proofs.lemmas.Bool.{le-leb}
 use Rattle.object_sets.specs.ObjectSets.{IsIncreasing}
 use Rattle.nv_base.specs.declared.causes.TrapCause.TheVariants as cause
@@ -45,7 +45,7 @@ begins set objects program arg n p m h f v r w s is e = record {
       let start : MachineState = first_state (program_at set program).code arg (program_at set program).fuel set.memory in
       let many : suc n ≡ (program_at set program).fuel - 0 + 1 = omega (arith, e) in
       ap (λ x. run_from (task_steps set) objects (suc n) no_effects (served set (step_of x))) is
-          ∙ ap (λ k. run_from (task_steps set) objects k no_effects (served set (step_of start))) many;
+      ∙ ap (λ k. run_from (task_steps set) objects k no_effects (served set (step_of start))) many;
 }
 
 pub goes : (set : TaskSet) (objects : Objects) (programs k n : ℕ) (p q : Progress) (before after : MachineState) (run : Run) → length set.programs ≡ programs → k ≡ suc n

@@ -1,6 +1,5 @@
 -- What each step of the machine makes of a run.
-use Rattle.std.proofs.Common.{◌≡◌, ℕ, zero, suc, ◌+◌, ◌<◌, ◌≤◌, Bool, true, false, cond, ltb, List, [], ◌∷◌, ◌++◌, length, map, set, Option, Some, None, unwrap_or, refl, sym, ap, ◌∙◌, subst, arith}
-use Rattle.std.specs.Prelude.{nat_lt, if◌then◌else◌}
+use Rattle.std.proofs.Common.{◌≡◌, ℕ, suc, ◌<◌, ◌≤◌, Bool, cond, List, [], ◌∷◌, ◌++◌, length, map, set, Option, Some, None, unwrap_or, refl, sym, ap, ◌∙◌, subst, arith}
 use Rattle.std.proofs.lemmas.Bool.{le-ltb, lt-ltb}
 use Rattle.std.proofs.lemmas.List.{map-append, length-map}
 use Rattle.object_sets.specs.ObjectSets.{is_among, with_object, IsIncreasing}
@@ -14,11 +13,11 @@ use Rattle.nv_base.specs.declared.lines.Outcome.{Outcome}
 use Rattle.nv_base.specs.declared.lines.Spawn.{Spawn}
 use Rattle.kernel_model.specs.Effects.{Effects, Objects, Write, ended, put, reads_after, with_write, words_of, written}
 use Rattle.kernel_model.specs.Effects as model
-use Rattle.kernel_model.specs.Runs.{Ends, Reads, Spawns, Writes, Step, run_from, max_spawns}
+use Rattle.kernel_model.specs.Runs.{Ends, Reads, Spawns, Writes, run_from, max_spawns}
 use Rattle.set_model.specs.Sets.{TaskSet, object_at}
-use Rattle.set_model.specs.Views.{outcome_of, spawn_of, trap_of}
+use Rattle.set_model.specs.Views.{spawn_of, trap_of}
 use Rattle.task_model.specs.TaskSteps.{address_of, given_index, given_words, past, refusal, served, task_steps, unless}
-use Rattle.task_model.specs.Progress.{HasShape, LeadsTo, Stands, Turns}
+use Rattle.task_model.specs.Progress.{HasShape, Stands, Turns}
 use Rattle.task_model.specs.declared.progress.Progress.{Progress}
 use Rattle.task_model.proofs.WriteFacts.{length-put_from, objects_in, objects_in-with_write, put-with_write, reads_after-is, seen}
 use Rattle.task_model.proofs.Shapes.{shape-set}
@@ -66,7 +65,7 @@ reads programs p s m o at r t l a g = λ set objects e k h.
     let there : m ≡ given_words s words = g ∙ ap (λ w. given_words s w) same in
     let now : r ≡ f.reads =
     a ∙ ap (λ w. cond (is_among o w) p.reads (with_object o p.reads)) h.written ∙ ap (λ x. cond (is_among o (objects_in e.writes)) x (with_object o x)) h.reads
-        ∙ sym (reads_after-is e.writes o e.reads) in (
+    ∙ sym (reads_after-is e.writes o e.reads) in (
       f,
       record { first = h.first; values = h.values; shape = h.shape; reads = now; written = h.written; increasing = h.increasing; spawns = h.spawns },
       λ n. ap (λ x. run_from (task_steps set) objects (suc n) e (unless x (Reads s o))) (sym (t set h.shape)) ∙ ap (λ x. run_from (task_steps set) objects n f (served set (step_of x))) (sym there),

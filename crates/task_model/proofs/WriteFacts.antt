@@ -1,5 +1,5 @@
 -- What one more write makes of the objects, and of the set of those written.
-use Rattle.std.proofs.Common.{◌≡◌, ℕ, zero, suc, add-zero, zero-add, ◌+◌, ◌<◌, ◌≤◌, Bool, true, false, cond, ltb, eqb, ◌||◌, List, [], ◌∷◌, length, map, set, get_or, Option, Some, None, unwrap_or, refl, sym, ap, ◌∙◌, ne_eqb, subst, arith}
+use Rattle.std.proofs.Common.{◌≡◌, ℕ, zero, suc, add-zero, zero-add, ◌+◌, ◌<◌, ◌≤◌, Bool, true, false, cond, ltb, eqb, ◌||◌, List, [], ◌∷◌, length, map, set, Some, unwrap_or, refl, sym, ap, ◌∙◌, ne_eqb, arith}
 use Rattle.std.specs.List.{AllByRecursion}
 use Rattle.std.proofs.lemmas.Bool.{eqb-true, eqb-false, ltb-true, ltb-false}
 use Rattle.object_sets.specs.ObjectSets.{inserted, is_among, with_object, IsIncreasing}

@@ -1,5 +1,5 @@
 -- How the code's progress stands for what a run of the model has done. This project's own.
-use Rattle.std.specs.Prelude.{◌≡◌, ℕ, suc, ◌<◌, List, length, map, Option, Some, None}
+use Rattle.std.specs.Prelude.{◌≡◌, ℕ, suc, ◌<◌, length, map, Option, Some, None}
 use Rattle.object_sets.specs.ObjectSets.{IsIncreasing}
 use Rattle.rv_core.specs.State.{MachineState, StepResult}
 use Rattle.rv_core.specs.Machine.{step_of}

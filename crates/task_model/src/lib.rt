@@ -10,3 +10,6 @@ mod whole_run;
 pub use objects::Objects;
 pub use spawns::Spawns;
 pub use whole_run::{Whole, run_whole};
+
+#[cfg(test)]
+mod tests;

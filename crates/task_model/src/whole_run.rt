@@ -4,7 +4,6 @@ ghost use Rattle.std.specs.Prelude.{◌≡◌, ◌*◌, ◌≤◌, IfOk, List, �
 ghost use Rattle.kernel_model.specs.Effects.{Effects, ended, words_of};
 ghost use Rattle.kernel_model.specs.Runs.{whole_run};
 ghost use Rattle.set_model.specs.Sets.{TaskSet};
-ghost use Rattle.set_model.specs.Limits.{IsWithin};
 ghost use Rattle.set_model.specs.Views.{outcome_of};
 ghost use Rattle.task_model.specs.TaskSteps.{task_steps};
 ghost use Rattle.task_model.specs.OneProgram.{one_program};
@@ -77,8 +76,6 @@ pub fn run_whole(
     objects: &Objects,
 ) -> Result<Whole, NoMemory>
     requires code { 4 * length code.now ≤ length machine.old.memory }
-    requires fuel { fuel ≤ 1000000 }
-    requires size { IsWithin 1 64 size }
     requires number { length objects.now ≡ 1 }
     requires words { length (words_of objects.now 0) ≡ size }
     ensures exact { IfOk result (λ w. IsWholeRun w (whole_run (task_steps (one_program code.now fuel size (length machine.old.memory))) 0 arg objects.now) objects.now) }

@@ -1,5 +1,4 @@
-use Rattle.std.proofs.Common.{◌≡◌, ◌+◌, ◌-◌, ◌≤◌, ℕ, List, length, suc, ap, sym, refl, ◌∙◌, arith}
-use Rattle.kernel_model.specs.Effects.{Run}
+use Rattle.std.proofs.Common.{◌+◌, ◌-◌, length, ap, refl, ◌∙◌, arith}
 use Rattle.kernel_model.specs.Runs.{whole_run}
 use Rattle.set_model.specs.Sets.{TaskSet}
 use Rattle.task_model.specs.TaskSteps.{task_steps}

@@ -1,6 +1,5 @@
 use Rattle.std.proofs.Common.{refl}
 use Rattle.task_model.proofs.Ends.{stopped}
-use Rattle.task_model.proofs.Services
 use Rattle.task_model.proofs.whole_run.whole_of.Goals as goal
 
 pub returns-in-Trap : goal.returns-in-Trap
