@@ -10,3 +10,4 @@ pub mod Answers
 pub mod Input
 pub mod Words
 pub mod Carried
+pub mod Rows

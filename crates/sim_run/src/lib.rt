@@ -4,6 +4,7 @@
 mod call;
 mod input;
 mod kernel;
+pub mod rows;
 mod run;
 mod status;
 mod text_buffer;
