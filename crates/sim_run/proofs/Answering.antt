@@ -1,5 +1,5 @@
 -- From what a call has done, and the line that names its answer, to the answer.
-use Rattle.std.proofs.Common.{◌≡◌, ℕ, zero, suc, ◌+◌, ◌*◌, ◌^◌, ◌-◌, ◌<◌, ◌≤◌, ◌⊎◌, true, false, List, [], ◌∷◌, ◌++◌, length, take, Option, Some, None, replicate, inl, inr, refl, ap, sym, ◌∙◌, subst, arith}
+use Rattle.std.proofs.Common.{◌≡◌, ℕ, zero, suc, ◌^◌, ◌<◌, ◌≤◌, ◌⊎◌, true, List, [], ◌∷◌, length, take, Option, Some, None, inl, inr, refl, ap, sym, ◌∙◌, subst, arith}
 use Rattle.std.specs.List.{All, AllByRecursion}
 use Rattle.std.proofs.lemmas.Bool.{cases_lt, false≢true}
 use Rattle.std.proofs.lemmas.List.{length-replicate}
@@ -14,7 +14,7 @@ use Rattle.smallest_script.proofs.WholeText.{same_script}
 use Rattle.sim_run.specs.Script.{AreBuilt, events_in, is_unbuilt_at, set_in}
 use Rattle.sim_run.specs.Exits.{line_for}
 use Rattle.sim_run.specs.Puts.{first_lines_text}
-use Rattle.sim_run.specs.Answers.{Answered, Exchange, IsComplete, IsCutOff, IsDone, IsNoScript, IsNotBuilt, OfInput, PutsNamed, Refuses, WriteFailed}
+use Rattle.sim_run.specs.Answers.{Answered, Exchange, IsComplete, IsCutOff, IsDone, IsNoScript, IsNotBuilt, OfInput, PutsNamed, Refuses}
 use Rattle.sim_run.specs.Carried.{CarriedOut, HasFailed, HasNoScript, HasRun, HasStopped, PutsName}
 use Rattle.sim_run.specs.declared.status.Status.{Status}
 use Rattle.sim_run.specs.declared.status.Status.TheVariants.{Done, Usage, ReadFault, WriteFault, NoMemory, NotBuilt}

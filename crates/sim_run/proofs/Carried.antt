@@ -1,15 +1,13 @@
 -- A run of the kernel, event by event.
-use Rattle.std.proofs.Common.{◌≡◌, ℕ, zero, suc, ◌+◌, ◌<◌, ◌≤◌, Bool, true, false, List, [], ◌∷◌, ◌++◌, length, take, drop, get_or, replicate, Option, Some, None, refl, ap, sym, ◌∙◌, subst, append_assoc, arith, below_more}
+use Rattle.std.proofs.Common.{◌≡◌, ℕ, zero, suc, ◌+◌, ◌<◌, ◌≤◌, Bool, false, List, [], ◌∷◌, ◌++◌, length, take, drop, get_or, replicate, Some, refl, ap, sym, ◌∙◌, subst, append_assoc, arith, below_more}
 use Rattle.std.specs.Prelude.{slice_get}
-use Rattle.std.specs.List.{flat_map}
 use Rattle.std.proofs.lemmas.Grind.{flat_map-append}
 use Rattle.std.proofs.lemmas.List.{append-nil, get_or-replicate, length-replicate, take-append-drop}
 use Rattle.std.proofs.Math.Seq.{take-length}
 use Rattle.rv_core.specs.State.{MachineState}
 use Rattle.nv_base.specs.declared.lines.Line as base
 use Rattle.kernel_model.specs.Turns.{Line}
-use Rattle.kernel_model.specs.Events.{CoreStep, Event, Fail, State, lines_of, next}
-use Rattle.kernel_model.specs.Durable.{listed, state_left}
+use Rattle.kernel_model.specs.Events.{CoreStep, Event, Fail, lines_of, next}
 use Rattle.kernel_model.specs.Report.{found_lines, unprinted}
 use Rattle.kernel_model.proofs.FirstEvents.{one_more}
 use Rattle.kernel_model.proofs.Reached.{lines_of-append}

@@ -1,5 +1,5 @@
 -- What was read of an input.
-use Rattle.std.proofs.Common.{◌≡◌, ℕ, ◌+◌, ◌≤◌, ◌⊎◌, List, [], length, Option, Some, None, inl, inr, sym, subst, arith}
+use Rattle.std.proofs.Common.{ℕ, ◌+◌, List, Option, Some, None, subst, arith}
 use Rattle.nv_base.specs.Streams.{AreGone, GaveAll}
 use Rattle.smallest_script.specs.Form.{Smallest, IsSmallest}
 use Rattle.smallest_script.proofs.Bounds.{script_is_short}

@@ -11,3 +11,6 @@ mod text_buffer;
 
 pub use call::simulate;
 pub use status::Status;
+
+#[cfg(test)]
+mod tests;

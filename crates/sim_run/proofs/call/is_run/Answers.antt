@@ -1,4 +1,4 @@
-use Rattle.std.proofs.Common.{◌≡◌, ◌↔◌, [], ◌∷◌, map, codes, IsTrue, ap, sym, ◌∙◌}
+use Rattle.std.proofs.Common.{◌≡◌, [], ◌∷◌, map, codes, ap, sym, ◌∙◌}
 use Rattle.std.specs.Rc.{rc_str_bytes}
 use Rattle.sim_run.proofs.OneWord.{alone, head_is, tells_same}
 use Rattle.sim_run.proofs.call.is_run.Goals as goal

@@ -1,5 +1,3 @@
-use Rattle.sim_run.specs.Answers.{Answered, Exchange}
-use Rattle.sim_run.specs.Words.{IsRun}
 use Rattle.sim_run.proofs.Answering as answering
 use Rattle.sim_run.proofs.call.simulate.Goals as goal
 

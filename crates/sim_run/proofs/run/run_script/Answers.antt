@@ -1,6 +1,6 @@
-use Rattle.std.proofs.Common.{◌≡◌, ℕ, ◌+◌, ◌<◌, ◌≤◌, ◌++◌, [], List, true, false, refl, ap, sym, subst, ◌∙◌, arith}
+use Rattle.std.proofs.Common.{◌≡◌, ◌+◌, ◌++◌, [], List, true, false, refl, ap, sym, subst, ◌∙◌, arith}
 use Rattle.std.proofs.lemmas.List.{append-nil}
-use Rattle.nv_base.specs.Streams.{Rose, grown}
+use Rattle.nv_base.specs.Streams.{grown}
 use Rattle.kernel_model.specs.Events.{Event}
 use Rattle.set_model.specs.Sets.{TaskSet}
 use Rattle.set_model.specs.Views.{line_of}
