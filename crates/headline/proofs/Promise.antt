@@ -1,16 +1,14 @@
 -- The laws of the model, at the machine of a task set.
-use Rattle.std.proofs.Common.{◌≡◌, ℕ, ◌+◌, ◌*◌, ◌≤◌, List, length, refl, subst, arith}
+use Rattle.std.proofs.Common.{◌≤◌, List, length, arith}
 use Rattle.rv_core.specs.State.{MachineState}
 use Rattle.kernel_model.specs.Events.{Event, On}
 use Rattle.kernel_model.specs.Fit.{IsSetUp}
-use Rattle.kernel_model.specs.Report.{EachOnce}
 use Rattle.kernel_model.specs.Execution.{Execution}
 use Rattle.set_model.specs.Sets.{TaskSet}
 use Rattle.set_model.specs.Limits.{IsTaskSet}
 use Rattle.set_model.specs.Numbers.{sizes_of}
 use Rattle.set_model.specs.Formatted.{formatted}
 use Rattle.task_model.specs.TaskSteps.{task_steps}
-use Rattle.headline.specs.Headline.{Headline, report_text}
 
 abbrev pub execution_of : (set : TaskSet) (events : List Event) → IsTaskSet set → length events ≤ 1000000 → IsSetUp (task_steps set) (sizes_of set) (formatted set) → Execution MachineState
 execution_of set events h l up = record {

@@ -1,5 +1,5 @@
 -- The run of a task set's event machine from the formatted state, and its report. This project's own.
-use Rattle.std.specs.Prelude.{ℕ, List, ◌++◌, take}
+use Rattle.std.specs.Prelude.{ℕ, List, ◌++◌}
 use Rattle.rv_core.specs.State.{MachineState}
 use Rattle.kernel_model.specs.Replay.{Base}
 use Rattle.kernel_model.specs.Turns.{Line}

@@ -1,5 +1,5 @@
 -- The text of a whole report: the event lines, and then the state that was last read back. This project's own.
-use Rattle.std.specs.Prelude.{ℕ, ◌+◌, List, [], ◌∷◌, ◌++◌}
+use Rattle.std.specs.Prelude.{ℕ, List, [], ◌∷◌, ◌++◌}
 use Rattle.std.specs.List.{flat_map}
 use Rattle.kernel_model.specs.Replay.{Base}
 use Rattle.kernel_model.specs.Effects.{Objects}

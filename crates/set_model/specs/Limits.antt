@@ -1,5 +1,5 @@
 -- The limits of a task set. This project's own.
-use Rattle.std.specs.Prelude.{◌≡◌, ℕ, ◌*◌, ◌%◌, ◌^◌, ◌<◌, ◌≤◌, List, length}
+use Rattle.std.specs.Prelude.{◌≡◌, ℕ, ◌*◌, ◌%◌, ◌^◌, ◌<◌, ◌≤◌, length}
 use Rattle.std.specs.List.{AllByRecursion}
 use Rattle.kernel_model.specs.Effects.{Spawn}
 use Rattle.set_model.specs.Sets.{ObjectPart, ProgramPart, TaskSet}

@@ -1,5 +1,5 @@
 -- What the types of the program are in the kernel's model. This project's own.
-use Rattle.std.specs.Prelude.{ℕ, List, map, Option, Some, None}
+use Rattle.std.specs.Prelude.{Option, Some, None}
 use Rattle.nv_base.specs.Causes.{cause_number}
 use Rattle.nv_base.specs.declared.causes.TrapCause.{TrapCause}
 use Rattle.nv_base.specs.declared.lines.Outcome as base_outcome

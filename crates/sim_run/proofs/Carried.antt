@@ -1,15 +1,13 @@
 -- A run of the kernel, event by event.
-use Rattle.std.proofs.Common.{◌≡◌, ℕ, zero, suc, ◌+◌, ◌<◌, ◌≤◌, Bool, true, false, List, [], ◌∷◌, ◌++◌, length, take, drop, get_or, replicate, Option, Some, None, refl, ap, sym, ◌∙◌, subst, append_assoc, arith, below_more}
+use Rattle.std.proofs.Common.{◌≡◌, ℕ, zero, suc, ◌+◌, ◌<◌, ◌≤◌, Bool, false, List, [], ◌∷◌, ◌++◌, length, take, drop, get_or, replicate, Some, refl, ap, sym, ◌∙◌, subst, append_assoc, arith, below_more}
 use Rattle.std.specs.Prelude.{slice_get}
-use Rattle.std.specs.List.{flat_map}
 use Rattle.std.proofs.lemmas.Grind.{flat_map-append}
 use Rattle.std.proofs.lemmas.List.{append-nil, get_or-replicate, length-replicate, take-append-drop}
 use Rattle.std.proofs.Math.Seq.{take-length}
 use Rattle.rv_core.specs.State.{MachineState}
 use Rattle.nv_base.specs.declared.lines.Line as base
 use Rattle.kernel_model.specs.Turns.{Line}
-use Rattle.kernel_model.specs.Events.{CoreStep, Event, Fail, State, lines_of, next}
-use Rattle.kernel_model.specs.Durable.{listed, state_left}
+use Rattle.kernel_model.specs.Events.{CoreStep, Event, Fail, lines_of, next}
 use Rattle.kernel_model.specs.Report.{found_lines, unprinted}
 use Rattle.kernel_model.proofs.FirstEvents.{one_more}
 use Rattle.kernel_model.proofs.Reached.{lines_of-append}
@@ -48,8 +46,8 @@ leads_to set events k j n l c e h =
     let more = one_more (task_steps set) (sizes_of set) (formatted set) (first_state set) events n (CoreStep 0) e in
     let t = h c.m in
     let same : next (task_steps set) (sizes_of set) (formatted set) (after set (take n events)) (CoreStep 0) ≡ (state_in t.0 j, line_of l) =
-        ap (λ s. next (task_steps set) (sizes_of set) (formatted set) s (CoreStep 0)) c.state
-        ∙ subst (λ x. next (task_steps x) (sizes_of x) (formatted x) (state_in c.m k) (CoreStep 0) ≡ (state_in t.0 j, line_of l)) c.set_is t.1 in
+    ap (λ s. next (task_steps set) (sizes_of set) (formatted set) s (CoreStep 0)) c.state
+    ∙ subst (λ x. next (task_steps x) (sizes_of x) (formatted x) (state_in c.m k) (CoreStep 0) ≡ (state_in t.0 j, line_of l)) c.set_is t.1 in
     record {
       m = t.0;
       state = more.0 ∙ ap (λ p. p.0) same;
@@ -97,12 +95,13 @@ pub split_report : (set : TaskSet) (events : List Event) (n : ℕ) → (rest : L
 split_report set events n =
     let more : List Line = lines_of (task_steps set) (sizes_of set) (formatted set) (after set (take n events)) (drop n events) in
     let lines : event_lines set events ≡ event_lines set (take n events) ++ more =
-        ap (event_lines set) (sym (take-append-drop n events)) ∙ lines_of-append (task_steps set) (sizes_of set) (formatted set) (take n events) (drop n events) (first_state set) in
-    (lines_text set more ++ tail_text set (after set events),
-    whole_report set events
-    ∙ ap (λ l. lines_text set l ++ tail_text set (after set events)) lines
-    ∙ ap (λ t. t ++ tail_text set (after set events)) (flat_map-append (line_text set) (event_lines set (take n events)) more)
-    ∙ append_assoc (first_lines_text set events n) (lines_text set more) (tail_text set (after set events)))
+    ap (event_lines set) (sym (take-append-drop n events)) ∙ lines_of-append (task_steps set) (sizes_of set) (formatted set) (take n events) (drop n events) (first_state set) in (
+      lines_text set more ++ tail_text set (after set events),
+      whole_report set events
+          ∙ ap (λ l. lines_text set l ++ tail_text set (after set events)) lines
+          ∙ ap (λ t. t ++ tail_text set (after set events)) (flat_map-append (line_text set) (event_lines set (take n events)) more)
+          ∙ append_assoc (first_lines_text set events n) (lines_text set more) (tail_text set (after set events)),
+    )
 
 -- a run of n steps of core 0
 

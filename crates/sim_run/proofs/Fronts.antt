@@ -1,5 +1,5 @@
 -- What a sink took, piece by piece.
-use Rattle.std.proofs.Common.{◌≡◌, ℕ, ◌+◌, ◌≤◌, List, [], ◌∷◌, ◌++◌, length, take, Option, Some, None, refl, ap, sym, ◌∙◌, subst, append_assoc, length-append, inl, inr, arith}
+use Rattle.std.proofs.Common.{◌≡◌, ℕ, ◌+◌, ◌≤◌, List, [], ◌∷◌, ◌++◌, length, take, Option, Some, None, refl, ap, sym, ◌∙◌, append_assoc, length-append, inl, inr, arith}
 use Rattle.std.proofs.lemmas.List.{take-append-le}
 use Rattle.std.proofs.Math.Seq.{take-append-add}
 use Rattle.nv_base.specs.Streams.{PutFront, Rose, grown}
@@ -24,7 +24,7 @@ pub front_later : (o p q : Option (List ℕ)) (a b rest whole : List ℕ) → wh
 front_later o p q a b rest whole e f h =
     let n : ℕ = h.0 in
     let t : take (length a + n) ((a ++ b) ++ rest) ≡ a ++ take n b =
-        ap (take (length a + n)) (append_assoc a b rest) ∙ take-append-add a (b ++ rest) n ∙ ap (λ x. a ++ x) (take-append-le n b rest h.1) in
+    ap (take (length a + n)) (append_assoc a b rest) ∙ take-append-add a (b ++ rest) n ∙ ap (λ x. a ++ x) (take-append-le n b rest h.1) in
     (length a + n, rw e (rw (length-append (a ++ b) rest, length-append a b) (omega (arith, h.1))), put_more o p q a (take n b) f h.2 ∙ ap (grown o) (sym t) ∙ ap (λ w. grown o (take (length a + n) w)) (sym e))
 
 -- a count that rose at last rose in all

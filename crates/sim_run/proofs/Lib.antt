@@ -4,3 +4,6 @@ pub mod Decimals
 pub mod TailTexts
 pub mod Fronts
 pub mod Carried
+pub mod Inputs
+pub mod OneWord
+pub mod Answering

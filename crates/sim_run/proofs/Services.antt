@@ -1,6 +1,6 @@
 -- What the services READ and WRITE make of an attempt on one object of one word.
-use Rattle.std.proofs.Common.{◌≡◌, ℕ, ◌+◌, true, false, List, [], ◌∷◌, Some, None, Option, refl, sym, ap, subst, ◌∙◌}
-use Rattle.rv_core.specs.State.{MachineState, Calls, Next}
+use Rattle.std.proofs.Common.{◌≡◌, ℕ, true, false, [], ◌∷◌, Some, None, Option, refl, sym, ap, subst}
+use Rattle.rv_core.specs.State.{MachineState, Next}
 use Rattle.rv_core.specs.Machine.{word_at, words_at}
 use Rattle.rv_core.specs.declared.services.Service.{Service}
 use Rattle.rv_core.specs.declared.services.Service.TheVariants.{Read, Write}

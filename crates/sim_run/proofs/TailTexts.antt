@@ -1,5 +1,5 @@
 -- What comes after the last event, as the model has it.
-use Rattle.std.proofs.Common.{◌≡◌, ℕ, zero, suc, Bool, true, false, List, [], ◌∷◌, ◌++◌, append_assoc, codes, length, Option, Some, None, unwrap_or, refl, ap, sym, ◌∙◌, subst}
+use Rattle.std.proofs.Common.{◌≡◌, ℕ, zero, suc, Bool, true, false, List, [], ◌∷◌, ◌++◌, append_assoc, codes, Option, Some, None, refl, ap, sym, ◌∙◌, subst}
 use Rattle.std.proofs.lemmas.List.{append-nil}
 use Rattle.std.specs.Fmt.{decimal}
 use Rattle.rv_core.specs.State.{MachineState}
@@ -8,12 +8,10 @@ use Rattle.nv_base.specs.declared.lines.Outcome.TheVariants as outcome
 use Rattle.kernel_model.specs.Durable.{listed, state_left}
 use Rattle.kernel_model.specs.Items.{entry_of}
 use Rattle.set_model.specs.Formatted.{formatted}
-use Rattle.kernel_model.specs.Replay.{Base, TaskRec}
 use Rattle.report_text.specs.Lines.{done_text, end_text, entry_text, field, line_feed, object_text, open_text}
 use Rattle.report_text.specs.Report.{end_part}
-use Rattle.set_model.specs.Sets.{TaskSet}
 use Rattle.sim_run.specs.Set.{set_with}
-use Rattle.sim_run.specs.Stands.{durable_in, item_of, set_of, state_in, tail_text, write_of, writes_of}
+use Rattle.sim_run.specs.Stands.{durable_in, item_of, set_of, state_in, tail_text}
 use Rattle.sim_run.specs.Tails.{found_text, text_after, text_before}
 use Rattle.sim_run.specs.Texts.{object_x, open_add}
 use Rattle.sim_run.specs.declared.kernel.OneCore.{OneCore}

@@ -1,5 +1,5 @@
 -- What one turn of the kernel is in the event machine, phase by phase.
-use Rattle.std.proofs.Common.{◌≡◌, ℕ, zero, suc, ◌+◌, Bool, true, false, List, [], ◌∷◌, length, Some, None, Option, refl, sym, ap, subst, ◌∙◌}
+use Rattle.std.proofs.Common.{◌≡◌, ℕ, suc, ◌+◌, Bool, true, false, [], ◌∷◌, length, Some, None, Option, refl, sym, ap, subst, ◌∙◌}
 use Rattle.rv_core.specs.State.{MachineState, StepResult, Next, Calls, Traps}
 use Rattle.rv_core.specs.Machine.{step_of, first_state}
 use Rattle.rv_core.specs.declared.services.Service.{Service}
@@ -10,14 +10,14 @@ use Rattle.nv_base.specs.declared.lines.Outcome.TheVariants as outcome
 use Rattle.nv_base.specs.declared.lines.Entry.{Entry}
 use Rattle.nv_base.specs.declared.lines.Line.{Line}
 use Rattle.nv_base.specs.declared.lines.Line.TheVariants as line
-use Rattle.kernel_model.specs.Items.{Item, entry_of as listed_entry}
+use Rattle.kernel_model.specs.Items.{entry_of as listed_entry}
 use Rattle.kernel_model.specs.Turns.{Turn, run_turn, Finish}
 use Rattle.kernel_model.specs.Events.{On, State, after_turn}
 use Rattle.kernel_model.specs.Turns as model
 use Rattle.set_model.specs.Formatted.{formatted}
 use Rattle.set_model.specs.Views.{entry_of}
 use Rattle.task_model.specs.TaskSteps.{given_words, served, task_steps}
-use Rattle.sim_run.specs.Stands.{IsSameTask, Leads, Serves, WaitsIn, attempt_in, core_in, history_in, item_of, set_of, state_in, write_of, writes_of}
+use Rattle.sim_run.specs.Stands.{IsSameTask, Leads, Serves, WaitsIn, attempt_in, core_in, item_of, set_of, state_in, write_of, writes_of}
 use Rattle.sim_run.specs.Set.{set_with}
 use Rattle.sim_run.specs.declared.kernel.OneCore.{OneCore}
 use Rattle.sim_run.specs.declared.kernel.Phase.{Phase}

@@ -1,7 +1,6 @@
 -- The answers of a call, each with its cause and with what was put. This project's own.
 use Rattle.std.specs.Prelude.{◌≡◌, ℕ, ◌+◌, ◌<◌, ◌⊎◌, List, [], ◌++◌, length, Option, Some, None}
 use Rattle.nv_base.specs.Streams.{AreGone, PutFront, Rose, grown}
-use Rattle.kernel_model.specs.Events.{Event}
 use Rattle.headline.specs.Headline.{Headline, report_text}
 use Rattle.smallest_script.specs.Form.{Smallest, IsSmallest}
 use Rattle.sim_run.specs.Script.{AreBuilt, IsFirstUnbuilt, events_in, set_in}

@@ -1,5 +1,5 @@
 -- Why no script was read.
-use Rattle.std.specs.Prelude.{◌≡◌, ℕ, ◌+◌, ◌⊎◌, List, [], Option, Some, None}
+use Rattle.std.specs.Prelude.{◌≡◌, ℕ, ◌+◌, ◌⊎◌, List, [], Option, Some}
 use Rattle.nv_base.specs.Streams.{AreGone}
 use Rattle.smallest_script.specs.Form.{Smallest, IsSmallest}
 use Rattle.sim_run.specs.Answers.{OfInput, most_input}

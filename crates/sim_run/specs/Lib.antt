@@ -8,3 +8,6 @@ pub mod Exits
 pub mod Puts
 pub mod Answers
 pub mod Input
+pub mod Words
+pub mod Carried
+pub mod Rows

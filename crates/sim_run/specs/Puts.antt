@@ -1,6 +1,6 @@
 -- What a run put out.
-use Rattle.std.specs.Prelude.{◌≡◌, ℕ, ◌<◌, List, ◌++◌, Option, length, take}
-use Rattle.nv_base.specs.Streams.{PutFront, Rose, grown}
+use Rattle.std.specs.Prelude.{◌≡◌, ℕ, ◌<◌, List, Option, length, take}
+use Rattle.nv_base.specs.Streams.{PutFront, grown}
 use Rattle.kernel_model.specs.Events.{Event}
 use Rattle.set_model.specs.Sets.{TaskSet}
 use Rattle.report_text.specs.Report.{lines_text}

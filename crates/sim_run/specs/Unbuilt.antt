@@ -1,6 +1,6 @@
 -- What is not built yet: the service SPAWN. This project's own.
 use Rattle.std.specs.Prelude.{Bool, true, false}
-use Rattle.rv_core.specs.State.{MachineState, StepResult, Next, Calls, Traps}
+use Rattle.rv_core.specs.State.{MachineState, StepResult, Calls}
 use Rattle.rv_core.specs.Machine.{step_of}
 use Rattle.rv_core.specs.declared.services.Service.TheVariants as service
 use Rattle.kernel_model.specs.Cores.{Core, Running}

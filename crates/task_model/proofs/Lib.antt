@@ -1,2 +1,7 @@
 pub mod StepFacts
 pub mod MachineFacts
+pub mod WriteFacts
+pub mod Shapes
+pub mod Services
+pub mod Ends
+pub mod Rests

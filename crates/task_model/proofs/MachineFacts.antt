@@ -1,5 +1,5 @@
 -- The tasks of a set are a machine of the kernel's model.
-use Rattle.std.proofs.Common.{◌≡◌, ℕ, zero, suc, ◌+◌, ◌-◌, ◌<◌, ◌≤◌, Bool, true, false, List, [], ◌∷◌, length, Option, Some, None, refl, ap, subst, arith}
+use Rattle.std.proofs.Common.{◌≡◌, ℕ, zero, suc, ◌+◌, ◌-◌, ◌<◌, Bool, true, false, List, length, Option, Some, None, refl, ap, subst, arith}
 use Rattle.std.specs.Prelude.{nat_lt, if◌then◌else◌}
 use Rattle.std.proofs.lemmas.Bool.{ltb-true}
 use Rattle.nv_base.specs.declared.causes.TrapCause.{TrapCause}
@@ -7,13 +7,10 @@ use Rattle.nv_base.specs.declared.causes.TrapCause.TheVariants.{Illegal, Jump, F
 use Rattle.rv_core.specs.State.{MachineState, StepResult, Next, Calls, Traps}
 use Rattle.rv_core.specs.Machine.{step_of, misfit, words_at}
 use Rattle.rv_core.specs.declared.services.Service.TheVariants as service
-use Rattle.kernel_model.specs.Effects.{Outcome, Write}
 use Rattle.kernel_model.specs.Runs as run
-use Rattle.kernel_model.specs.Fit.{IsMachine, IsOutcome, IsSetUp, IsWrite}
+use Rattle.kernel_model.specs.Fit.{IsMachine, IsOutcome, IsWrite}
 use Rattle.set_model.specs.Sets.{TaskSet, object_at}
-use Rattle.set_model.specs.Limits.{IsTaskSet}
 use Rattle.set_model.specs.Numbers.{sizes_of}
-use Rattle.set_model.specs.Formatted.{formatted}
 use Rattle.set_model.specs.Views.{trap_of}
 use Rattle.task_model.specs.TaskSteps.{given_index, given_words, past, refusal, served, task_steps, unless}
 use Rattle.task_model.proofs.StepFacts.{Counts, IsCounted, step_counts}

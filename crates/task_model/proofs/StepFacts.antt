@@ -1,11 +1,11 @@
 -- A step that does not trap counts one instruction, and had fuel for it. A call names the address in a1.
-use Rattle.std.proofs.Common.{◌≡◌, ℕ, ◌+◌, ◌*◌, ◌/◌, ◌%◌, ◌^◌, ◌<◌, ◌≤◌, Bool, true, false, List, length, Option, Some, None, refl, subst, arith}
+use Rattle.std.proofs.Common.{◌≡◌, ℕ, ◌+◌, ◌%◌, ◌<◌, Bool, true, false, length, Option, Some, None, refl, subst}
 use Rattle.std.specs.Prelude.{◌==◌, nat_le, slice_set, if◌then◌else◌}
-use Rattle.std.proofs.lemmas.Bool.{leb-true, leb-false}
+use Rattle.std.proofs.lemmas.Bool.{leb-false}
 use Rattle.nv_base.specs.declared.causes.TrapCause.TheVariants as cause
 use Rattle.rv_core.specs.State.{MachineState, StepResult, Next, Calls, Traps}
 use Rattle.rv_core.specs.Operations.{register, with_register, sum_of, place_of, is_taken, load_size, store_size, read_at, put_at}
-use Rattle.rv_core.specs.Execution.{branches, goes_on, jumps, loads, stores, calls, executed}
+use Rattle.rv_core.specs.Execution.{goes_on, jumps, loads, stores, calls, executed}
 use Rattle.rv_core.specs.Stepping.{executed_or_illegal, fetched, step_of}
 use Rattle.rv_core.specs.Bytes.{word_at}
 use Rattle.rv_core.specs.declared.services.Service.{Service}

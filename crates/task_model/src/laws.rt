@@ -10,6 +10,7 @@ ghost use Rattle.set_model.specs.Limits.{IsTaskSet};
 ghost use Rattle.set_model.specs.Numbers.{sizes_of};
 ghost use Rattle.set_model.specs.Formatted.{formatted};
 ghost use Rattle.task_model.specs.TaskSteps.{address_of, task_steps};
+ghost use Rattle.task_model.specs.WorkedRuns.{AddsToObject, TrapsAfterWrite};
 
 use set_model::laws::{formatted_state_is_fit, numbers_are_fit};
 
@@ -30,4 +31,10 @@ pub fn task_set_is_set_up()
 /// A READ names the address that a1 holds, where its words are put when they are given.
 pub fn read_names_address()
     ensures { (m s : MachineState) (o at : ℕ) → step_of m ≡ Calls s (Read o at) → at ≡ address_of s }
+{}
+
+/// A worked run: a task reads a word, adds its argument and writes the sum. Where it traps behind that, it has not written.
+pub fn worked()
+    ensures adds { AddsToObject }
+    ensures traps { TrapsAfterWrite }
 {}

@@ -2,3 +2,14 @@
 #![tactic(auto)]
 
 pub mod laws;
+mod objects;
+mod progress;
+mod spawns;
+mod whole_run;
+
+pub use objects::Objects;
+pub use spawns::Spawns;
+pub use whole_run::{Whole, run_whole};
+
+#[cfg(test)]
+mod tests;

@@ -1,11 +1,6 @@
-use Rattle.std.proofs.Common.{◌≡◌, ◌+◌, ◌-◌, ℕ, suc, true, false, [], ◌∷◌, Some, None, refl, sym, ap, subst, ◌∙◌, arith}
-use Rattle.sim_run.specs.Stands.{Leads, Serves}
-use Rattle.sim_run.specs.declared.kernel.OneCore.{OneCore}
+use Rattle.std.proofs.Common.{◌≡◌, ◌-◌, suc, ap, ◌∙◌, arith}
 use Rattle.sim_run.specs.declared.kernel.Phase.TheVariants as phase
-use Rattle.nv_base.specs.declared.lines.Outcome.TheVariants as outcome
-use Rattle.nv_base.specs.declared.lines.Line.TheVariants as line
 use Rattle.sim_run.proofs.Turns as turns
-use Rattle.sim_run.proofs.Services as services
 use Rattle.sim_run.proofs.kernel.OneCore.commit.Goals as goal
 
 pub returns-then-left-gt0-clause-leads : goal.returns-then-left-gt0-clause-leads

@@ -1,4 +1,4 @@
-use Rattle.std.proofs.Common.{◌≡◌, ◌++◌, ap, sym, ◌∙◌}
+use Rattle.std.proofs.Common.{◌++◌, ap, sym, ◌∙◌}
 use Rattle.sim_run.specs.Tails.{text_after, text_before}
 use Rattle.sim_run.proofs.TailTexts.{tail_after, tail_before}
 use Rattle.sim_run.proofs.kernel.OneCore.put_tail.Goals as goal

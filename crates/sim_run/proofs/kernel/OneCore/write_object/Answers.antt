@@ -1,9 +1,4 @@
-use Rattle.std.proofs.Common.{◌≡◌, ◌+◌, ℕ, suc, true, false, [], ◌∷◌, Some, None, refl, sym, ap, subst, ◌∙◌, arith}
-use Rattle.sim_run.specs.Stands.{Leads, Serves}
-use Rattle.sim_run.specs.declared.kernel.OneCore.{OneCore}
-use Rattle.sim_run.specs.declared.kernel.Phase.TheVariants as phase
-use Rattle.nv_base.specs.declared.lines.Outcome.TheVariants as outcome
-use Rattle.nv_base.specs.declared.lines.Line.TheVariants as line
+use Rattle.std.proofs.Common.{◌≡◌, refl, ap}
 use Rattle.std.proofs.Common.{get_or}
 use Rattle.rv_core.specs.Machine.{word_at}
 use Rattle.task_model.specs.TaskSteps.{past}

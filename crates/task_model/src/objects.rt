@@ -1,0 +1,128 @@
+//! The words of the objects.
+
+ghost use Rattle.std.specs.Prelude.{◌≡◌, ◌<◌, ◌≤◌, ◌++◌, ◌∷◌, [], IfOk, MatchResult, length, slice_set};
+ghost use Rattle.rv_core.specs.Machine.{words_at, IsPlace};
+ghost use Rattle.kernel_model.specs.Effects.{words_of};
+
+use nv_base::NoMemory;
+use rv_core::Machine;
+use std::alloc::Global;
+use std::marker::Model;
+
+/// The words of one object, at most 64, which contracts see as their list.
+#[derive(Drop)]
+struct Words {
+    items: Vec<u32>,
+}
+
+impl Model for Words {
+    ghost use Rattle.std.specs.Prelude.{List, ℕ, ◌≤◌, length};
+
+    ghost Value = { List ℕ };
+
+    ghost view = { λ w. w.items.items };
+
+    ghost invariant = { λ w. length w.items.items ≤ 64 };
+}
+
+impl Words {
+    fn of(alloc: Global, words: &[u32]) -> Result<Words, NoMemory>
+        requires { length words.now ≤ 64 }
+        ensures { IfOk result (λ w. w ≡ words.now) }
+    {
+        Ok(Words {
+            items: Vec::from_slice(alloc, words)?,
+        })
+    }
+
+    fn as_slice(&self) -> &[u32]
+        ensures exact { result.now ≡ self.now }
+        ensures small { length result.now ≤ 64 }
+    {
+        self.items.as_slice()
+    }
+
+    // As many words as there are, from an address of a machine's memory.
+    fn take_from(&mut self, machine: &Machine, at: u32)
+        requires { IsPlace machine.now at (length self.old) }
+        ensures { self.new ≡ words_at machine.now.memory at (length self.old) }
+    {
+        machine.copy_out(at, self.items.as_mut_slice());
+    }
+}
+
+/// The words of each object, by its number: at most 64 objects of at most 64 words, which contracts see as a list of
+/// lists.
+#[derive(Drop)]
+pub struct Objects {
+    items: Vec<Words>,
+}
+
+impl Model for Objects {
+    ghost use Rattle.std.specs.Prelude.{List, ℕ, ◌≤◌, length};
+
+    ghost Value = { List (List ℕ) };
+
+    ghost view = { λ o. o.items.items };
+
+    ghost invariant = { λ o. length o.items.items ≤ 64 };
+}
+
+impl Objects {
+    /// No objects yet.
+    pub fn new(alloc: Global) -> Objects
+        ensures { result ≡ [] }
+    {
+        Objects {
+            items: Vec::new(alloc),
+        }
+    }
+
+    /// How many objects there are.
+    pub fn len(&self) -> usize
+        ensures exact { result ≡ length self.now }
+        ensures few { result ≤ 64 }
+    {
+        self.items.len()
+    }
+
+    /// The words of an object.
+    pub fn get(&self, object: usize) -> &[u32]
+        requires { object < length self.now }
+        ensures exact { result.now ≡ words_of self.now object }
+        ensures small { length result.now ≤ 64 }
+    {
+        self.items[object].as_slice()
+    }
+
+    /// Adds an object behind the others. `NoMemory` leaves the objects as they were.
+    pub fn push(&mut self, alloc: Global, words: &[u32]) -> Result<(), NoMemory>
+        requires few { length self.old < 64 }
+        requires small { length words.now ≤ 64 }
+        ensures { MatchResult result (λ _. self.new ≡ self.old ++ words.now ∷ []) (λ _. self.new ≡ self.old) }
+    {
+        let words = Words::of(alloc, words)?;
+        self.items.push(words)?;
+        Ok(())
+    }
+
+    /// The same words in memory of their own.
+    pub fn copy(&self, alloc: Global) -> Result<Objects, NoMemory>
+        ensures { IfOk result (λ o. o ≡ self.now) }
+    {
+        let mut items = Vec::with_capacity(alloc, self.items.len())?;
+        for words in &self.items {
+            items.push(Words::of(alloc, words.as_slice())?)?;
+        }
+        Ok(Objects { items })
+    }
+
+    /// Takes an object's words from an address of a machine's memory.
+    pub(crate) fn take_from(&mut self, object: usize, machine: &Machine, at: u32)
+        requires inside { object < length self.old }
+        requires place { IsPlace machine.now at (length (words_of self.old object)) }
+        ensures { self.new ≡ slice_set self.old object (words_at machine.now.memory at (length (words_of self.old object))) }
+    {
+        self.items[object].take_from(machine, at);
+    }
+}
