@@ -3,12 +3,23 @@
 ghost use Rattle.std.specs.Prelude.{◌≡◌, ◌≤◌, ◌+◌, ◌*◌, ◌++◌, length, codes};
 
 use crate::line_buf::LineBuf;
-use nv_base::{CoreId, Entry, Outcome, TaskId};
+use nv_base::{CoreId, Entry, Outcome, Point, TaskId};
 
 impl LineBuf {
     ghost use Rattle.set_model.specs.Views.{entry_if, entry_of, outcome_of};
     ghost use Rattle.std.specs.List.{flat_map};
     ghost use Rattle.report_text.specs.Lines.{field, line_feed, outcome_text, entry_text, found_text};
+
+    /// The line of a core that begins a task.
+    pub(crate) fn append_start(&mut self, core: CoreId, task: TaskId, at: Point)
+        requires { length self.old ≤ 128 }
+        ensures { self.new ≡ self.old ++ field (codes "start core ") core.0 ++ field (codes " task ") task.0 ++ field (codes " at ") at.0 ++ line_feed }
+    {
+        self.append_field(b"start core ", u32::from(core.0));
+        self.append_field(b" task ", task.0);
+        self.append_field(b" at ", at.0);
+        self.append(b"\n");
+    }
 
     /// The end of a line that tells of an attempt: its core and its task.
     pub(crate) fn append_attempt(&mut self, core: CoreId, task: TaskId)
@@ -60,7 +71,7 @@ impl LineBuf {
         self.append(b"\n");
     }
     /// The line of a finish that a boot found, where it found one.
-    pub(crate) fn append_found(&mut self, found: Option<Entry>)
+    fn append_found(&mut self, found: Option<Entry>)
         requires { length self.old ≤ 128 }
         ensures text { self.new ≡ self.old ++ found_text (entry_if found) }
         ensures len { length self.new ≤ length self.old + 128 }
@@ -68,6 +79,16 @@ impl LineBuf {
         if let Some(entry) = found {
             self.append_entry(b"found ", entry);
         }
+    }
+
+    /// The lines of a boot: the finish that it found, if it found one, and the count of boots.
+    pub(crate) fn append_boot(&mut self, found: Option<Entry>, boots: u32)
+        requires { length self.old ≤ 128 }
+        ensures { self.new ≡ self.old ++ found_text (entry_if found) ++ field (codes "boot ") boots ++ line_feed }
+    {
+        self.append_found(found);
+        self.append_field(b"boot ", boots);
+        self.append(b"\n");
     }
 
     /// Words, each behind a space.
