@@ -19,12 +19,13 @@ pub struct LineBuf {
 
 impl Model for LineBuf {
     ghost use Rattle.std.specs.Prelude.{ℕ, List, ◌≤◌, vec_capacity};
+    ghost use Rattle.report.specs.declared.line_buf.TheConstants.{LONGEST_LINE};
 
     ghost Value = { List ℕ };
 
     ghost view = { λ b. b.bytes.items };
 
-    ghost invariant = { λ b. 728 ≤ vec_capacity b.bytes };
+    ghost invariant = { λ b. LONGEST_LINE ≤ vec_capacity b.bytes };
 }
 
 impl LineBuf {
@@ -52,7 +53,7 @@ impl LineBuf {
 
     /// Bytes as they stand, behind those that are there.
     pub(crate) fn append(&mut self, text: &[u8])
-        requires { length self.old + length text.now ≤ 728 }
+        requires { length self.old + length text.now ≤ LONGEST_LINE }
         ensures text { self.new ≡ self.old ++ text.now }
         ensures len { length self.new ≡ length self.old + length text.now }
     {
@@ -62,7 +63,7 @@ impl LineBuf {
 
     /// A word and the number behind it, in decimal.
     pub(crate) fn append_field(&mut self, word: &[u8], n: u32)
-        requires { length self.old + length word.now + 10 ≤ 728 }
+        requires { length self.old + length word.now + 10 ≤ LONGEST_LINE }
         ensures text { self.new ≡ self.old ++ field word.now n }
         ensures len { length self.new ≤ length self.old + length word.now + 10 }
     {

@@ -2,7 +2,7 @@
 
 ghost use Rattle.std.specs.Prelude.{◌≡◌, ◌≤◌, ◌+◌, ◌*◌, ◌++◌, length, codes};
 
-use crate::line_buf::LineBuf;
+use crate::line_buf::{LONGEST_LINE, LineBuf};
 use nv_base::{CoreId, Entry, Outcome, Point, TaskId};
 
 impl LineBuf {
@@ -93,7 +93,7 @@ impl LineBuf {
 
     /// Words, each behind a space.
     pub(crate) fn append_words(&mut self, words: &[u32])
-        requires { length self.old + 11 * length words.now ≤ 728 }
+        requires { length self.old + 11 * length words.now ≤ LONGEST_LINE }
         ensures text { self.new ≡ self.old ++ flat_map (field (codes " ")) words.now }
         ensures len { length self.new ≤ length self.old + 11 * length words.now }
     {
