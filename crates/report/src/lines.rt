@@ -7,12 +7,12 @@ ghost use Rattle.report_text.specs.Lines.{line_text, end_text, object_text, open
 ghost use Rattle.report.specs.Named.{NamesObject};
 
 use crate::line_buf::LineBuf;
+use crate::set_names::{object_name, program_name};
 use nv_base::{Line, ObjId, Point, Seq, TaskId, TaskRec};
 use task_set::TaskSet;
 
 impl LineBuf {
     /// What a turn told: its line, two lines where a boot found a finish, or nothing.
-    #[tactic(auto, using(crate::proofs::SetFacts::object_name_fits))]
     pub fn put_line(&mut self, set: &TaskSet, line: &Line)
         requires { NamesObject set.now (line_of line.now) }
         ensures { self.new ≡ line_text set.now (line_of line.now) }
@@ -31,7 +31,7 @@ impl LineBuf {
             }
             Line::RefuseSlots { core, task, object } => {
                 self.append(b"refuse slots ");
-                self.append(set.object_name(object));
+                self.append(object_name(set, object));
                 self.append_attempt(core, task);
             }
             Line::RefuseRecords {
@@ -63,7 +63,6 @@ impl LineBuf {
     }
 
     /// The words of an object that were read back, as many as its size.
-    #[tactic(auto, using(crate::proofs::SetFacts::object_name_fits, crate::proofs::SetFacts::object_size_fits))]
     pub fn put_object(&mut self, set: &TaskSet, o: ObjId, words: &[u32])
         requires object { o.0 < length set.now.objects }
         requires words { length words.now ≡ (object_at set.now o.0).size }
@@ -71,13 +70,12 @@ impl LineBuf {
     {
         self.clear();
         self.append(b"object ");
-        self.append(set.object_name(o));
+        self.append(object_name(set, o));
         self.append_words(words);
         self.append(b"\n");
     }
 
     /// A task that is still open.
-    #[tactic(auto, using(crate::proofs::SetFacts::program_name_fits))]
     pub fn put_open(&mut self, set: &TaskSet, task: TaskRec)
         requires { task.program.0 < length set.now.programs }
         ensures { self.new ≡ open_text set.now (task_of task) }
@@ -85,7 +83,7 @@ impl LineBuf {
         self.clear();
         self.append_field(b"open ", task.id.0);
         self.append(b" ");
-        self.append(set.program_name(task.program));
+        self.append(program_name(set, task.program));
         self.append_field(b" ", task.arg);
         self.append(b"\n");
     }

@@ -72,18 +72,14 @@ impl TaskSet {
 
     fn object(&self, o: ObjId) -> &ObjPart
         requires { o.0 < length self.now.objects }
-        ensures exact { result.now ≡ object_at self.now o.0 }
-        ensures limits { IsTaskSet self.now }
-        ensures names { IsNamed self.now }
+        ensures { result.now ≡ object_at self.now o.0 }
     {
         &self.parts.objects.as_slice()[usize::from(o.0)]
     }
 
     fn program(&self, p: ProgId) -> &ProgPart
         requires { p.0 < length self.now.programs }
-        ensures exact { result.now ≡ program_at self.now p.0 }
-        ensures limits { IsTaskSet self.now }
-        ensures names { IsNamed self.now }
+        ensures { result.now ≡ program_at self.now p.0 }
     {
         &self.parts.programs.as_slice()[usize::from(p.0)]
     }
@@ -118,9 +114,7 @@ impl TaskSet {
     /// The name of an object.
     pub fn object_name(&self, o: ObjId) -> &[u8]
         requires { o.0 < length self.now.objects }
-        ensures exact { result.now ≡ (object_at self.now o.0).name }
-        ensures limits { IsTaskSet self.now }
-        ensures names { IsNamed self.now }
+        ensures { result.now ≡ (object_at self.now o.0).name }
     {
         let object = self.object(o);
         object.name.as_slice()
@@ -129,9 +123,7 @@ impl TaskSet {
     /// The name of a program.
     pub fn program_name(&self, p: ProgId) -> &[u8]
         requires { p.0 < length self.now.programs }
-        ensures exact { result.now ≡ (program_at self.now p.0).name }
-        ensures limits { IsTaskSet self.now }
-        ensures names { IsNamed self.now }
+        ensures { result.now ≡ (program_at self.now p.0).name }
     {
         let program = self.program(p);
         program.name.as_slice()
