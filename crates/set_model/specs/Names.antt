@@ -1,7 +1,7 @@
 -- The names in a task set. This project's own.
-use Rattle.std.specs.Prelude.{◌≡◌, ◌≢◌, ℕ, List, Bool, false, ◌||◌, ◌==◌, map, length, get_or}
+use Rattle.std.specs.Prelude.{◌≡◌, ◌≢◌, ℕ, List, [], ◌∷◌, Bool, false, ◌||◌, ◌==◌, map, length, get_or}
 use Rattle.std.specs.Char.{is_ascii_alphanumeric, is_ascii_digit}
-use Rattle.std.specs.List.{AllByRecursion, AllPairs, AllPass}
+use Rattle.std.specs.List.{AllByRecursion, AllPass}
 use Rattle.set_model.specs.Sets.{TaskSet}
 use Rattle.set_model.specs.Limits.{IsWithin}
 
@@ -15,10 +15,15 @@ pub record IsName (name : List ℕ) : Type 0 where
   pub bytes : AllPass is_name_byte name
   pub first : is_ascii_digit (get_or name 0 0) ≡ false
 
+-- none is the same as a later one
+abbrev pub AreDistinct : List (List ℕ) → Type 0
+AreDistinct [] = Unit {0}
+AreDistinct (name ∷ names) = AllByRecursion (λ later. name ≢ later) names × AreDistinct names
+
 -- each is a name, and no two are the same
 pub record AreNames (names : List (List ℕ)) : Type 0 where
   pub each : AllByRecursion IsName names
-  pub once : AllPairs (λ a b. a ≢ b) names
+  pub once : AreDistinct names
 
 -- an object and a program may have the same name
 pub record IsNamed (set : TaskSet) : Type 0 where

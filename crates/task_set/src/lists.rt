@@ -54,6 +54,13 @@ impl Name {
     {
         self.items.as_slice()
     }
+
+    /// The same bytes, in memory of their own.
+    pub fn copy(&self, alloc: Global) -> Result<Name, NoMemory>
+        ensures { IfOk result (λ a. a ≡ self.now) }
+    {
+        Name::from_slice(alloc, self.as_slice())
+    }
 }
 
 /// Words of 32 bits: the first words of an object, or the code of a program.
@@ -103,6 +110,13 @@ impl Words {
     {
         self.items.as_slice()
     }
+
+    /// The same words, in memory of their own.
+    pub fn copy(&self, alloc: Global) -> Result<Words, NoMemory>
+        ensures { IfOk result (λ a. a ≡ self.now) }
+    {
+        Words::from_slice(alloc, self.as_slice())
+    }
 }
 
 /// Objects, by their numbers.
@@ -144,6 +158,17 @@ impl ObjectParts {
     {
         self.items.as_slice()
     }
+
+    /// The same objects, in memory of their own.
+    pub fn copy(&self, alloc: Global) -> Result<ObjectParts, NoMemory>
+        ensures { IfOk result (λ a. a ≡ self.now) }
+    {
+        let mut items = Vec::with_capacity(alloc, self.items.len())?;
+        for object in &self.items {
+            items.push(object.copy(alloc)?)?;
+        }
+        Ok(ObjectParts { items })
+    }
 }
 
 /// Programs, by their numbers.
@@ -184,6 +209,17 @@ impl ProgramParts {
         ensures { result.now ≡ self.now }
     {
         self.items.as_slice()
+    }
+
+    /// The same programs, in memory of their own.
+    pub fn copy(&self, alloc: Global) -> Result<ProgramParts, NoMemory>
+        ensures { IfOk result (λ a. a ≡ self.now) }
+    {
+        let mut items = Vec::with_capacity(alloc, self.items.len())?;
+        for program in &self.items {
+            items.push(program.copy(alloc)?)?;
+        }
+        Ok(ProgramParts { items })
     }
 }
 
@@ -234,5 +270,12 @@ impl Tasks {
         ensures { result.now ≡ self.now }
     {
         self.items.as_slice()
+    }
+
+    /// The same tasks, in memory of their own.
+    pub fn copy(&self, alloc: Global) -> Result<Tasks, NoMemory>
+        ensures { IfOk result (λ a. a ≡ self.now) }
+    {
+        Tasks::from_slice(alloc, self.as_slice())
     }
 }

@@ -1,6 +1,10 @@
 //! What a task set is made of, before its limits are looked at.
 
+ghost use Rattle.std.specs.Prelude.{◌≡◌, IfOk};
+
 use crate::lists::{Name, ObjectParts, ProgramParts, Tasks, Words};
+use nv_base::NoMemory;
+use std::alloc::Global;
 use std::marker::Model;
 
 /// An object. Contracts see it as the definitions' record of an object.
@@ -24,6 +28,20 @@ impl Model for ObjPart {
     ghost view = { λ o. record { name = o.name; size = o.size; slots = o.slots; first = o.first } };
 }
 
+impl ObjPart {
+    /// The same object, in memory of its own.
+    pub fn copy(&self, alloc: Global) -> Result<ObjPart, NoMemory>
+        ensures { IfOk result (λ o. o ≡ self.now) }
+    {
+        Ok(ObjPart {
+            name: self.name.copy(alloc)?,
+            size: self.size,
+            slots: self.slots,
+            first: self.first.copy(alloc)?,
+        })
+    }
+}
+
 /// A program. Contracts see it as the definitions' record of a program.
 #[derive(Drop)]
 pub struct ProgPart {
@@ -41,6 +59,19 @@ impl Model for ProgPart {
     ghost Value = { ProgramPart };
 
     ghost view = { λ p. record { name = p.name; fuel = p.fuel; code = p.code } };
+}
+
+impl ProgPart {
+    /// The same program, in memory of its own.
+    pub fn copy(&self, alloc: Global) -> Result<ProgPart, NoMemory>
+        ensures { IfOk result (λ p. p ≡ self.now) }
+    {
+        Ok(ProgPart {
+            name: self.name.copy(alloc)?,
+            fuel: self.fuel,
+            code: self.code.copy(alloc)?,
+        })
+    }
 }
 
 /// The parts of a task set. Contracts see them as the definitions' record of a task set, which may break limits.
@@ -68,4 +99,20 @@ impl Model for SetParts {
     ghost Value = { TaskSet };
 
     ghost view = { λ a. record { cores = a.cores; memory = a.memory; records = a.records; objects = a.objects; programs = a.programs; tasks = map spawn_of a.tasks } };
+}
+
+impl SetParts {
+    /// The same parts, in memory of their own.
+    pub fn copy(&self, alloc: Global) -> Result<SetParts, NoMemory>
+        ensures { IfOk result (λ a. a ≡ self.now) }
+    {
+        Ok(SetParts {
+            cores: self.cores,
+            memory: self.memory,
+            records: self.records,
+            objects: self.objects.copy(alloc)?,
+            programs: self.programs.copy(alloc)?,
+            tasks: self.tasks.copy(alloc)?,
+        })
+    }
 }

@@ -1,13 +1,20 @@
 //! Checked task sets.
 
-ghost use Rattle.std.specs.Prelude.{◌≡◌, ◌<◌, map, length};
-ghost use Rattle.set_model.specs.Limits.{IsTaskSet};
+ghost use Rattle.std.specs.Prelude.{◌≡◌, ◌<◌, map, length, IfOk, MatchResult};
+ghost use Rattle.task_set.specs.Refusals.{IsRefused};
+ghost use Rattle.set_model.specs.Limits.{IsObject, IsProgram, IsTaskSet};
 ghost use Rattle.set_model.specs.Names.{IsNamed};
 ghost use Rattle.set_model.specs.Sets.{object_at, program_at};
 ghost use Rattle.set_model.specs.Views.{spawn_of};
 
+use crate::limits::first_broken;
+use crate::names::are_named;
 use crate::parts::{ObjPart, ProgPart, SetParts};
-use nv_base::{ObjId, ProgId, Spawn};
+use crate::ranges::has_words;
+use crate::refusals::SetRefusal;
+use nv_base::{NoMemory, ObjId, ProgId, Spawn};
+use set_model::laws::{object_is_within, program_is_within};
+use std::alloc::Global;
 use std::marker::Model;
 
 /// A task set within all limits, whose names are names. Contracts see it as the definitions' record of a task set.
@@ -29,6 +36,34 @@ impl Model for TaskSet {
 }
 
 impl TaskSet {
+    /// The set of the parts, which are consumed. `Limit` with the first limit that is broken; where none is, `Name`
+    /// where a name is malformed, or given twice among the objects or among the programs; `NoMemory` where the names
+    /// found none to be compared in.
+    pub fn build(alloc: Global, parts: SetParts) -> Result<TaskSet, SetRefusal>
+        ensures { MatchResult result (λ set. (set ≡ parts) × IsTaskSet parts × IsNamed parts) (λ refusal. IsRefused refusal parts) }
+    {
+        if let Some(kind) = first_broken(&parts) {
+            return Err(SetRefusal::Limit(kind));
+        }
+        match are_named(alloc, &parts) {
+            Err(NoMemory) => Err(SetRefusal::NoMemory),
+            Ok(false) => Err(SetRefusal::Name),
+            Ok(true) => {
+                has_words(&parts);
+                Ok(TaskSet { parts })
+            }
+        }
+    }
+
+    /// An equal set, in memory of its own.
+    pub fn copy(&self, alloc: Global) -> Result<TaskSet, NoMemory>
+        ensures { IfOk result (λ set. set ≡ self.now) }
+    {
+        Ok(TaskSet {
+            parts: self.parts.copy(alloc)?,
+        })
+    }
+
     /// How many cores there are: 1 to 8.
     pub fn cores(&self) -> u8
         ensures exact { result ≡ self.now.cores }
@@ -72,40 +107,47 @@ impl TaskSet {
 
     fn object(&self, o: ObjId) -> &ObjPart
         requires { o.0 < length self.now.objects }
-        ensures { result.now ≡ object_at self.now o.0 }
+        ensures exact { result.now ≡ object_at self.now o.0 }
+        ensures limits { IsObject (object_at self.now o.0) }
     {
+        object_is_within();
         &self.parts.objects.as_slice()[usize::from(o.0)]
     }
 
     fn program(&self, p: ProgId) -> &ProgPart
         requires { p.0 < length self.now.programs }
-        ensures { result.now ≡ program_at self.now p.0 }
+        ensures exact { result.now ≡ program_at self.now p.0 }
+        ensures limits { IsProgram self.now.memory (program_at self.now p.0) }
     {
+        program_is_within();
         &self.parts.programs.as_slice()[usize::from(p.0)]
     }
 
-    /// How many words an object has.
+    /// How many words an object has: 1 to 64.
     pub fn size(&self, o: ObjId) -> u8
         requires { o.0 < length self.now.objects }
-        ensures { result ≡ (object_at self.now o.0).size }
+        ensures exact { result ≡ (object_at self.now o.0).size }
+        ensures limits { IsObject (object_at self.now o.0) }
     {
         let object = self.object(o);
         object.size
     }
 
-    /// For how many versions an object has slots.
+    /// For how many versions an object has slots: 2 to 8.
     pub fn slots(&self, o: ObjId) -> u8
         requires { o.0 < length self.now.objects }
-        ensures { result ≡ (object_at self.now o.0).slots }
+        ensures exact { result ≡ (object_at self.now o.0).slots }
+        ensures limits { IsObject (object_at self.now o.0) }
     {
         let object = self.object(o);
         object.slots
     }
 
-    /// The words of an object at first.
+    /// The words of an object at first, as many as its size.
     pub fn first(&self, o: ObjId) -> &[u32]
         requires { o.0 < length self.now.objects }
-        ensures { result.now ≡ (object_at self.now o.0).first }
+        ensures exact { result.now ≡ (object_at self.now o.0).first }
+        ensures limits { IsObject (object_at self.now o.0) }
     {
         let object = self.object(o);
         object.first.as_slice()
@@ -129,19 +171,21 @@ impl TaskSet {
         program.name.as_slice()
     }
 
-    /// The code of a program, in words.
+    /// The code of a program: at most 1,024 words, which fit the private memory.
     pub fn code(&self, p: ProgId) -> &[u32]
         requires { p.0 < length self.now.programs }
-        ensures { result.now ≡ (program_at self.now p.0).code }
+        ensures exact { result.now ≡ (program_at self.now p.0).code }
+        ensures limits { IsProgram self.now.memory (program_at self.now p.0) }
     {
         let program = self.program(p);
         program.code.as_slice()
     }
 
-    /// How many instructions a run of a program may count.
+    /// How many instructions a run of a program may count: 1 to 1,000,000.
     pub fn fuel(&self, p: ProgId) -> u32
         requires { p.0 < length self.now.programs }
-        ensures { result ≡ (program_at self.now p.0).fuel }
+        ensures exact { result ≡ (program_at self.now p.0).fuel }
+        ensures limits { IsProgram self.now.memory (program_at self.now p.0) }
     {
         let program = self.program(p);
         program.fuel
