@@ -7,3 +7,6 @@ mod pieces;
 mod set_names;
 
 pub use line_buf::LineBuf;
+
+#[cfg(test)]
+mod tests;
