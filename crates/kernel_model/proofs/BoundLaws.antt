@@ -9,7 +9,7 @@ use Rattle.kernel_model.specs.Replay.{Base, clock_of}
 use Rattle.kernel_model.specs.Versions.{Read, Version, version_read}
 use Rattle.kernel_model.specs.Intervals.{Interval, finish_interval, last_touch, raised_for, read_interval, touches, within}
 use Rattle.kernel_model.specs.Cores.{Attempt, Committing, Idle, Ready, run_of}
-use Rattle.kernel_model.specs.Events.{Event, State, next, with_finish}
+use Rattle.kernel_model.specs.Events.{Event, State, event_step, with_finish}
 use Rattle.kernel_model.specs.History.{Follows}
 use Rattle.kernel_model.specs.Sound.{IsSound, IsSoundCore}
 use Rattle.kernel_model.specs.Chain.{IsFloor, StartsFrom, joining}
@@ -26,7 +26,7 @@ bound_raised floor o i history = elim (touches i o) as (λ b. max floor (cond b 
   | false ↦ refl
 ]
 
-pub bound_next : {M : Type 0} → (steps : Steps M) (sizes : Sizes) (base : Base) (s : State M) (floor o : ℕ) (e : Event) → bound_of floor o (next steps sizes base s e).0.history ≡ with_touch (joining s e) o (bound_of floor o s.history)
+pub bound_next : {M : Type 0} → (steps : Steps M) (sizes : Sizes) (base : Base) (s : State M) (floor o : ℕ) (e : Event) → bound_of floor o (event_step steps sizes base s e).0.history ≡ with_touch (joining s e) o (bound_of floor o s.history)
 bound_next steps sizes base s floor o e = ap (bound_of floor o) (history-joined steps sizes base s e) ∙ go (joining s e)
   where
     go : (j : Option Item) → bound_of floor o (with_finish j s.history) ≡ with_touch j o (bound_of floor o s.history)

@@ -9,7 +9,7 @@ use Rattle.kernel_model.specs.Items.{Entry, Item, listing}
 use Rattle.kernel_model.specs.Replay.{Base}
 use Rattle.kernel_model.specs.Sizes.{Sizes}
 use Rattle.kernel_model.specs.Turns.{Line, Start}
-use Rattle.kernel_model.specs.Events.{Event, State, with_finish, lines_of, next, state_after}
+use Rattle.kernel_model.specs.Events.{Event, State, with_finish, lines_of, event_step, state_after}
 use Rattle.kernel_model.specs.Durable.{event_writes, flipped_by, listed, writes_after}
 use Rattle.kernel_model.specs.Report.{IsFresh, found_lines, told, unprinted}
 use Rattle.kernel_model.specs.Fit.{HasIds, IsSetUp}
@@ -35,8 +35,8 @@ module _ {M : Type 0} (steps : Steps M) (sizes : Sizes) (base : Base) where
   -- the state, the lines and the writes after one event more
   pub one_more : (s : State M) (events : List Event) (n : ℕ) (e : Event) → slice_get events n ≡ Some e →
       (let t = state_after steps sizes base s (take n events) in
-      (state_after steps sizes base s (take (n + 1) events) ≡ (next steps sizes base t e).0)
-      × (lines_of steps sizes base s (take (n + 1) events) ≡ lines_of steps sizes base s (take n events) ++ (next steps sizes base t e).1 ∷ [])
+      (state_after steps sizes base s (take (n + 1) events) ≡ (event_step steps sizes base t e).0)
+      × (lines_of steps sizes base s (take (n + 1) events) ≡ lines_of steps sizes base s (take n events) ++ (event_step steps sizes base t e).1 ∷ [])
       × (writes_after steps sizes base s (take (n + 1) events) ≡ writes_after steps sizes base s (take n events) + event_writes t e))
   one_more s events n e h = (
     ap (state_after steps sizes base s) longer ∙ state_after-append steps sizes base (take n events) (e ∷ []) s,
@@ -51,36 +51,36 @@ module _ {M : Type 0} (steps : Steps M) (sizes : Sizes) (base : Base) where
   pub lines_first : (s : State M) (events : List Event) (n : ℕ) → lines_of steps sizes base s (take n events) ≡ take n (lines_of steps sizes base s events)
   lines_first s events zero = refl
   lines_first s [] (suc n) = refl
-  lines_first s (e ∷ events) (suc n) = ap (λ (lines : List Line). (next steps sizes base s e).1 ∷ lines) (lines_first (next steps sizes base s e).0 events n)
+  lines_first s (e ∷ events) (suc n) = ap (λ (lines : List Line). (event_step steps sizes base s e).1 ∷ lines) (lines_first (event_step steps sizes base s e).0 events n)
 
   -- a line for each event
   pub lines_length : (s : State M) (events : List Event) → length (lines_of steps sizes base s events) ≡ length events
   lines_length s [] = refl
-  lines_length s (e ∷ events) = ap suc (lines_length (next steps sizes base s e).0 events)
+  lines_length s (e ∷ events) = ap suc (lines_length (event_step steps sizes base s e).0 events)
 
   -- the event of a line
   line_event : (s : State M) (events : List Event) (n : ℕ) (line : Line) → slice_get (lines_of steps sizes base s events) n ≡ Some line →
-      (e : Event) × (slice_get events n ≡ Some e) × ((next steps sizes base (state_after steps sizes base s (take n events)) e).1 ≡ line)
+      (e : Event) × (slice_get events n ≡ Some e) × ((event_step steps sizes base (state_after steps sizes base s (take n events)) e).1 ≡ line)
   line_event s [] n line h = absurd (cc h)
   line_event s (e ∷ events) zero line h = (e, refl, cc h)
-  line_event s (e ∷ events) (suc n) line h = line_event (next steps sizes base s e).0 events n line h
+  line_event s (e ∷ events) (suc n) line h = line_event (event_step steps sizes base s e).0 events n line h
 
   pub writes_grow : (s : State M) (events : List Event) (m n : ℕ) → m ≤ n → writes_after steps sizes base s (take m events) ≤ writes_after steps sizes base s (take n events)
   writes_grow s events zero n l = omega arith
   writes_grow s events (suc m) zero l = absurd (omega (arith, l))
   writes_grow s [] (suc m) (suc n) l = omega arith
-  writes_grow s (e ∷ events) (suc m) (suc n) l = omega (arith, writes_grow (next steps sizes base s e).0 events m n (omega (arith, l)))
+  writes_grow s (e ∷ events) (suc m) (suc n) l = omega (arith, writes_grow (event_step steps sizes base s e).0 events m n (omega (arith, l)))
 
   pub writes_within : (s : State M) (events : List Event) (m : ℕ) → writes_after steps sizes base s (take m events) ≤ writes_after steps sizes base s events
   writes_within s events zero = omega arith
   writes_within s [] (suc m) = omega arith
-  writes_within s (e ∷ events) (suc m) = omega (arith, writes_within (next steps sizes base s e).0 events m)
+  writes_within s (e ∷ events) (suc m) = omega (arith, writes_within (event_step steps sizes base s e).0 events m)
 
   -- one event more makes one write more at most
   one_write_more : (s : State M) (events : List Event) (n : ℕ) → writes_after steps sizes base s (take (suc n) events) ≤ writes_after steps sizes base s (take n events) + 1
   one_write_more s [] n = omega arith
   one_write_more s (e ∷ events) zero = omega (arith, one_write s e)
-  one_write_more s (e ∷ events) (suc n) = omega (arith, one_write_more (next steps sizes base s e).0 events n)
+  one_write_more s (e ∷ events) (suc n) = omega (arith, one_write_more (event_step steps sizes base s e).0 events n)
 
   pub lost_within : (s : State M) (events : List Event) (n k : ℕ) → writes_after steps sizes base s (take n events) ≤ k → k ≤ writes_after steps sizes base s (take (n + 1) events) →
       (k ≡ writes_after steps sizes base s (take n events)) ⊎ (k ≡ writes_after steps sizes base s (take (n + 1) events))
@@ -93,9 +93,9 @@ module _ {M : Type 0} (steps : Steps M) (sizes : Sizes) (base : Base) where
   -- each count of writes is reached
   pub count_reached : (events : List Event) (s : State M) (k : ℕ) → k ≤ writes_after steps sizes base s events → (n : ℕ) × (n ≤ length events) × (writes_after steps sizes base s (take n events) ≡ k)
   count_reached [] s k l = (0, omega arith, omega (arith, l))
-  count_reached (e ∷ events) s k l = go (count_reached events (next steps sizes base s e).0 (k - event_writes s e) (omega (arith, l))) (cases_lt 0 k)
+  count_reached (e ∷ events) s k l = go (count_reached events (event_step steps sizes base s e).0 (k - event_writes s e) (omega (arith, l))) (cases_lt 0 k)
     where
-      go : ((n : ℕ) × (n ≤ length events) × (writes_after steps sizes base (next steps sizes base s e).0 (take n events) ≡ k - event_writes s e)) → (0 < k) ⊎ (k ≤ 0) →
+      go : ((n : ℕ) × (n ≤ length events) × (writes_after steps sizes base (event_step steps sizes base s e).0 (take n events) ≡ k - event_writes s e)) → (0 < k) ⊎ (k ≤ 0) →
           (n : ℕ) × (n ≤ length (e ∷ events)) × (writes_after steps sizes base s (take n (e ∷ events)) ≡ k)
       go i (inl h) = (suc i.0, omega (arith, i.1), omega (arith, h, i.2, one_write s e))
       go i (inr h) = (0, omega arith, omega (arith, h))
@@ -105,10 +105,10 @@ module _ {M : Type 0} (steps : Steps M) (sizes : Sizes) (base : Base) where
       (newer : List Item) × (listed (state_after steps sizes base s events) ≡ newer ++ listed s)
   grown set_up [] s l h = ([], refl)
   grown set_up (e ∷ events) s l h = go (flipped_by s e) (listed_step steps sizes set_up.sized.index_writes base s h e)
-      (grown set_up events (next steps sizes base s e).0 (omega (arith, l, history-step steps sizes base s e)) (next_sound steps sizes base set_up s h (sound-ids steps sizes base set_up s.history h.history (omega (arith, l))) e))
+      (grown set_up events (event_step steps sizes base s e).0 (omega (arith, l, history-step steps sizes base s e)) (next_sound steps sizes base set_up s h (sound-ids steps sizes base set_up s.history h.history (omega (arith, l))) e))
     where
       t : State M
-      t = (next steps sizes base s e).0
+      t = (event_step steps sizes base s e).0
 
       go : (o : Option Item) → listed t ≡ with_finish o (listed s) → (newer : List Item) × (listed (state_after steps sizes base t events) ≡ newer ++ listed t) →
           (newer : List Item) × (listed (state_after steps sizes base t events) ≡ newer ++ listed s)

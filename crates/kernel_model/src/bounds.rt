@@ -9,7 +9,7 @@ ghost use Rattle.kernel_model.specs.Replay.{Base, clock_of};
 ghost use Rattle.kernel_model.specs.Versions.{Read};
 ghost use Rattle.kernel_model.specs.Intervals.{finish_interval, read_interval};
 ghost use Rattle.kernel_model.specs.Cores.{Attempt, Core, run_of};
-ghost use Rattle.kernel_model.specs.Events.{Event, State, next};
+ghost use Rattle.kernel_model.specs.Events.{Event, State, event_step};
 ghost use Rattle.kernel_model.specs.Sound.{IsSound};
 ghost use Rattle.kernel_model.specs.Chain.{IsFloor, joining};
 ghost use Rattle.kernel_model.specs.Bounds.{bound_of, raised_by, with_touch};
@@ -27,7 +27,7 @@ pub fn finish_raises_bounds()
 /// A bound changes by the finish that joins at an event, if one does, and else stays.
 pub fn bound_goes_on<M>()
     ensures { (steps : Steps M) (sizes : Sizes) (base : Base) (s : State M) (floor o : ℕ) (e : Event)
-        → bound_of floor o (next steps sizes base s e).0.history ≡ with_touch (joining s e) o (bound_of floor o s.history) }
+        → bound_of floor o (event_step steps sizes base s e).0.history ≡ with_touch (joining s e) o (bound_of floor o s.history) }
 {}
 
 /// The bounds give the interval of a finish whose attempt began at the floor or later.

@@ -7,7 +7,7 @@ ghost use Rattle.kernel_model.specs.Items.{Item, listing};
 ghost use Rattle.kernel_model.specs.Replay.{Base};
 ghost use Rattle.kernel_model.specs.Sizes.{Sizes};
 ghost use Rattle.kernel_model.specs.Turns.{Line};
-ghost use Rattle.kernel_model.specs.Events.{Event, State, lines_of, next, state_after};
+ghost use Rattle.kernel_model.specs.Events.{Event, State, lines_of, event_step, state_after};
 ghost use Rattle.kernel_model.specs.Durable.{event_writes, listed, writes_after};
 ghost use Rattle.kernel_model.specs.Report.{IsFresh, told, unprinted};
 ghost use Rattle.kernel_model.specs.Execution.{Execution, start_of, state_at, writes_at};
@@ -16,8 +16,8 @@ ghost use Rattle.kernel_model.specs.Execution.{Execution, start_of, state_at, wr
 pub fn one_event_more<M>()
     ensures { (steps : Steps M) (sizes : Sizes) (base : Base) (s : State M) (events : List Event) (n : ℕ) (e : Event) → slice_get events n ≡ Option.Some e
         → (let t = state_after steps sizes base s (take n events) in
-        (state_after steps sizes base s (take (n + 1) events) ≡ (next steps sizes base t e).0)
-        × (lines_of steps sizes base s (take (n + 1) events) ≡ lines_of steps sizes base s (take n events) ++ (next steps sizes base t e).1 ∷ [])
+        (state_after steps sizes base s (take (n + 1) events) ≡ (event_step steps sizes base t e).0)
+        × (lines_of steps sizes base s (take (n + 1) events) ≡ lines_of steps sizes base s (take n events) ++ (event_step steps sizes base t e).1 ∷ [])
         × (writes_after steps sizes base s (take (n + 1) events) ≡ writes_after steps sizes base s (take n events) + event_writes t e)) }
 {}
 

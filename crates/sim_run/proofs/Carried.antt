@@ -7,7 +7,7 @@ use Rattle.std.proofs.Math.Seq.{take-length}
 use Rattle.rv_core.specs.State.{MachineState}
 use Rattle.nv_base.specs.declared.lines.Line as base
 use Rattle.kernel_model.specs.Turns.{Line}
-use Rattle.kernel_model.specs.Events.{CoreStep, Event, Fail, lines_of, next}
+use Rattle.kernel_model.specs.Events.{CoreStep, Event, Fail, lines_of, event_step}
 use Rattle.kernel_model.specs.Report.{found_lines, unprinted}
 use Rattle.kernel_model.proofs.FirstEvents.{one_more}
 use Rattle.kernel_model.proofs.Reached.{lines_of-append}
@@ -45,9 +45,9 @@ unfolding Leads
 leads_to set events k j n l c e h =
     let more = one_more (task_steps set) (sizes_of set) (formatted set) (first_state set) events n (CoreStep 0) e in
     let t = h c.m in
-    let same : next (task_steps set) (sizes_of set) (formatted set) (after set (take n events)) (CoreStep 0) ≡ (state_in t.0 j, line_of l) =
-    ap (λ s. next (task_steps set) (sizes_of set) (formatted set) s (CoreStep 0)) c.state
-    ∙ subst (λ x. next (task_steps x) (sizes_of x) (formatted x) (state_in c.m k) (CoreStep 0) ≡ (state_in t.0 j, line_of l)) c.set_is t.1 in
+    let same : event_step (task_steps set) (sizes_of set) (formatted set) (after set (take n events)) (CoreStep 0) ≡ (state_in t.0 j, line_of l) =
+    ap (λ s. event_step (task_steps set) (sizes_of set) (formatted set) s (CoreStep 0)) c.state
+    ∙ subst (λ x. event_step (task_steps x) (sizes_of x) (formatted x) (state_in c.m k) (CoreStep 0) ≡ (state_in t.0 j, line_of l)) c.set_is t.1 in
     record {
       m = t.0;
       state = more.0 ∙ ap (λ p. p.0) same;

@@ -13,7 +13,7 @@ use Rattle.kernel_model.specs.Versions.{Read}
 use Rattle.kernel_model.specs.Cores.{Attempt, Core, Idle, Running, Copying, Ready, Committing, run_of}
 use Rattle.kernel_model.specs.Verdicts.{finish_of}
 use Rattle.kernel_model.specs.Turns.{Nothing, run_turn}
-use Rattle.kernel_model.specs.Events.{State, Event, On, CoreStep, next}
+use Rattle.kernel_model.specs.Events.{State, Event, On, CoreStep, event_step}
 use Rattle.kernel_model.specs.Durable.{listed, state_left}
 use Rattle.kernel_model.specs.Report.{found_lines, unprinted}
 use Rattle.set_model.specs.Sets.{TaskSet}
@@ -71,7 +71,7 @@ state_in m k = record { history = history_in k k.phase; owed = None; cores = cor
 unfoldable pub Leads : OneCore → OneCore → Line → Type 0
 Leads old new line =
     (m : MachineState) → (n : MachineState)
-    × (next (task_steps (set_of old)) (sizes_of (set_of old)) (formatted (set_of old)) (state_in m old) (CoreStep 0) ≡ (state_in n new, line_of line))
+    × (event_step (task_steps (set_of old)) (sizes_of (set_of old)) (formatted (set_of old)) (state_in m old) (CoreStep 0) ≡ (state_in n new, line_of line))
 
 -- the turn that ends what an attempt's step began: old has the machine that waits on the service, m is the attempt's state before the step
 unfoldable pub Serves : OneCore → Service → OneCore → Type 0
