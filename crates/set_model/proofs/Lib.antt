@@ -1,1 +1,2 @@
+pub mod AtFacts
 pub mod FormattedFacts

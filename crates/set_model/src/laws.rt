@@ -1,8 +1,9 @@
 //! What holds of each task set within the limits.
 
+ghost use Rattle.std.specs.Prelude.{ℕ, ◌<◌, length};
 ghost use Rattle.kernel_model.specs.Fit.{IsBase, IsSizes};
-ghost use Rattle.set_model.specs.Sets.{TaskSet};
-ghost use Rattle.set_model.specs.Limits.{IsTaskSet};
+ghost use Rattle.set_model.specs.Sets.{TaskSet, object_at, program_at};
+ghost use Rattle.set_model.specs.Limits.{IsObject, IsProgram, IsTaskSet};
 ghost use Rattle.set_model.specs.Numbers.{sizes_of};
 ghost use Rattle.set_model.specs.Formatted.{formatted};
 
@@ -14,4 +15,14 @@ pub fn numbers_are_fit()
 /// The state that a format leaves is one that a device may hold.
 pub fn formatted_state_is_fit()
     ensures { (set : TaskSet) → IsTaskSet set → IsBase (sizes_of set) (formatted set) }
+{}
+
+/// Each object of a set within the limits is within them.
+pub fn object_is_within()
+    ensures { (set : TaskSet) (o : ℕ) → IsTaskSet set → o < length set.objects → IsObject (object_at set o) }
+{}
+
+/// Each program of a set within the limits is within them.
+pub fn program_is_within()
+    ensures { (set : TaskSet) (p : ℕ) → IsTaskSet set → p < length set.programs → IsProgram set.memory (program_at set p) }
 {}
