@@ -1,0 +1,4 @@
+pub mod WordFacts
+pub mod NameFacts
+pub mod TaskFacts
+pub mod LimitLaws

@@ -1,0 +1,163 @@
+-- No limit is broken exactly where a set is within its limits.
+use Rattle.std.proofs.Common.{◌≡◌, ℕ, ◌*◌, ◌%◌, ◌==◌, Bool, true, false, not, cond, ◌&&◌, nat_lt, nat_le, Option, Some, None, List, [], ◌∷◌, length, refl}
+use Rattle.std.specs.Int.{is_in_range}
+use Rattle.std.specs.List.{AllByRecursion, list_all}
+use Rattle.std.specs.Cmp.Derive.{both_true}
+use Rattle.std.proofs.lemmas.Bool.{leb-true, le-leb, ltb-true, lt-ltb, eqb-true}
+use Rattle.std.proofs.Common.{eq-eqb}
+use Rattle.kernel_model.specs.Effects.{Spawn}
+use Rattle.set_model.specs.Sets.{ObjectPart, ProgramPart, TaskSet}
+use Rattle.set_model.specs.Limits.{IsWithin, IsWord, IsObject, IsProgram, IsTask, IsTaskSet}
+use Rattle.task_set.specs.declared.refusals.LimitKind.{LimitKind}
+use Rattle.task_set.specs.declared.refusals.LimitKind.TheVariants.{Cores, Memory, Records, Objects, Size, Slots, First, Programs, Fuel, Code, Tasks, TaskProgram}
+use Rattle.task_set.specs.FirstBroken.{first_broken, cores_hold, memory_holds, records_hold, objects_hold, sizes_hold, slots_hold, firsts_hold, programs_hold, fuels_hold, codes_hold, tasks_hold, task_programs_hold}
+use Rattle.task_set.specs.Ranges.{HasWords}
+
+record AllHold (set : TaskSet) : Type 0 where
+  cores : cores_hold set ≡ true
+  memory : memory_holds set ≡ true
+  records : records_hold set ≡ true
+  objects : objects_hold set ≡ true
+  sizes : sizes_hold set ≡ true
+  slots : slots_hold set ≡ true
+  firsts : firsts_hold set ≡ true
+  programs : programs_hold set ≡ true
+  fuels : fuels_hold set ≡ true
+  codes : codes_hold set ≡ true
+  tasks : tasks_hold set ≡ true
+  task_programs : task_programs_hold set ≡ true
+
+kept : (b : Bool) (kind : LimitKind) (rest : Option LimitKind) → cond (not b) (Some kind) rest ≡ None → (b ≡ true) × (rest ≡ None)
+kept true kind rest e = (refl, e)
+kept false kind rest e = let f : Some kind ≡ None = e in absurd (cc)
+
+all_hold : (set : TaskSet) → first_broken set ≡ None → AllHold set
+unfolding first_broken
+all_hold set e =
+    let a = kept (cores_hold set) Cores _ e in
+    let b = kept (memory_holds set) Memory _ a.1 in
+    let c = kept (records_hold set) Records _ b.1 in
+    let d = kept (objects_hold set) Objects _ c.1 in
+    let f = kept (sizes_hold set) Size _ d.1 in
+    let g = kept (slots_hold set) Slots _ f.1 in
+    let h = kept (firsts_hold set) First _ g.1 in
+    let i = kept (programs_hold set) Programs _ h.1 in
+    let j = kept (fuels_hold set) Fuel _ i.1 in
+    let k = kept (codes_hold set) Code _ j.1 in
+    let l = kept (tasks_hold set) Tasks _ k.1 in
+    let m = kept (task_programs_hold set) TaskProgram _ l.1 in
+    record {
+      cores = a.0;
+      memory = b.0;
+      records = c.0;
+      objects = d.0;
+      sizes = f.0;
+      slots = g.0;
+      firsts = h.0;
+      programs = i.0;
+      fuels = j.0;
+      codes = k.0;
+      tasks = l.0;
+      task_programs = m.0;
+    }
+
+none_if_all_hold : (set : TaskSet) → AllHold set → first_broken set ≡ None
+unfolding first_broken
+none_if_all_hold set h = rw (h.cores, h.memory, h.records, h.objects, h.sizes, h.slots, h.firsts, h.programs, h.fuels, h.codes, h.tasks, h.task_programs) refl
+
+both : (a b : Bool) → (a && b) ≡ true → (a ≡ true) × (b ≡ true)
+both true b e = (refl, e)
+both false b e = let f : false ≡ true = e in absurd (cc)
+
+within : (low high n : ℕ) → is_in_range low high n ≡ true → IsWithin low high n
+within low high n e = let h = both (nat_le low n) (nat_le n high) e in (leb-true low n h.0, leb-true n high h.1)
+
+in_range : (low high n : ℕ) → IsWithin low high n → is_in_range low high n ≡ true
+in_range low high n h = both_true (le-leb low n h.0) (le-leb n high h.1)
+
+each_object : (objects : List ObjectPart) → list_all (λ o. is_in_range 1 64 o.size) objects ≡ true → list_all (λ o. is_in_range 2 8 o.slots) objects ≡ true → list_all (λ o. length o.first == o.size) objects ≡ true
+    → AllByRecursion (λ o. AllByRecursion IsWord o.first) objects → AllByRecursion IsObject objects
+each_object [] e f g w = tt
+each_object (o ∷ objects) e f g w =
+    let h = both (is_in_range 1 64 o.size) (list_all (λ p. is_in_range 1 64 p.size) objects) e in
+    let i = both (is_in_range 2 8 o.slots) (list_all (λ p. is_in_range 2 8 p.slots) objects) f in
+    let j = both (length o.first == o.size) (list_all (λ p. length p.first == p.size) objects) g in
+    (record { size = within 1 64 o.size h.0; slots = within 2 8 o.slots i.0; first = eqb-true (length o.first) o.size j.0; words = w.0 }, each_object objects h.1 i.1 j.1 w.1)
+
+each_program : (memory : ℕ) (programs : List ProgramPart) → list_all (λ p. is_in_range 1 1000000 p.fuel) programs ≡ true
+    → list_all (λ p. nat_le (length p.code) 1024 && nat_le (4 * length p.code) memory) programs ≡ true → AllByRecursion (λ p. AllByRecursion IsWord p.code) programs
+    → AllByRecursion (IsProgram memory) programs
+each_program memory [] e f w = tt
+each_program memory (p ∷ programs) e f w =
+    let h = both (is_in_range 1 1000000 p.fuel) (list_all (λ q. is_in_range 1 1000000 q.fuel) programs) e in
+    let i = both (nat_le (length p.code) 1024 && nat_le (4 * length p.code) memory) (list_all (λ q. nat_le (length q.code) 1024 && nat_le (4 * length q.code) memory) programs) f in
+    let j = both (nat_le (length p.code) 1024) (nat_le (4 * length p.code) memory) i.0 in
+    (record { fuel = within 1 1000000 p.fuel h.0; code = leb-true (length p.code) 1024 j.0; fits = leb-true (4 * length p.code) memory j.1; words = w.0 }, each_program memory programs h.1 i.1 w.1)
+
+each_task : (n : ℕ) (tasks : List Spawn) → list_all (λ t. nat_lt t.program n) tasks ≡ true → AllByRecursion (λ t. IsWord t.arg) tasks → AllByRecursion (IsTask n) tasks
+each_task n [] e w = tt
+each_task n (t ∷ tasks) e w =
+    let h = both (nat_lt t.program n) (list_all (λ s. nat_lt s.program n) tasks) e in
+    (record { program = ltb-true t.program n h.0; arg = w.0 }, each_task n tasks h.1 w.1)
+
+pub within_if_none : (set : TaskSet) → HasWords set → first_broken set ≡ None → IsTaskSet set
+unfolding cores_hold memory_holds records_hold objects_hold sizes_hold slots_hold firsts_hold programs_hold fuels_hold codes_hold tasks_hold task_programs_hold
+within_if_none set w e =
+    let h = all_hold set e in
+    let m = both (is_in_range 1024 65536 set.memory) (set.memory % 4 == 0) h.memory in
+    record {
+      cores = within 1 8 set.cores h.cores;
+      memory = within 1024 65536 set.memory m.0;
+      aligned = eqb-true (set.memory % 4) 0 m.1;
+      records = within 1 256 set.records h.records;
+      objects = within 1 64 (length set.objects) h.objects;
+      each_object = each_object set.objects h.sizes h.slots h.firsts w.objects;
+      programs = within 1 16 (length set.programs) h.programs;
+      each_program = each_program set.memory set.programs h.fuels h.codes w.programs;
+      tasks = leb-true (length set.tasks) set.records h.tasks;
+      each_task = each_task (length set.programs) set.tasks h.task_programs w.tasks;
+    }
+
+sizes_all : (objects : List ObjectPart) → AllByRecursion IsObject objects → list_all (λ o. is_in_range 1 64 o.size) objects ≡ true
+sizes_all [] h = refl
+sizes_all (o ∷ objects) h = both_true (in_range 1 64 o.size h.0.size) (sizes_all objects h.1)
+
+slots_all : (objects : List ObjectPart) → AllByRecursion IsObject objects → list_all (λ o. is_in_range 2 8 o.slots) objects ≡ true
+slots_all [] h = refl
+slots_all (o ∷ objects) h = both_true (in_range 2 8 o.slots h.0.slots) (slots_all objects h.1)
+
+firsts_all : (objects : List ObjectPart) → AllByRecursion IsObject objects → list_all (λ o. length o.first == o.size) objects ≡ true
+firsts_all [] h = refl
+firsts_all (o ∷ objects) h = both_true (eq-eqb (length o.first) o.size h.0.first) (firsts_all objects h.1)
+
+fuels_all : (memory : ℕ) (programs : List ProgramPart) → AllByRecursion (IsProgram memory) programs → list_all (λ p. is_in_range 1 1000000 p.fuel) programs ≡ true
+fuels_all memory [] h = refl
+fuels_all memory (p ∷ programs) h = both_true (in_range 1 1000000 p.fuel h.0.fuel) (fuels_all memory programs h.1)
+
+codes_all : (memory : ℕ) (programs : List ProgramPart) → AllByRecursion (IsProgram memory) programs
+    → list_all (λ p. nat_le (length p.code) 1024 && nat_le (4 * length p.code) memory) programs ≡ true
+codes_all memory [] h = refl
+codes_all memory (p ∷ programs) h =
+    both_true (both_true (le-leb (length p.code) 1024 h.0.code) (le-leb (4 * length p.code) memory h.0.fits)) (codes_all memory programs h.1)
+
+task_programs_all : (n : ℕ) (tasks : List Spawn) → AllByRecursion (IsTask n) tasks → list_all (λ t. nat_lt t.program n) tasks ≡ true
+task_programs_all n [] h = refl
+task_programs_all n (t ∷ tasks) h = both_true (lt-ltb t.program n h.0.program) (task_programs_all n tasks h.1)
+
+pub none_if_within : (set : TaskSet) → IsTaskSet set → first_broken set ≡ None
+unfolding cores_hold memory_holds records_hold objects_hold sizes_hold slots_hold firsts_hold programs_hold fuels_hold codes_hold tasks_hold task_programs_hold
+none_if_within set h =
+    none_if_all_hold set (record {
+      cores = in_range 1 8 set.cores h.cores;
+      memory = both_true (in_range 1024 65536 set.memory h.memory) (eq-eqb (set.memory % 4) 0 h.aligned);
+      records = in_range 1 256 set.records h.records;
+      objects = in_range 1 64 (length set.objects) h.objects;
+      sizes = sizes_all set.objects h.each_object;
+      slots = slots_all set.objects h.each_object;
+      firsts = firsts_all set.objects h.each_object;
+      programs = in_range 1 16 (length set.programs) h.programs;
+      fuels = fuels_all set.memory set.programs h.each_program;
+      codes = codes_all set.memory set.programs h.each_program;
+      tasks = le-leb (length set.tasks) set.records h.tasks;
+      task_programs = task_programs_all (length set.programs) set.tasks h.each_task;
+    })

@@ -1,0 +1,19 @@
+//! Task sets that keep all limits.
+#![tactic(auto)]
+
+pub mod laws;
+mod limits;
+mod lists;
+mod names;
+mod parts;
+mod ranges;
+mod refusals;
+mod set;
+
+pub use lists::{Name, ObjectParts, ProgramParts, Tasks, Words};
+pub use parts::{ObjPart, ProgPart, SetParts};
+pub use refusals::{LimitKind, SetRefusal};
+pub use set::TaskSet;
+
+#[cfg(test)]
+mod tests;
