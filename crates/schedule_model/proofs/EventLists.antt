@@ -1,7 +1,8 @@
 -- Parts of lists of events that are put together.
-use Rattle.std.proofs.Common.{◌≡◌, ℕ, ◌+◌, List, [], ◌∷◌, ◌++◌, map, length, refl, ap, sym, zero-add, arith}
+use Rattle.std.proofs.Common.{◌≡◌, ℕ, zero, suc, ◌+◌, ◌<◌, List, [], ◌∷◌, ◌++◌, map, length, Some, refl, ap, sym, subst, zero-add, arith}
+use Rattle.std.specs.List.{AllByRecursion, slice_get}
 use Rattle.kernel_model.specs.Events.{Event, CoreStep, Fail}
-use Rattle.schedule_model.specs.Parts.{cores_stepped, failure_count}
+use Rattle.schedule_model.specs.Parts.{cores_stepped, failure_count, IsOfCores}
 
 pub cores_stepped-append : (xs ys : List Event) → cores_stepped (xs ++ ys) ≡ cores_stepped xs ++ cores_stepped ys
 cores_stepped-append [] ys = refl
@@ -30,3 +31,20 @@ pub length-parts : (events : List Event) → length events ≡ length (cores_ste
 length-parts [] = refl
 length-parts (CoreStep n ∷ events) = omega (arith, length-parts events)
 length-parts (Fail ∷ events) = omega (arith, length-parts events)
+
+-- what holds of each core that steps holds of each step
+pub each_core : (P : ℕ → Type 0) (events : List Event) (n core : ℕ) → AllByRecursion P (cores_stepped events)
+    → slice_get events n ≡ Some (CoreStep core) → P core
+each_core P [] n core p h = absurd (cc)
+each_core P (CoreStep k ∷ events) zero core p h =
+    let e : k ≡ core = cc in
+    subst P e p.0
+each_core P (CoreStep k ∷ events) (suc n) core p h = each_core P events n core p.1 h
+each_core P (Fail ∷ events) zero core p h = absurd (cc)
+each_core P (Fail ∷ events) (suc n) core p h = each_core P events n core p h
+
+-- a step of these cores alone
+pub each_event : (cores : ℕ) (events : List Event) (n : ℕ) (event : Event) → AllByRecursion (λ core. core < cores) (cores_stepped events)
+    → slice_get events n ≡ Some event → IsOfCores cores event
+each_event cores events n (CoreStep core) p h = each_core (λ k. k < cores) events n core p h
+each_event cores events n Fail p h = tt

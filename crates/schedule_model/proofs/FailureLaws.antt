@@ -1,12 +1,17 @@
 -- Failures among steps: what they keep, and how many there are.
-use Rattle.std.proofs.Common.{◌≡◌, ℕ, zero, suc, ◌+◌, ◌<◌, ◌≤◌, ◌↔◌, List, [], ◌∷◌, ◌++◌, map, take, drop, length, sum, inl, inr, ap, ◌∙◌, arith, length-drop}
+use Rattle.std.proofs.Common.{◌≡◌, ℕ, zero, suc, ◌+◌, ◌<◌, ◌≤◌, ◌↔◌, List, [], ◌∷◌, ◌++◌, map, take, drop, length, sum, Some, inl, inr, ap, ◌∙◌, sym, subst, arith, length-drop}
 use Rattle.std.proofs.lemmas.List.{take-append-drop}
 use Rattle.std.proofs.lemmas.List.Sums.{sum_by-cons}
 use Rattle.std.proofs.lemmas.Bool.{cases_lt}
-use Rattle.kernel_model.specs.Events.{CoreStep, Fail}
-use Rattle.schedule_model.specs.Failures.{with_failures}
-use Rattle.schedule_model.specs.Parts.{cores_stepped, failure_count}
-use Rattle.schedule_model.proofs.EventLists.{cores_stepped-append, cores_stepped-map, failure_count-map, failure_count-first, length-parts}
+use Rattle.kernel_model.specs.Events.{Event, CoreStep, Fail}
+use Rattle.std.specs.List.{AllByRecursion, slice_get}
+use Rattle.schedule_model.specs.Schedules.{Schedule}
+use Rattle.schedule_model.specs.CoreSteps.{core_steps}
+use Rattle.schedule_model.specs.Failures.{with_failures, events_of}
+use Rattle.schedule_model.specs.Limits.{IsSchedule}
+use Rattle.schedule_model.specs.Parts.{cores_stepped, failure_count, IsOfCores}
+use Rattle.schedule_model.proofs.EventLists.{cores_stepped-append, each_event, cores_stepped-map, failure_count-map, failure_count-first, length-parts}
+use Rattle.schedule_model.proofs.StepLaws.{all-core_steps}
 use Rattle.schedule_model.proofs.Reached.{none_left, reached, not_reached}
 
 pub steps_kept : (on_times steps : List ℕ) → cores_stepped (with_failures on_times steps) ≡ steps
@@ -61,3 +66,12 @@ in_reach (on ∷ on_times) steps (suc k) h = elim (cases_lt (length steps) on) [
         λ p. omega (arith, count_more on on_times steps g, after.1 (omega (arith, length-drop on steps))),
       )
 ]
+
+-- within the limits each core that steps is one of the cores
+pub of_cores : (s : Schedule) → IsSchedule s → AllByRecursion (λ core. core < s.cores) (cores_stepped (events_of s))
+of_cores s h =
+    let P : List ℕ → Type 0 = AllByRecursion (λ core. core < s.cores) in
+    subst P (sym (steps_kept s.on_times (core_steps s.cores s.items))) (all-core_steps s.cores s.items h.some_core h.proper)
+
+pub event_of_cores : (s : Schedule) (n : ℕ) (event : Event) → IsSchedule s → slice_get (events_of s) n ≡ Some event → IsOfCores s.cores event
+event_of_cores s n event h e = each_event s.cores (events_of s) n event (of_cores s h) e

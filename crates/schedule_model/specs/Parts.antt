@@ -1,5 +1,5 @@
 -- Parts of a list of events.
-use Rattle.std.specs.Prelude.{ℕ, ◌+◌, List, [], ◌∷◌}
+use Rattle.std.specs.Prelude.{ℕ, ◌+◌, ◌<◌, List, [], ◌∷◌}
 use Rattle.kernel_model.specs.Events.{Event, CoreStep, Fail}
 
 -- the cores of the core steps, in order
@@ -13,3 +13,8 @@ abbrev pub failure_count : List Event → ℕ
 failure_count [] = 0
 failure_count (CoreStep core ∷ events) = failure_count events
 failure_count (Fail ∷ events) = 1 + failure_count events
+
+-- a step of one of the cores, or a failure
+abbrev pub IsOfCores : ℕ → Event → Type 0
+IsOfCores cores (CoreStep core) = core < cores
+IsOfCores cores Fail = Unit {0}

@@ -1,13 +1,13 @@
 //! What holds of the events of each schedule.
 
-ghost use Rattle.std.specs.Prelude.{ℕ, List, [], ◌≡◌, ◌+◌, ◌<◌, ◌≤◌, ◌↔◌, map, length, sum, take};
+ghost use Rattle.std.specs.Prelude.{ℕ, List, [], ◌≡◌, ◌+◌, ◌<◌, ◌≤◌, ◌↔◌, map, length, slice_get, sum, take, Some};
 ghost use Rattle.std.specs.List.{AllByRecursion};
-ghost use Rattle.kernel_model.specs.Events.{CoreStep};
+ghost use Rattle.kernel_model.specs.Events.{Event, CoreStep};
 ghost use Rattle.schedule_model.specs.Schedules.{StepItem, Schedule};
 ghost use Rattle.schedule_model.specs.CoreSteps.{core_steps};
 ghost use Rattle.schedule_model.specs.Failures.{with_failures, events_of};
 ghost use Rattle.schedule_model.specs.Limits.{IsItem, IsSchedule, steps_together};
-ghost use Rattle.schedule_model.specs.Parts.{cores_stepped, failure_count};
+ghost use Rattle.schedule_model.specs.Parts.{cores_stepped, failure_count, IsOfCores};
 
 /// Failures change neither the core steps nor their order.
 pub fn failures_keep_core_steps()
@@ -34,6 +34,11 @@ pub fn events_are_steps_and_failures()
 /// The items' counts add up to the number of core steps.
 pub fn core_steps_are_counted()
     ensures { (cores : ℕ) (items : List StepItem) → length (core_steps cores items) ≡ steps_together items }
+{}
+
+/// Within the limits each event is a failure or a step of one of the cores.
+pub fn each_event_is_of_cores()
+    ensures { (s : Schedule) (n : ℕ) (event : Event) → IsSchedule s → slice_get (events_of s) n ≡ Some event → IsOfCores s.cores event }
 {}
 
 /// Within the limits there are at most 1,000,000 events, and each core step is of one of the cores.

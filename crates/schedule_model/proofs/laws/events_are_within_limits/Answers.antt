@@ -1,8 +1,7 @@
-use Rattle.std.proofs.Common.{ℕ, ◌<◌, List, subst, sym, arith}
-use Rattle.std.specs.List.{AllByRecursion}
+use Rattle.std.proofs.Common.{arith}
 use Rattle.schedule_model.specs.CoreSteps.{core_steps}
-use Rattle.schedule_model.proofs.FailureLaws.{count_few, length_events, steps_kept}
-use Rattle.schedule_model.proofs.StepLaws.{all-core_steps, length-core_steps}
+use Rattle.schedule_model.proofs.FailureLaws.{count_few, length_events, of_cores}
+use Rattle.schedule_model.proofs.StepLaws.{length-core_steps}
 use Rattle.schedule_model.proofs.laws.events_are_within_limits.Goals as goal
 
 pub returns-clause-short : goal.returns-clause-short
@@ -11,6 +10,4 @@ returns-clause-short c = λ s h.
     omega (arith, h.short, length_events s.on_times steps, count_few s.on_times steps, length-core_steps s.cores s.items)
 
 pub returns-clause-cores : goal.returns-clause-cores
-returns-clause-cores c = λ s h.
-    let P : List ℕ → Type 0 = AllByRecursion (λ core. core < s.cores) in
-    subst P (sym (steps_kept s.on_times (core_steps s.cores s.items))) (all-core_steps s.cores s.items h.some_core h.proper)
+returns-clause-cores c = of_cores
