@@ -1,4 +1,5 @@
 //! The program: its words, standard input and standard output are handed to the simulator, and the answer is its exit status.
+//! What std says of the process is taken on trust: its words, what is read and written, and the status that it ends with.
 #![tactic(auto)]
 
 ghost use Rattle.std.specs.Prelude.{◌≡◌};

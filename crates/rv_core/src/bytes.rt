@@ -4,6 +4,7 @@ ghost use Rattle.std.specs.Prelude.{◌≡◌, ◌+◌, ◌*◌, ◌^◌, ◌<�
 ghost use Rattle.rv_core.specs.Bytes.{word_at, half_at, put_half, put_word, words_at, IsZeroFrom};
 ghost use Rattle.rv_core.specs.Task.{loaded};
 
+/// The two bytes at an address, the low byte first.
 pub fn half_in(memory: &[u8], at: usize) -> u32
     requires { at + 2 ≤ length memory.now }
     ensures value { result ≡ half_at memory.now at }
@@ -12,6 +13,7 @@ pub fn half_in(memory: &[u8], at: usize) -> u32
     memory[at] as u32 + ((memory[at + 1] as u32) << 8)
 }
 
+/// The four bytes at an address, the low byte first.
 pub fn word_in(memory: &[u8], at: usize) -> u32
     requires { at + 4 ≤ length memory.now }
     ensures { result ≡ word_at memory.now at }
@@ -20,6 +22,7 @@ pub fn word_in(memory: &[u8], at: usize) -> u32
     low + ((memory[at + 2] as u32) << 16) + ((memory[at + 3] as u32) << 24)
 }
 
+/// Puts 16 bits at an address, the low byte first.
 pub fn put_half_in(memory: &mut [u8], at: usize, half: u32)
     requires room { at + 2 ≤ length memory.old }
     requires fits { half < 2 ^ 16 }
@@ -29,6 +32,7 @@ pub fn put_half_in(memory: &mut [u8], at: usize, half: u32)
     memory[at + 1] = (half / 256) as u8;
 }
 
+/// Puts 32 bits at an address, the low byte first.
 pub fn put_word_in(memory: &mut [u8], at: usize, word: u32)
     requires { at + 4 ≤ length memory.old }
     ensures { memory.new ≡ put_word memory.old at word }
@@ -47,7 +51,7 @@ fn clear(memory: &mut [u8], used: usize)
     memory[..used].fill(0);
 }
 
-// The bytes from `used` on are zero already, so that they need not be touched.
+/// Puts the words of a code at 0 and on, and zeros behind them. The bytes from `used` on are zero already, and are not touched.
 pub fn load_code(memory: &mut [u8], used: usize, code: &[u32])
     requires fits { 4 * length code.now ≤ length memory.old }
     requires inside { used ≤ length memory.old }
@@ -63,6 +67,7 @@ pub fn load_code(memory: &mut [u8], used: usize, code: &[u32])
     }
 }
 
+/// Copies the words at an address out, as many as `into` has.
 pub fn words_out(memory: &[u8], at: usize, into: &mut [u32])
     requires { at + 4 * length into.old ≤ length memory.now }
     ensures { into.new ≡ words_at memory.now at (length into.old) }

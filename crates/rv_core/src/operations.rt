@@ -7,6 +7,7 @@ ghost use Rattle.rv_core.specs.Operations.{computed, with_immediate, is_taken, l
 use crate::bytes::{half_in, put_half_in, put_word_in, word_in};
 use rv_isa::{BranchOp, ImmOp, LoadOp, RegOp, StoreOp};
 
+/// How many bytes a load reads.
 pub fn size_of_load(op: LoadOp) -> u32
     ensures size { result ≡ load_size op }
     ensures range { (0 < result) × (result ≤ 4) }
@@ -18,6 +19,7 @@ pub fn size_of_load(op: LoadOp) -> u32
     }
 }
 
+/// How many bytes a store writes.
 pub fn size_of_store(op: StoreOp) -> u32
     ensures size { result ≡ store_size op }
     ensures range { (0 < result) × (result ≤ 4) }
@@ -29,6 +31,7 @@ pub fn size_of_store(op: StoreOp) -> u32
     }
 }
 
+/// What a load reads at an address, extended to 32 bits.
 pub fn read_in(op: LoadOp, memory: &[u8], at: usize) -> u32
     requires { at + load_size op ≤ length memory.now }
     ensures { result ≡ read_at op memory.now at }
@@ -42,6 +45,7 @@ pub fn read_in(op: LoadOp, memory: &[u8], at: usize) -> u32
     }
 }
 
+/// Puts the low bytes of a word at an address, as many as the store writes.
 pub fn put_in(op: StoreOp, memory: &mut [u8], at: usize, word: u32)
     requires { at + store_size op ≤ length memory.old }
     ensures exact { memory.new ≡ put_at op memory.old at word }
@@ -55,6 +59,7 @@ pub fn put_in(op: StoreOp, memory: &mut [u8], at: usize, word: u32)
     }
 }
 
+/// What an operation makes of two registers; sums and differences wrap, and shifts use the low five bits.
 pub fn compute(op: RegOp, a: u32, b: u32) -> u32
     ensures { result ≡ computed op a b }
 {
@@ -72,6 +77,7 @@ pub fn compute(op: RegOp, a: u32, b: u32) -> u32
     }
 }
 
+/// The operation that takes a register in place of the immediate.
 pub fn by_register(op: ImmOp) -> RegOp
     ensures { result ≡ with_immediate op }
 {
@@ -88,6 +94,7 @@ pub fn by_register(op: ImmOp) -> RegOp
     }
 }
 
+/// Whether a branch is taken.
 pub fn taken(op: BranchOp, a: u32, b: u32) -> bool
     ensures { result ≡ is_taken op a b }
 {

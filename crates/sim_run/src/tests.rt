@@ -1,3 +1,5 @@
+// The call over memory: each answer, with the bytes that it puts.
+
 use crate::{Status, simulate};
 use nv_base::{MemSink, MemSource};
 use std::rc::RcStr;

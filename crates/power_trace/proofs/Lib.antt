@@ -1,0 +1,9 @@
+pub mod Places
+pub mod ByNumber
+pub mod InTurn
+pub mod Totals
+pub mod FailurePlaces
+pub mod EventPlaces
+pub mod ItemPlaces
+pub mod NextEvent
+pub mod Found

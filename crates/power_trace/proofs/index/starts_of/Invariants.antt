@@ -1,0 +1,11 @@
+use Rattle.std.proofs.Common.{◌≡◌, ◌+◌, ◌++◌, map, drop}
+use Rattle.schedule_model.specs.Limits.{steps_together}
+use Rattle.power_trace.specs.Items.{item_of}
+use Rattle.power_trace.specs.Indexed.{starts_from}
+use Rattle.power_trace.proofs.index.starts_of.Given as goal
+
+abbrev pub invariant-loop-item : goal.invariant-loop-item
+invariant-loop-item l = record {
+  total : l.start + steps_together (map item_of (drop l.item-index l.items)) ≡ steps_together (map item_of l.items);
+  left : l.starts.items ++ starts_from l.start (map item_of (drop l.item-index l.items)) ≡ starts_from 0 (map item_of l.items);
+}

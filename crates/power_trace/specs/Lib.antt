@@ -1,0 +1,5 @@
+pub mod Items
+pub mod ItemSteps
+pub mod Events
+pub mod Indexed
+pub mod DueTimes

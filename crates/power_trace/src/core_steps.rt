@@ -1,0 +1,95 @@
+// The core steps of a list of items, in order.
+
+ghost use Rattle.std.specs.Prelude.{◌≡◌, ◌≤◌, map};
+ghost use Rattle.std.specs.Iterator.{YieldsFirst};
+ghost use Rattle.schedule_model.specs.CoreSteps.{core_steps, item_steps};
+ghost use Rattle.power_trace.specs.Items.{item_of};
+ghost use Rattle.power_trace.specs.ItemSteps.{steps_left};
+
+use crate::draw::Draw;
+use crate::items::StepItem;
+use crate::sequence::Sequence;
+use std::marker::Model;
+
+/// The steps that are left of an item.
+#[derive(Drop)]
+pub(crate) enum ItemSteps<'a> {
+    InOrder(Sequence<'a>),
+    Drawn(Draw),
+}
+
+impl<'a> ItemSteps<'a> {
+    /// All steps of an item.
+    fn new(item: &'a StepItem, cores: u8) -> ItemSteps<'a>
+        requires { 1 ≤ cores }
+        ensures { steps_left result ≡ item_steps cores (item_of item.entry.now) }
+    {
+        match item {
+            StepItem::Steps {
+                cores: order,
+                times,
+            } => ItemSteps::InOrder(Sequence::new(order.as_slice(), *times)),
+            StepItem::Mix { seed, count } => ItemSteps::Drawn(Draw::new(*seed, cores, *count)),
+        }
+    }
+
+    fn next_core(&mut self) -> Option<u8>
+        ensures { YieldsFirst steps_left self.old result self.new }
+    {
+        match self {
+            ItemSteps::InOrder(sequence) => sequence.next_core(),
+            ItemSteps::Drawn(draw) => draw.next_core(),
+        }
+    }
+}
+
+/// The steps that are left of some items, which contracts see as the list of their cores.
+#[derive(Drop)]
+pub(crate) struct CoreSteps<'a> {
+    cores: u8,
+    // what is left of the item under way
+    item: ItemSteps<'a>,
+    // the items after it
+    items: &'a [StepItem],
+}
+
+impl<'a> Model for CoreSteps<'a> {
+    ghost use Rattle.std.specs.Prelude.{ℕ, List, ◌++◌, ◌≤◌, map};
+    ghost use Rattle.schedule_model.specs.CoreSteps.{core_steps};
+    ghost use Rattle.power_trace.specs.Items.{item_of};
+    ghost use Rattle.power_trace.specs.ItemSteps.{steps_left};
+
+    ghost Value = { List ℕ };
+
+    ghost view = { λ a. steps_left a.item ++ core_steps a.cores (map item_of a.items.now) };
+
+    ghost invariant = { λ a. 1 ≤ a.cores };
+}
+
+impl<'a> CoreSteps<'a> {
+    /// All steps of some items.
+    pub(crate) fn new(cores: u8, items: &'a [StepItem]) -> CoreSteps<'a>
+        requires { 1 ≤ cores }
+        ensures { result ≡ core_steps cores (map item_of items.entry.now) }
+    {
+        CoreSteps {
+            cores,
+            item: ItemSteps::InOrder(Sequence::new(&[], 0)),
+            items,
+        }
+    }
+
+    /// The core of the next step.
+    pub(crate) fn next_core(&mut self) -> Option<u8>
+        ensures { YieldsFirst (λ cores. cores) self.old result self.new }
+    {
+        'items: loop {
+            if let Some(core) = self.item.next_core() {
+                return Some(core);
+            }
+            let (first, later) = self.items.split_first()?;
+            self.item = ItemSteps::new(first, self.cores);
+            self.items = later;
+        }
+    }
+}

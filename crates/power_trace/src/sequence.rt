@@ -1,0 +1,64 @@
+// The steps of a sequence of cores that is repeated, by number and in order.
+
+ghost use Rattle.std.specs.Prelude.{◌≡◌, ℕ, ◌*◌, ◌<◌, length, slice_get, Some};
+ghost use Rattle.std.specs.Iterator.{YieldsFirst};
+ghost use Rattle.schedule_model.specs.CoreSteps.{repeated};
+
+use std::marker::Model;
+
+/// Step n of a sequence that is repeated often enough.
+pub(crate) fn core_in_order(order: &[u8], n: u32) -> u8
+    requires { 0 < length order.now }
+    ensures { (times : ℕ) → n < length order.now * times → slice_get (repeated times order.now) n ≡ Some result }
+{
+    order[n as usize % order.len()]
+}
+
+/// The steps that are left of a repeated sequence, which contracts see as the list of their cores.
+#[derive(Drop)]
+pub(crate) struct Sequence<'a> {
+    // what is left of the pass under way
+    rest: &'a [u8],
+    order: &'a [u8],
+    // how many whole passes follow it
+    times: u32,
+}
+
+impl<'a> Model for Sequence<'a> {
+    ghost use Rattle.std.specs.Prelude.{ℕ, List, ◌++◌};
+    ghost use Rattle.schedule_model.specs.CoreSteps.{repeated};
+
+    ghost Value = { List ℕ };
+
+    ghost view = { λ a. a.rest.now ++ repeated a.times a.order.now };
+}
+
+impl<'a> Sequence<'a> {
+    /// A sequence so many times over.
+    pub(crate) fn new(order: &'a [u8], times: u32) -> Sequence<'a>
+        ensures { result ≡ repeated times order.entry.now }
+    {
+        Sequence {
+            rest: &order[..0],
+            order,
+            times,
+        }
+    }
+
+    /// The core of the next step.
+    pub(crate) fn next_core(&mut self) -> Option<u8>
+        ensures { YieldsFirst (λ cores. cores) self.old result self.new }
+    {
+        if let Some((core, rest)) = self.rest.split_first() {
+            self.rest = rest;
+            return Some(*core);
+        }
+        if self.times == 0 {
+            return None;
+        }
+        self.times -= 1;
+        let (core, rest) = self.order.split_first()?;
+        self.rest = rest;
+        Some(*core)
+    }
+}

@@ -1,0 +1,4 @@
+pub mod EventLists
+pub mod Reached
+pub mod FailureLaws
+pub mod StepLaws
