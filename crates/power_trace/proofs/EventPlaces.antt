@@ -1,5 +1,5 @@
 -- Which event has a number, by the numbers of the failures.
-use Rattle.std.proofs.Common.{◌≡◌, ℕ, zero, suc, ◌+◌, ◌-◌, ◌<◌, ◌≤◌, List, [], ◌∷◌, ◌++◌, map, take, drop, length, get_or, Some, inl, inr, refl, ap, ◌∙◌, sym, subst, arith, length-append, length-drop}
+use Rattle.std.proofs.Common.{◌≡◌, ℕ, zero, suc, ◌+◌, ◌-◌, ◌<◌, ◌≤◌, List, [], ◌∷◌, ◌++◌, map, take, drop, length, get_or, Some, inl, inr, refl, ap, ◌∙◌, subst, arith, length-append, length-drop}
 use Rattle.std.specs.List.{slice_get}
 use Rattle.std.proofs.lemmas.List.{length-map, length-take-le}
 use Rattle.std.proofs.lemmas.Bool.{cases_lt}
@@ -7,7 +7,7 @@ use Rattle.kernel_model.specs.Events.{Event, CoreStep, Fail}
 use Rattle.schedule_model.specs.Failures.{with_failures}
 use Rattle.schedule_model.proofs.Reached.{none_left, reached, not_reached}
 use Rattle.power_trace.specs.Indexed.{failures_from}
-use Rattle.power_trace.proofs.Places.{get-left, get-right, get-past}
+use Rattle.power_trace.proofs.Places.{get-left, get-right}
 use Rattle.power_trace.proofs.FailurePlaces.{none_on, ends, ends_not, failures-AreFrom}
 
 -- a failure of this list has this number

@@ -1,20 +1,19 @@
 -- What is found among the failures of a schedule.
-use Rattle.std.proofs.Common.{◌≡◌, ℕ, ◌+◌, ◌-◌, ◌<◌, ◌≤◌, List, length, get_or, Option, Some, Result, Ok, Err, ap, ◌∙◌, sym, subst, arith}
-use Rattle.std.specs.Prelude.{option_map, map}
+use Rattle.std.proofs.Common.{◌≡◌, ℕ, ◌+◌, ◌-◌, ◌<◌, ◌≤◌, List, length, Some, Ok, Err, ap, ◌∙◌, sym, subst, arith}
+use Rattle.std.specs.Prelude.{option_map}
 use Rattle.std.specs.Ordering.{nat_cmp}
 use Rattle.std.specs.List.{slice_get}
 use Rattle.std.specs.List.Sorted.{IsBinarySearchResult}
 use Rattle.std.proofs.lemmas.List.Sorted.{searched}
 use Rattle.std.proofs.lemmas.Option.{slice_get-map}
-use Rattle.kernel_model.specs.Events.{Event, CoreStep, Fail}
+use Rattle.kernel_model.specs.Events.{CoreStep, Fail}
 use Rattle.schedule_model.specs.Schedules.{Schedule}
 use Rattle.schedule_model.specs.CoreSteps.{core_steps}
-use Rattle.schedule_model.specs.Failures.{with_failures, events_of}
-use Rattle.schedule_model.specs.Limits.{steps_together}
+use Rattle.schedule_model.specs.Failures.{events_of}
 use Rattle.schedule_model.proofs.StepLaws.{length-core_steps}
 use Rattle.power_trace.specs.Indexed.{IsIndexed, failures_from}
 use Rattle.power_trace.proofs.FailurePlaces.{few, failures-Rises}
-use Rattle.power_trace.proofs.EventPlaces.{IsAt, IsBetween, IsStep, length-events, failure_at, step_at}
+use Rattle.power_trace.proofs.EventPlaces.{IsStep, length-events, failure_at, step_at}
 
 steps_of : (s : Schedule) (steps : ℕ) (starts failures : List ℕ) → IsIndexed s steps starts failures → steps ≡ length (core_steps s.cores s.items)
 steps_of s steps starts failures p = p.counted ∙ sym (length-core_steps s.cores s.items)

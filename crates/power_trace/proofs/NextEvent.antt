@@ -1,8 +1,8 @@
 -- The events that are left, after the next one.
-use Rattle.std.proofs.Common.{◌≡◌, ℕ, zero, suc, ◌+◌, ◌-◌, ◌<◌, ◌≤◌, List, [], ◌∷◌, ◌++◌, map, take, drop, length, Option, Some, None, inl, inr, refl, ap, ◌∙◌, sym, arith}
+use Rattle.std.proofs.Common.{◌≡◌, ℕ, zero, suc, ◌-◌, List, [], ◌∷◌, length, Option, Some, None, inl, inr, refl, ap, ◌∙◌, sym, arith}
 use Rattle.std.specs.Prelude.{option_map}
 use Rattle.std.proofs.lemmas.Bool.{cases_lt}
-use Rattle.kernel_model.specs.Events.{Event, CoreStep, Fail}
+use Rattle.kernel_model.specs.Events.{CoreStep, Fail}
 use Rattle.schedule_model.specs.Failures.{with_failures}
 use Rattle.schedule_model.proofs.Reached.{none_left, reached, not_reached}
 use Rattle.power_trace.specs.DueTimes.{due_times}

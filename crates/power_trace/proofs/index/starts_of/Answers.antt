@@ -1,4 +1,4 @@
-use Rattle.std.proofs.Common.{◌+◌, ◌++◌, [], ◌∷◌, sym, ◌∙◌, ap, map, drop, arith}
+use Rattle.std.proofs.Common.{◌+◌, ◌++◌, sym, ◌∙◌, ap, map, drop, arith}
 use Rattle.schedule_model.specs.Limits.{step_count}
 use Rattle.power_trace.specs.Items.{item_of}
 use Rattle.power_trace.specs.Indexed.{starts_from}

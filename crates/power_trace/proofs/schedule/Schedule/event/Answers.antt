@@ -1,4 +1,4 @@
-use Rattle.std.proofs.Common.{◌≡◌, ℕ, ◌-◌, ◌<◌, sym, subst, ◌∙◌, ap, length, map, Some, arith}
+use Rattle.std.proofs.Common.{◌≡◌, ◌-◌, ◌<◌, sym, subst, ◌∙◌, ap, length, map, Some, arith}
 use Rattle.std.specs.List.{slice_get}
 use Rattle.std.proofs.lemmas.List.{length-map}
 use Rattle.kernel_model.specs.Events.{CoreStep, Fail}
@@ -11,7 +11,6 @@ use Rattle.schedule_model.proofs.StepLaws.{length-core_steps}
 use Rattle.power_trace.specs.Items.{item_of, schedule_of}
 use Rattle.power_trace.proofs.Found.{indexed_failure, indexed_step, event_of_step}
 use Rattle.power_trace.proofs.ItemPlaces.{length-starts}
-use Rattle.power_trace.proofs.EventPlaces.{IsStep}
 use Rattle.power_trace.proofs.schedule.Schedule.event.Goals as goal
 
 pub returns-in-Ok : goal.returns-in-Ok

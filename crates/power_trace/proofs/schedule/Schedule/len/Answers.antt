@@ -1,7 +1,6 @@
-use Rattle.std.proofs.Common.{sym, subst, ◌∙◌, ap, length, arith}
+use Rattle.std.proofs.Common.{subst, ap, length, arith}
 use Rattle.schedule_model.specs.Failures.{events_of}
 use Rattle.schedule_model.specs.Limits.{IsSchedule}
-use Rattle.power_trace.specs.Items.{schedule_of}
 use Rattle.power_trace.proofs.Found.{indexed_length, indexed_short}
 use Rattle.power_trace.proofs.schedule.Schedule.len.Goals as goal
 
