@@ -4,6 +4,7 @@ pub mod InTurn
 pub mod Totals
 pub mod FailurePlaces
 pub mod EventPlaces
+pub mod FailureCounts
 pub mod ItemPlaces
 pub mod NextEvent
 pub mod Found

@@ -3,7 +3,7 @@
 ghost use Rattle.std.specs.Prelude.{◌≡◌, ◌<◌, ◌≤◌, IfOk, length, option_map, slice_get, Some};
 ghost use Rattle.schedule_model.specs.Failures.{events_of};
 ghost use Rattle.schedule_model.specs.Limits.{IsSchedule};
-ghost use Rattle.schedule_model.specs.Parts.{IsOfCores};
+ghost use Rattle.schedule_model.specs.Parts.{IsOfCores, failure_count};
 ghost use Rattle.power_trace.specs.Items.{schedule_of};
 ghost use Rattle.power_trace.specs.Events.{event_of};
 
@@ -76,6 +76,13 @@ impl Schedule {
         ensures proper { IsSchedule self.now }
     {
         self.steps + self.failures.len() as u32
+    }
+
+    /// How many failures of power are among the events.
+    pub fn failures(&self) -> u32
+        ensures { result ≡ failure_count (events_of self.now) }
+    {
+        self.failures.len() as u32
     }
 
     /// Event `n`, counted from 0.
