@@ -1,9 +1,4 @@
-pub mod Turns
-pub mod Services
-pub mod Decimals
-pub mod TailTexts
 pub mod Fronts
-pub mod Carried
-pub mod Inputs
 pub mod OneWord
 pub mod Answering
+pub mod Inputs

@@ -1,42 +1,41 @@
 -- What a call has done before the line that names its answer, and that line.
-use Rattle.std.specs.Prelude.{◌≡◌, ℕ, ◌⊎◌, List, Option, length}
-use Rattle.nv_base.specs.Streams.{PutFront, grown}
-use Rattle.headline.specs.Headline.{report_text}
-use Rattle.smallest_script.specs.Form.{Smallest, IsSmallest}
-use Rattle.sim_run.specs.Script.{AreBuilt, events_in, set_in}
-use Rattle.sim_run.specs.Puts.{StopsAt}
-use Rattle.sim_run.specs.Answers.{Exchange, HasReadAll, HasReadEnough, OfInput, ReadFailed, WriteFailed}
+use Rattle.std.specs.Prelude.{◌≡◌, ℕ, ◌⊎◌, List, [], Option, Some, None}
+use Rattle.nv_base.specs.Streams.{AreGone, PutFront, Rose, grown}
+use Rattle.sim_run.specs.Replies.{Reply, Puts, Refuses, reply, too_long, most_input}
+use Rattle.sim_run.specs.Answers.{Exchange, HasReadAll, HasReadEnough, IsCutOff, IsDone, OfInput, ReadFailed, WriteFailed}
+use Rattle.std.specs.Prelude.{◌+◌}
+use Rattle.sim_run.specs.declared.command.Command.{Command}
 use Rattle.sim_run.specs.declared.status.Status.{Status}
-use Rattle.sim_run.specs.declared.status.Status.TheVariants.{Done, Usage, ReadFault, WriteFault, NoMemory, NotBuilt}
+use Rattle.sim_run.specs.declared.status.Status.TheVariants.{Done, Usage, ReadFault, WriteFault, NoMemory, Script}
 
 -- whole, unless the sink failed
 abbrev pub PutsName : Option (List ℕ) → Option (List ℕ) → Type 0 → List ℕ → Type 0
 PutsName old new rose line = (new ≡ grown old line) ⊎ (rose × PutFront old new line)
 
-pub record HasRun (x : Exchange) (input : List ℕ) : Type 0 where
-  pub script : Smallest
-  pub reads : IsSmallest script input
-  pub built : AreBuilt (set_in script) (events_in script) (length (events_in script))
-  pub put : x.taken_now ≡ grown x.taken (report_text (set_in script) (events_in script))
+abbrev pub CarriedOutTo : Command → Exchange → Status → Type 0
+CarriedOutTo c x Done = HasReadAll x × OfInput x.left (IsDone c x)
+CarriedOutTo c x Usage = ⊥
+CarriedOutTo c x ReadFault = ReadFailed x × (x.taken_now ≡ x.taken)
+CarriedOutTo c x WriteFault = WriteFailed x × HasReadAll x × OfInput x.left (IsCutOff c x)
+CarriedOutTo c x NoMemory = x.taken_now ≡ x.taken
+CarriedOutTo c x status = HasReadEnough x × OfInput x.left (λ input. reply c input ≡ Refuses status) × (x.taken_now ≡ x.taken)
 
-pub record HasFailed (x : Exchange) (input : List ℕ) : Type 0 where
-  pub script : Smallest
-  pub reads : IsSmallest script input
-  pub put : PutFront x.taken x.taken_now (report_text (set_in script) (events_in script))
+abbrev pub CarriedOut : Option Command → Exchange → Status → Type 0
+CarriedOut None x status = (status ≡ Usage) × (x.left_now ≡ x.left) × (x.taken_now ≡ x.taken)
+CarriedOut (Some c) x status = CarriedOutTo c x status
 
-pub record HasStopped (x : Exchange) (input : List ℕ) : Type 0 where
-  pub script : Smallest
-  pub reads : IsSmallest script input
-  pub stops : StopsAt (set_in script) (events_in script) x.taken x.taken_now
+-- why no input was read; rose: the source's count of faults rose
+abbrev pub Unread : Option (List ℕ) → Option (List ℕ) → Type 0 → Status → Type 0
+Unread left now rose ReadFault = rose
+Unread left now rose (Script e) = (e ≡ too_long) × AreGone left now (most_input + 1)
+Unread left now rose NoMemory = Unit {0}
+Unread left now rose _ = ⊥
 
-pub record HasNoScript (x : Exchange) (input : List ℕ) : Type 0 where
-  pub none : (s : Smallest) → IsSmallest s input → ⊥
-  pub put : x.taken_now ≡ x.taken
-
-abbrev pub CarriedOut : (is_run : Type 0) → Exchange → Status → Type 0
-CarriedOut is_run x Done = is_run × HasReadAll x × OfInput x.left (HasRun x)
-CarriedOut is_run x Usage = (is_run → ⊥) × (x.left_now ≡ x.left) × (x.taken_now ≡ x.taken)
-CarriedOut is_run x ReadFault = is_run × ReadFailed x × (x.taken_now ≡ x.taken)
-CarriedOut is_run x WriteFault = is_run × WriteFailed x × HasReadAll x × OfInput x.left (HasFailed x)
-CarriedOut is_run x NoMemory = is_run × (x.taken_now ≡ x.taken)
-CarriedOut is_run x NotBuilt = is_run × HasReadEnough x × OfInput x.left (λ input. HasNoScript x input ⊎ HasStopped x input)
+-- what was put by way of a reply; rose: the sink's count of faults rose
+abbrev pub Replied : Reply → Type 0 → Option (List ℕ) → Option (List ℕ) → Status → Type 0
+Replied r rose old new Done = (text : List ℕ) × (r ≡ Puts text) × (new ≡ grown old text)
+Replied r rose old new Usage = ⊥
+Replied r rose old new ReadFault = ⊥
+Replied r rose old new WriteFault = rose × ((text : List ℕ) × (r ≡ Puts text) × PutFront old new text)
+Replied r rose old new NoMemory = new ≡ old
+Replied r rose old new status = (r ≡ Refuses status) × (new ≡ old)

@@ -1,13 +1,5 @@
-pub mod Set
-pub mod Unbuilt
-pub mod Script
-pub mod Texts
-pub mod Stands
-pub mod Tails
+pub mod Commands
+pub mod Replies
 pub mod Exits
-pub mod Puts
 pub mod Answers
-pub mod Input
-pub mod Words
 pub mod Carried
-pub mod Rows

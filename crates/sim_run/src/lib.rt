@@ -1,16 +1,12 @@
-//! The simulator: it carries a run from the bytes that come in to the bytes that go out.
+//! The simulator: from bytes in to bytes out.
 #![tactic(auto)]
 
 mod call;
+mod command;
 mod input;
-mod kernel;
-pub mod rows;
-mod run;
+mod names;
 mod status;
-mod text_buffer;
 
 pub use call::simulate;
+pub use command::{Command, WordsRefusal, words_of};
 pub use status::Status;
-
-#[cfg(test)]
-mod tests;

@@ -3,14 +3,9 @@ use Rattle.sim_run.proofs.call.simulate.Goals as goal
 
 pub returns-clause-answer : goal.returns-clause-answer
 returns-clause-answer g c =
-    answering.answered _ _ _ _ _ c.report_keeps_headline.ensures c.carry_out-status.ensures.sink_never_falls c.put_name.ensures.never_falls c.put_name.ensures.named c.carry_out-status.ensures.answer
+    answering.answered _ _ _ _ _ c.carry_out-status.ensures.sink_never_falls c.put_name.ensures.never_falls c.put_name.ensures.named c.carry_out-status.ensures.answer
 
 pub returns-clause-complete : goal.returns-clause-complete
 returns-clause-complete g c =
     answering.complete _ _ _
-    (answering.answered _ _ _ _ _ c.report_keeps_headline.ensures c.carry_out-status.ensures.sink_never_falls c.put_name.ensures.never_falls c.put_name.ensures.named c.carry_out-status.ensures.answer)
-
-pub returns-clause-refuses : goal.returns-clause-refuses
-returns-clause-refuses g c =
-    answering.refuses _ _ _
-    (answering.answered _ _ _ _ _ c.report_keeps_headline.ensures c.carry_out-status.ensures.sink_never_falls c.put_name.ensures.never_falls c.put_name.ensures.named c.carry_out-status.ensures.answer)
+    (answering.answered _ _ _ _ _ c.carry_out-status.ensures.sink_never_falls c.put_name.ensures.never_falls c.put_name.ensures.named c.carry_out-status.ensures.answer)

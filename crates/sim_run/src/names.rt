@@ -1,0 +1,71 @@
+//! The line that names an answer.
+
+ghost use Rattle.std.specs.Prelude.{◌≡◌, ◌≤◌, ◌+◌, ◌++◌, length};
+ghost use Rattle.std.specs.Fmt.{decimal};
+ghost use Rattle.arrayvec.specs.ArrayString.{array_string_len};
+ghost use Rattle.nv_base.specs.Streams.{PutFront, Rose, grown};
+ghost use Rattle.sim_run.specs.Carried.{PutsName};
+ghost use Rattle.sim_run.specs.Exits.{line_for};
+
+use crate::status::Status;
+use arrayvec::ArrayString;
+use nv_base::{Sink, put_all};
+
+/// Room for the longest such line, which has 38 bytes.
+const ROOM: usize = 64;
+
+/// Text behind what is there.
+fn push(line: &mut ArrayString<ROOM>, text: &str)
+    requires { array_string_len line.old + length text.now ≤ ROOM }
+    ensures text { line.new.bytes ≡ line.old.bytes ++ text.now }
+    ensures len { array_string_len line.new ≡ array_string_len line.old + length text.now }
+{
+    // it cannot fail: the room is there
+    let _ = line.try_push_str(text);
+}
+
+/// A number in decimal, behind what is there.
+fn push_number(line: &mut ArrayString<ROOM>, n: u32)
+    requires { array_string_len line.old + 10 ≤ ROOM }
+    ensures text { line.new.bytes ≡ line.old.bytes ++ decimal n }
+    ensures len { array_string_len line.new ≤ array_string_len line.old + 10 }
+{
+    let mut digits = itoa::Buffer::new();
+    push(line, digits.format(n));
+}
+
+/// The line that names an answer, with its line feed. Done and a sink that failed have none.
+fn line_for(status: Status) -> ArrayString<ROOM>
+    ensures { result.bytes ≡ line_for status }
+{
+    let mut line = ArrayString::new();
+    match status {
+        Status::Done | Status::WriteFault => {}
+        Status::Usage => push(&mut line, "error usage\n"),
+        Status::Script(error) => {
+            push(&mut line, "error script ");
+            push_number(&mut line, error.line);
+            push(&mut line, " ");
+            push(&mut line, "x");
+            push(&mut line, "\n");
+        }
+        Status::Packed(place) => {
+            push(&mut line, "error packed ");
+            push_number(&mut line, place);
+            push(&mut line, "\n");
+        }
+        Status::ReadFault => push(&mut line, "error read\n"),
+        Status::NoMemory => push(&mut line, "error memory\n"),
+        Status::NotBuilt => push(&mut line, "error notbuilt\n"),
+    }
+    line
+}
+
+/// Puts the line that names an answer. A sink that fails here does not change the answer.
+pub(crate) fn put_name<K: Sink>(out: &mut K, status: Status)
+    ensures named { PutsName (K.taken out.old) (K.taken out.new) (Rose (K.faults out.old) (K.faults out.new)) (line_for status) }
+    ensures never_falls { K.faults out.old ≤ K.faults out.new }
+{
+    let line = line_for(status);
+    let _ = put_all(out, line.as_bytes());
+}
