@@ -1,0 +1,245 @@
+-- What the services make of a running attempt.
+use Rattle.std.proofs.Common.{◌≡◌, ℕ, suc, ◌+◌, ◌<◌, ◌≤◌, Bool, true, false, cond, ltb, eqb, ◌||◌, List, [], ◌∷◌, ◌++◌, length, map, set, Some, None, Option, refl, sym, ap, subst, ◌∙◌, arith}
+use Rattle.std.specs.Prelude.{is_some, unwrap_or}
+use Rattle.std.specs.List.{AllByRecursion}
+use Rattle.std.proofs.lemmas.Bool.{lt-ltb, le-ltb, eqb-true}
+use Rattle.std.proofs.lemmas.List.{length-map, map-append}
+use Rattle.object_sets.specs.ObjectSets.{IsIncreasing, is_among, with_object}
+use Rattle.object_sets.proofs.Insertion.{is_among-with_object}
+use Rattle.rv_core.specs.State.{MachineState, Calls}
+use Rattle.rv_core.specs.Machine.{words_at}
+use Rattle.rv_core.specs.declared.services.Service.{Service}
+use Rattle.rv_core.specs.declared.services.Service.TheVariants as service
+use Rattle.nv_base.specs.declared.causes.TrapCause.{TrapCause}
+use Rattle.nv_base.specs.declared.causes.TrapCause.TheVariants as cause
+use Rattle.nv_base.specs.declared.lines.Outcome.TheVariants as outcome
+use Rattle.nv_base.specs.declared.lines.Spawn as base_spawn
+use Rattle.nv_base.specs.declared.names.ObjId.{ObjId}
+use Rattle.kernel_model.specs.Effects.{Objects, Trap, Write, with_write, words_of, written}
+use Rattle.kernel_model.specs.Runs.{Ends, Reads, Spawns, Step, Writes, spawns_cause}
+use Rattle.kernel_model.specs.Items.{Item}
+use Rattle.kernel_model.specs.Replay.{Base, after_history, clock_of, tables_of}
+use Rattle.kernel_model.specs.Versions.{Read, Version, chosen, read_words, versions}
+use Rattle.kernel_model.specs.Intervals.{Interval, is_empty}
+use Rattle.kernel_model.specs.Cores.{Attempt, Idle, Ready, Running}
+use Rattle.kernel_model.specs.Turns.{Turn, fetch_turn, open_read, quiet, read_of, read_turn, run_turn}
+use Rattle.kernel_model.specs.Turns as model
+use Rattle.set_model.specs.Sets.{TaskSet, object_at}
+use Rattle.set_model.specs.Formatted.{formatted}
+use Rattle.set_model.specs.Views.{spawn_of, trap_of}
+use Rattle.task_model.specs.TaskSteps.{given_index, given_words, past, read_step, refusal, served, spawn_step, task_steps, unless, write_step}
+use Rattle.kernel_core.specs.Stands.{Fits, HasDone, Hidden, IsNewest, IsTried, state_in}
+use Rattle.kernel_core.specs.Arms.{Serves, Serviced, attempt_left}
+use Rattle.kernel_core.specs.declared.kernel.Kernel.{Kernel}
+use Rattle.kernel_core.specs.declared.kernel.Phase.TheVariants as phase
+use Rattle.kernel_core.proofs.Tables.{not_written, words_written, written_more}
+use Rattle.kernel_core.proofs.Newest.{has_newest, interval_more, newest_read}
+use Rattle.kernel_core.proofs.Turning.{leaves, running}
+
+-- the turn of a running attempt whose step comes to this
+abbrev pub turned : Kernel → MachineState → Hidden → Step MachineState → Turn MachineState
+turned k m h step = run_turn (task_steps k.set) (formatted k.set) h.history 0 (record h.attempt { state = m }) step
+
+-- a service that traps ends the attempt
+pub traps : (k : Kernel) (asked : Service) (c : TrapCause) → served k.set (Calls k.machine asked) ≡ Ends (trap_of c)
+    → Serves (running k) asked (record k { attempt = attempt_left k.attempt (outcome.Trap c); phase = phase.Ready (outcome.Trap c) })
+unfolding Serves
+traps k asked c e = λ m h f. record {
+  hidden = record h { attempt = record h.attempt { state = m } };
+  history = refl;
+  fits = record { left = f.left; phase = (record { task_is = f.phase.0.task_is; interval = f.phase.0.interval }, leaves k h m (outcome.Trap c) f.phase.1) };
+  turns = ap (turned k m h) e;
+}
+
+pub traps_read : (k : Kernel) (o at : ℕ) (c : TrapCause) → Some c ≡ refusal k.set k.machine o at → Serves (running k) (service.Read o at) (record k { attempt = attempt_left k.attempt (outcome.Trap c); phase = phase.Ready (outcome.Trap c) })
+traps_read k o at c e = traps k (service.Read o at) c (ap (λ f. unless f (Reads k.machine o)) (sym e))
+
+pub traps_write : (k : Kernel) (o at : ℕ) (c : TrapCause) → Some c ≡ refusal k.set k.machine o at → Serves (running k) (service.Write o at) (record k { attempt = attempt_left k.attempt (outcome.Trap c); phase = phase.Ready (outcome.Trap c) })
+traps_write k o at c e =
+    traps k (service.Write o at) c (ap (λ f. unless f (Writes (past k.machine) (record { object = o; words = words_at k.machine.memory at (object_at k.set o).size }))) (sym e))
+
+pub traps_spawn : (k : Kernel) (program arg : ℕ) → length k.set.programs ≤ program
+    → Serves (running k) (service.Spawn program arg) (record k { attempt = attempt_left k.attempt (outcome.Trap cause.Program); phase = phase.Ready (outcome.Trap cause.Program) })
+traps_spawn k program arg l =
+    traps k (service.Spawn program arg) cause.Program
+    (ap (λ b. cond b (Spawns k.machine (record { program = program; arg = arg })) (Ends (trap_of cause.Program))) (le-ltb program (length k.set.programs) l))
+
+-- the turn of a read, by what the attempt wrote and read of the object
+abbrev reading : Kernel → MachineState → Hidden → ℕ → Option (List ℕ) → Option Read → Turn MachineState
+reading k m h o own copy = read_turn (task_steps k.set) (formatted k.set) h.history 0 (record h.attempt { state = m }) k.machine o own copy
+
+read_turns : (k : Kernel) (m : MachineState) (h : Hidden) (o at : ℕ) (own : Option (List ℕ)) (copy : Option Read) → None ≡ refusal k.set k.machine o at → written h.attempt.writes o ≡ own → read_of o h.attempt.reads ≡ copy
+    → turned k m h (served k.set (Calls k.machine (service.Read o at))) ≡ reading k m h o own copy
+read_turns k m h o at own copy fine w r =
+    ap (λ f. turned k m h (unless f (Reads k.machine o))) (sym fine) ∙ ap (λ x. reading k m h o x (read_of o h.attempt.reads)) w ∙ ap (reading k m h o own) r
+
+-- a read of the attempt's own last write
+pub reads_own : (k : Kernel) (o at : ℕ) → None ≡ refusal k.set k.machine o at → is_among o k.attempt.written ≡ true
+    → Serves (running k) (service.Read o at) (record k { machine = given_words k.machine (words_of k.attempt.words o); phase = phase.Running })
+unfolding Serves
+reads_own k o at fine e = λ m h f. record {
+  hidden = h;
+  history = refl;
+  fits = record { left = f.left; phase = f.phase };
+  turns = read_turns k m h o at (Some (words_of k.attempt.words o)) (read_of o h.attempt.reads) fine (words_written h.attempt.writes k.attempt.written k.attempt.words o f.phase.1.writes e) refl;
+}
+
+-- a read that is there is of its object, and is current
+found_read : (P : Read → Type 0) (o : ℕ) (reads : List Read) → AllByRecursion P reads → is_some (read_of o reads) ≡ true → (r : Read) × (read_of o reads ≡ Some r) × (r.object ≡ o) × P r
+found_read P o [] h e = absurd (cc e)
+found_read P o (r ∷ reads) h e = at (eqb r.object o) refl e (found_read P o reads h.1)
+  where
+    at : (b : Bool) → eqb r.object o ≡ b → is_some (cond b (Some r) (read_of o reads)) ≡ true → (is_some (read_of o reads) ≡ true → (x : Read) × (read_of o reads ≡ Some x) × (x.object ≡ o) × P x)
+        → (x : Read) × (cond b (Some r) (read_of o reads) ≡ Some x) × (x.object ≡ o) × P x
+    at true f g rest = (r, refl, eqb-true r.object o f, h.0)
+    at false f g rest = rest g
+
+no_read : (o : ℕ) (reads : List Read) → is_some (read_of o reads) ≡ false → read_of o reads ≡ None
+no_read o reads e = go (read_of o reads) refl e
+  where
+    go : (x : Option Read) → read_of o reads ≡ x → is_some (read_of o reads) ≡ false → read_of o reads ≡ None
+    go None f g = f
+    go (Some r) f g = absurd (let b : true ≡ false = ap is_some (sym f) ∙ g in cc b)
+
+-- a read of an object that the attempt read before: its words are still those that are durable
+pub reads_copy : (k : Kernel) (o at : ℕ) → None ≡ refusal k.set k.machine o at → is_among o k.attempt.written ≡ false → is_among o k.attempt.reads ≡ true
+    → Serves (running k) (service.Read o at) (record k { machine = given_words k.machine (words_of k.state.objects o); phase = phase.Running })
+unfolding Serves
+reads_copy k o at fine e g = λ m h f.
+    let d = f.phase.1 in
+    let r = found_read (λ r. read_words (formatted k.set) h.history r ≡ words_of k.state.objects r.object) o h.attempt.reads d.current (sym (d.reads o) ∙ g) in
+    let words : read_words (formatted k.set) h.history r.0 ≡ words_of k.state.objects o = r.3 ∙ ap (words_of k.state.objects) r.2 in
+    record {
+      hidden = h;
+      history = refl;
+      fits = record { left = f.left; phase = f.phase };
+      turns =
+          read_turns k m h o at None (Some r.0) fine (not_written h.attempt.writes k.attempt.written k.attempt.words o d.writes e) r.1
+          ∙ ap (λ w. let a : Attempt MachineState = record h.attempt { state = given_words k.machine w } in quiet (Running a)) words;
+    }
+
+-- an outside read
+pub reads_outside : (k : Kernel) (o : ObjId) (at : ℕ) → None ≡ refusal k.set k.machine o.0 at → o.0 < length k.set.objects → is_among o.0 k.attempt.written ≡ false → is_among o.0 k.attempt.reads ≡ false
+    → Serves (running k) (service.Read o.0 at) (record k { attempt = record k.attempt { reads = with_object o.0 k.attempt.reads }; phase = phase.Copying o at 0 })
+unfolding Serves
+reads_outside k o at fine inside e g = λ m h f.
+    let d = f.phase.1 in
+    let base : Base = formatted k.set in
+    let v = has_newest base h.history o.0 in
+    let r : Read = record { object = o.0; writer = v.0.writer } in
+    let clock : clock_of base h.history ≡ k.state.clock = ap (λ (b : Base). b.clock) f.left in
+    let objects : (after_history h.history (tables_of base)).objects ≡ k.state.objects = ap (λ (b : Base). b.objects) f.left in
+    let within_base : o.0 < length base.objects = let l : length base.objects ≡ length k.set.objects = length-map k.set.objects (λ p. p.first) in omega (arith, inside, l) in
+    let a : Attempt MachineState = record h.attempt { state = m } in
+    record {
+      hidden = record h { attempt = record h.attempt { reads = r ∷ h.attempt.reads } };
+      history = refl;
+      fits = record {
+        left = f.left;
+        phase = (
+          record { task_is = f.phase.0.task_is; interval = interval_more base h.history o.0 k.state.clock v.0 _ v.1 clock f.phase.0.interval },
+          record {
+            reads = λ p. is_among-with_object o.0 p k.attempt.reads ∙ one_more o.0 p k.attempt.reads h.attempt.reads v.0.writer (d.reads p);
+            current = (newest_read base h.history o.0 v.0 v.1 within_base k.state.objects objects, d.current);
+            writes = d.writes;
+            spawns = d.spawns;
+          },
+          record { read = r; older = h.attempt.reads; is = refl; object_is = refl },
+        );
+      };
+      turns =
+          read_turns k m h o.0 at None None fine (not_written h.attempt.writes k.attempt.written k.attempt.words o.0 d.writes e) (no_read o.0 h.attempt.reads (sym (d.reads o.0) ∙ g))
+          ∙ ap (λ (i : Interval). cond (is_empty i) (let t : Turn MachineState = record { core = Idle; line = model.Stale 0 a.task i.lo (unwrap_or i.hi 0) } in t) (open_read a k.machine o.0 (chosen i.hi (versions base o.0 h.history)))) f.phase.0.interval
+          ∙ ap (open_read a k.machine o.0) v.1;
+    }
+  where
+    one_more : (x p : ℕ) (xs : List ℕ) (reads : List Read) (writer : ℕ) → is_among p xs ≡ is_some (read_of p reads) → (eqb x p || is_among p xs) ≡ is_some (read_of p (record { object = x; writer = writer } ∷ reads))
+    one_more x p xs reads writer e = either (eqb x p)
+      where
+        either : (b : Bool) → (b || is_among p xs) ≡ is_some (cond b (Some (record { object = x; writer = writer })) (read_of p reads))
+        either true = refl
+        either false = e
+
+-- a write
+pub writes_words : (k : Kernel) (o : ℕ) (at : ℕ) → None ≡ refusal k.set k.machine o at → o < length k.attempt.words → IsIncreasing k.attempt.written
+    → Serves (running k) (service.Write o at)
+    (record k {
+      machine = past k.machine;
+      attempt = record k.attempt { words = set k.attempt.words o (words_at k.machine.memory at (object_at k.set o).size); written = with_object o k.attempt.written };
+      phase = phase.Running;
+    })
+unfolding Serves
+writes_words k o at fine inside increasing = λ m h f.
+    let d = f.phase.1 in
+    let words : List ℕ = words_at k.machine.memory at (object_at k.set o).size in
+    let w : Write = record { object = o; words = words } in
+    record {
+      hidden = record h { attempt = record h.attempt { writes = with_write w h.attempt.writes } };
+      history = refl;
+      fits = record {
+        left = f.left;
+        phase = (
+          record { task_is = f.phase.0.task_is; interval = f.phase.0.interval },
+          record {
+            reads = d.reads;
+            current = d.current;
+            writes = written_more h.attempt.writes k.attempt.written k.attempt.words o words d.writes increasing inside;
+            spawns = d.spawns;
+          },
+        );
+      };
+      turns = ap (λ x. turned k m h (unless x (Writes (past k.machine) w))) (sym fine);
+    }
+
+-- a spawn that is counted
+abbrev spawning : Kernel → MachineState → Hidden → ℕ → ℕ → Bool → Turn MachineState
+spawning k m h program arg b = turned k m h (cond b (Spawns k.machine (record { program = program; arg = arg })) (Ends (trap_of cause.Program)))
+
+abbrev spawned_there : Kernel → MachineState → Hidden → ℕ → ℕ → Bool → Turn MachineState
+spawned_there k m h program arg b =
+    let a : Attempt MachineState = record h.attempt { state = m } in
+    cond b (quiet (Running (record a { spawns = a.spawns ++ record { program = program; arg = arg } ∷ []; state = given_index k.machine (length a.spawns) }))) (quiet (Ready a (Trap spawns_cause)))
+
+pub spawns_task : (k : Kernel) (s : base_spawn.Spawn) → s.program.0 < length k.set.programs → length k.attempt.spawns < 8
+    → Serves (running k) (service.Spawn s.program.0 s.arg)
+    (record k { machine = given_index k.machine (length k.attempt.spawns); attempt = record k.attempt { spawns = k.attempt.spawns ++ s ∷ [] }; phase = phase.Running })
+unfolding Serves
+spawns_task k s inside few = λ m h f.
+    let d = f.phase.1 in
+    let count : length h.attempt.spawns ≡ length k.attempt.spawns = ap length (sym d.spawns) ∙ length-map k.attempt.spawns spawn_of in
+    record {
+      hidden = record h { attempt = record h.attempt { spawns = h.attempt.spawns ++ spawn_of s ∷ [] } };
+      history = refl;
+      fits = record {
+        left = f.left;
+        phase = (
+          record { task_is = f.phase.0.task_is; interval = f.phase.0.interval },
+          record {
+            reads = d.reads;
+            current = d.current;
+            writes = d.writes;
+            spawns = map-append spawn_of k.attempt.spawns (s ∷ []) ∙ ap (λ xs. xs ++ spawn_of s ∷ []) d.spawns;
+          },
+        );
+      };
+      turns =
+          ap (spawning k m h s.program.0 s.arg) (lt-ltb s.program.0 (length k.set.programs) inside)
+          ∙ ap (spawned_there k m h s.program.0 s.arg) (lt-ltb (length h.attempt.spawns) 8 (omega (arith, count, few)))
+          ∙ ap (λ n. let a : Attempt MachineState = record h.attempt { spawns = h.attempt.spawns ++ spawn_of s ∷ []; state = given_index k.machine n } in quiet (Running a)) count;
+    }
+
+-- a spawn too many
+pub spawns_too_many : (k : Kernel) (program arg : ℕ) → program < length k.set.programs → 8 ≤ length k.attempt.spawns
+    → Serves (running k) (service.Spawn program arg) (record k { attempt = attempt_left k.attempt (outcome.Trap cause.Spawns); phase = phase.Ready (outcome.Trap cause.Spawns) })
+unfolding Serves
+spawns_too_many k program arg inside many = λ m h f.
+    let d = f.phase.1 in
+    let count : length h.attempt.spawns ≡ length k.attempt.spawns = ap length (sym d.spawns) ∙ length-map k.attempt.spawns spawn_of in
+    record {
+      hidden = record h { attempt = record h.attempt { state = m } };
+      history = refl;
+      fits = record { left = f.left; phase = (record { task_is = f.phase.0.task_is; interval = f.phase.0.interval }, leaves k h m (outcome.Trap cause.Spawns) d) };
+      turns =
+          ap (spawning k m h program arg) (lt-ltb program (length k.set.programs) inside)
+          ∙ ap (spawned_there k m h program arg) (le-ltb (length h.attempt.spawns) 8 (omega (arith, count, many)));
+    }

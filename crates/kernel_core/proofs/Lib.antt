@@ -1,0 +1,9 @@
+pub mod Tables
+pub mod Counts
+pub mod Tasks
+pub mod Newest
+pub mod Attempts
+pub mod Turning
+pub mod Finishing
+pub mod Keeping
+pub mod Placing

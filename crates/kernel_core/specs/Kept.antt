@@ -1,0 +1,69 @@
+-- What a kernel keeps of its own memory. This project's own.
+use Rattle.std.specs.Prelude.{◌≡◌, ℕ, zero, suc, ◌+◌, ◌-◌, ◌*◌, ◌<◌, ◌≤◌, List, ◌∷◌, length}
+use Rattle.std.specs.List.{AllByRecursion}
+use Rattle.object_sets.specs.ObjectSets.{AreBelow, IsIncreasing}
+use Rattle.rv_core.specs.Machine.{IsPlace}
+use Rattle.rv_core.specs.State.{MachineState}
+use Rattle.nv_base.specs.declared.lines.Entry.{Entry}
+use Rattle.nv_base.specs.declared.lines.Spawn.{Spawn}
+use Rattle.kernel_model.specs.Replay.{Base, TaskRec}
+use Rattle.set_model.specs.Sets.{TaskSet, object_at}
+use Rattle.set_model.specs.Limits.{IsTaskSet}
+use Rattle.task_model.specs.TaskSteps.{address_of}
+use Rattle.task_model.specs.Progress.{HasShape}
+use Rattle.kernel_core.specs.Shapes.{behind}
+use Rattle.kernel_core.specs.declared.kernel.Kernel.{Kernel}
+use Rattle.kernel_core.specs.declared.kernel.Phase.{Phase}
+use Rattle.kernel_core.specs.declared.kernel.Phase.TheVariants as phase
+
+-- how many finishes are durable
+abbrev pub finishes : Kernel → ℕ
+finishes k = k.state.number
+
+-- the core's task is the least open one
+pub record IsHeld (tasks : List TaskRec) (task : ℕ) : Type 0 where
+  pub least : TaskRec
+  pub is : tasks ≡ least ∷ behind tasks
+  pub id : least.id ≡ task
+
+-- the machine waits on a READ, with room for the object's words at the address
+pub record IsWaiting (set : TaskSet) (m : MachineState) (object at copied : ℕ) : Type 0 where
+  pub inside : object < length set.objects
+  pub less : copied < (object_at set object).size
+  pub address : at ≡ address_of m
+  pub place : IsPlace m at (object_at set object).size
+  pub waits : m.pc + 4 ≤ length m.memory
+
+-- the finish that commits may be taken in
+pub record IsGranted (set : TaskSet) (s : Base) (spawns : List Spawn) (e : Entry) : Type 0 where
+  pub held : IsHeld s.tasks e.task.0
+  pub first : e.first.0 ≡ s.next
+  pub low : s.clock ≤ e.point.0
+  pub high : e.point.0 ≤ s.number + 1
+  pub records : length s.tasks - 1 + length spawns ≤ set.records
+
+abbrev pub IsGrantedUntil : ℕ → TaskSet → Base → List Spawn → Entry → Type 0
+IsGrantedUntil zero set s spawns e = Unit {0}
+IsGrantedUntil (suc left) set s spawns e = IsGranted set s spawns e
+
+abbrev pub IsKeptIn : Kernel → Phase → Type 0
+IsKeptIn k phase.Idle = Unit {0}
+IsKeptIn k phase.Running = IsHeld k.state.tasks k.task.0
+IsKeptIn k (phase.Copying object at copied) = IsHeld k.state.tasks k.task.0 × IsWaiting k.set k.machine object.0 at copied
+IsKeptIn k (phase.Ready outcome) = IsHeld k.state.tasks k.task.0
+IsKeptIn k (phase.Committing entry left) = IsGrantedUntil left k.set k.state k.attempt.spawns entry
+
+pub record IsKept (k : Kernel) : Type 0 where
+  pub set : IsTaskSet k.set
+  pub memory : length k.machine.memory ≡ k.set.memory
+  pub objects : HasShape k.set k.state.objects
+  pub words : HasShape k.set k.attempt.words
+  pub programs : AllByRecursion (λ t. t.program < length k.set.programs) k.state.tasks
+  pub records : length k.state.tasks ≤ k.set.records
+  pub written : AreBelow (length k.set.objects) k.attempt.written
+  pub increasing : IsIncreasing k.attempt.written
+  pub children : AllByRecursion (λ s. s.program.0 < length k.set.programs) k.attempt.spawns
+  pub spawns : length k.attempt.spawns ≤ 8
+  pub clock : k.state.clock ≤ k.state.number
+  pub next : k.state.next ≤ 257 + 8 * k.state.number
+  pub phase : IsKeptIn k k.phase

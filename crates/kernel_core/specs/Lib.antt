@@ -1,0 +1,4 @@
+pub mod Shapes
+pub mod Stands
+pub mod Kept
+pub mod Arms

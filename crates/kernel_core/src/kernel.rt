@@ -1,0 +1,482 @@
+//! The event machine of one core, turn by turn.
+
+ghost use Rattle.std.specs.Prelude.{◌≡◌, ◌≤◌, ◌<◌, ◌+◌, ◌^◌, IfOk, OnOk, [], if◌then◌else◌, length, map, sum_by};
+ghost use Rattle.std.specs.Result.{result_err};
+ghost use Rattle.object_sets.specs.ObjectSets.{is_among};
+ghost use Rattle.rv_core.specs.State.{MachineState};
+ghost use Rattle.rv_core.specs.Machine.{IsPlace, first_state, put_words};
+ghost use Rattle.rv_core.specs.declared.services.Service.TheVariants.{Read, Write, Spawn as AsksFor};
+ghost use Rattle.kernel_model.specs.Effects.{words_of};
+ghost use Rattle.kernel_model.specs.Events.{State};
+ghost use Rattle.kernel_model.specs.Report.{unprinted};
+ghost use Rattle.set_model.specs.Sets.{object_at, program_at};
+ghost use Rattle.set_model.specs.Numbers.{index_words};
+ghost use Rattle.set_model.specs.Views.{entry_if, task_of};
+ghost use Rattle.task_model.specs.TaskSteps.{address_of, given_words, refusal};
+ghost use Rattle.headline.specs.Run.{first_state as opened_state};
+ghost use Rattle.kernel_core.specs.Stands.{Stands, Leads, left_in};
+ghost use Rattle.kernel_core.specs.Kept.{IsKept, finishes};
+ghost use Rattle.kernel_core.specs.Arms.{Serves, Turns, attempt_left, entry_in, untold_in};
+
+use crate::attempt::Attempt;
+use crate::spawns::MAX_SPAWNS;
+use crate::state::Durable;
+use nv_base::{
+    CoreId, Entry, Line, NoMemory, ObjId, Outcome, Point, ProgId, Seq, Set64, Spawn, TaskId,
+    TaskRec, TrapCause,
+};
+use rv_core::{Machine, Service, Step};
+use std::alloc::Global;
+use task_set::TaskSet;
+
+/// What the core does.
+#[derive(Clone, Copy, Debug)]
+pub enum Phase {
+    /// It has no task.
+    Idle,
+    /// It runs an attempt of its task.
+    Running,
+    /// The words of this object come next, to this address. So many are copied.
+    Copying { object: ObjId, at: u32, copied: u8 },
+    /// The attempt has ended so, and asks for its finish.
+    Ready(Outcome),
+    /// This finish commits, and so many writes are left.
+    Committing(Entry, u32),
+}
+
+/// The kernel of one core under continuous power: a task set, what is durable, and the attempt of the running task.
+#[derive(Drop)]
+pub struct Kernel {
+    set: TaskSet,
+    machine: Machine,
+    state: Durable,
+    attempt: Attempt,
+
+    // the task that the core holds, if it is not idle
+    task: TaskId,
+    phase: Phase,
+}
+
+/// Puts the words of an object into a machine's memory.
+fn give_words(machine: &mut Machine, at: u32, words: &[u32])
+    requires { IsPlace machine.old at (length words.now) }
+    ensures exact { machine.new ≡ record machine.old { memory = put_words machine.old.memory at words.now } }
+    ensures room { length machine.new.memory ≡ length machine.old.memory }
+{
+    let mut place = at;
+    for word in words {
+        machine.copy_in(place, *word);
+        place += 4;
+    }
+}
+
+/// The words of an object are given to a READ that waits on them.
+fn give(machine: &mut Machine, at: u32, words: &[u32])
+    requires address { at ≡ address_of machine.old }
+    requires place { IsPlace machine.old at (length words.now) }
+    requires waits { machine.old.pc + 4 ≤ length machine.old.memory }
+    ensures exact { machine.new ≡ given_words machine.old words.now }
+    ensures room { length machine.new.memory ≡ length machine.old.memory }
+{
+    give_words(machine, at, words);
+    machine.resume(None);
+}
+
+impl Kernel {
+    /// The kernel of a set of one core, in the state that a format leaves. All memory is taken here.
+    pub fn open(alloc: Global, set: TaskSet) -> Result<Kernel, NoMemory>
+        requires { set.cores ≡ 1 }
+        ensures kept { IfOk result IsKept }
+        ensures stands { IfOk result (λ k. Stands k (opened_state set)) }
+        ensures set { IfOk result (λ k. k.set ≡ set) }
+        ensures fresh { IfOk result (λ k. finishes k ≡ 0) }
+    {
+        let machine = Machine::new(alloc, set.memory())?;
+        let state = Durable::of_set(alloc, &set)?;
+        let attempt = Attempt::of_set(alloc, &set)?;
+        Ok(Kernel {
+            set,
+            machine,
+            state,
+            attempt,
+            task: TaskId(0),
+            phase: Phase::Idle,
+        })
+    }
+
+    /// One step of core 0, and the line that it prints. It takes no memory.
+    pub fn turn(&mut self) -> Line
+        requires kept { IsKept self.old }
+        requires few { finishes self.old < 1000000 }
+        ensures kept { IsKept self.new }
+        ensures leads { Leads self.old self.new result }
+        ensures set { self.new.set ≡ self.old.set }
+        ensures counted { finishes self.new ≤ finishes self.old + 1 }
+    {
+        match self.phase {
+            Phase::Idle => self.start(),
+            Phase::Running => self.run(),
+            Phase::Copying { object, at, copied } => self.copy(object, at, copied),
+            Phase::Ready(outcome) => self.judge(outcome),
+            Phase::Committing(entry, left) => self.commit(entry, left),
+        }
+    }
+
+    /// An idle core takes the least open task, if there is one.
+    fn start(&mut self) -> Line
+        requires kept { IsKept self.old }
+        requires idle { self.old.phase ≡ Phase.Idle }
+        ensures kept { IsKept self.new }
+        ensures turns { Turns self.old self.new result }
+        ensures set { self.new.set ≡ self.old.set }
+        ensures state { self.new.state ≡ self.old.state }
+    {
+        let Some(task) = self.state.first() else {
+            return Line::Nothing;
+        };
+        self.load(task);
+        Line::Start {
+            core: CoreId(0),
+            task: task.id,
+            at: Point(self.state.clock()),
+        }
+    }
+
+    fn load(&mut self, task: TaskRec)
+        requires program { task.program.0 < length self.old.set.programs }
+        requires memory { length self.old.machine.memory ≡ self.old.set.memory }
+        ensures exact { self.new ≡ record self.old {
+          machine = first_state (program_at self.old.set task.program.0).code task.arg (program_at self.old.set task.program.0).fuel self.old.set.memory;
+          attempt = record self.old.attempt { reads = []; written = []; spawns = [] };
+          task = task.id;
+          phase = Phase.Running;
+        } }
+        ensures room { length self.new.machine.memory ≡ self.old.set.memory }
+    {
+        self.machine.load(
+            self.set.code(task.program),
+            task.arg,
+            self.set.fuel(task.program),
+        );
+        self.attempt.begin();
+        self.task = task.id;
+        self.phase = Phase::Running;
+    }
+
+    /// One step of the running machine, with the service that it calls.
+    fn run(&mut self) -> Line
+        requires kept { IsKept self.old }
+        requires running { self.old.phase ≡ Phase.Running }
+        ensures kept { IsKept self.new }
+        ensures turns { Turns self.old self.new result }
+        ensures set { self.new.set ≡ self.old.set }
+        ensures state { self.new.state ≡ self.old.state }
+    {
+        match self.machine.step() {
+            Step::Went => {}
+            Step::Trap(cause) => self.end(Outcome::Trap(cause)),
+            Step::Call(Service::Finish { code }) => self.end(Outcome::Exit(code)),
+            Step::Call(Service::Read { object, at }) => self.read_object(object, at),
+            Step::Call(Service::Write { object, at }) => self.write_object(object, at),
+            Step::Call(Service::Spawn { program, arg }) => self.spawn_task(program, arg),
+        }
+        Line::Nothing
+    }
+
+    /// The attempt ends. A trap keeps no writes and no spawns.
+    fn end(&mut self, outcome: Outcome)
+        ensures { self.new ≡ record self.old { attempt = attempt_left self.old.attempt outcome; phase = Phase.Ready outcome } }
+    {
+        if let Outcome::Trap(_) = outcome {
+            self.attempt.drop_effects();
+        }
+        self.phase = Phase::Ready(outcome);
+    }
+
+    /// The tests of a READ or a WRITE, in order: Object, CallAlign, CallRange.
+    fn place(&self, object: u32, at: u32) -> Result<ObjId, TrapCause>
+        ensures refusal { result_err result ≡ refusal self.now.set self.now.machine object at }
+        ensures object { IfOk result (λ o. o.0 ≡ object) }
+        ensures inside { OnOk result (object < length self.now.set.objects) }
+        ensures few { OnOk result (object < 64) }
+        ensures place { OnOk result (IsPlace self.now.machine at (object_at self.now.set object).size) }
+    {
+        if object >= u32::from(self.set.objects()) {
+            return Err(TrapCause::Object);
+        }
+        let o = ObjId(object as u8);
+        self.machine.fits(at, u32::from(self.set.size(o)))?;
+        Ok(o)
+    }
+
+    /// The attempt's own last write, else its earlier copy, else the object's words come next.
+    fn read_object(&mut self, object: u32, at: u32)
+        requires kept { IsKept self.old }
+        requires running { self.old.phase ≡ Phase.Running }
+        requires address { at ≡ address_of self.old.machine }
+        requires waits { self.old.machine.pc + 4 ≤ length self.old.machine.memory }
+        ensures kept { IsKept self.new }
+        ensures serves { Serves self.old (Read object at) self.new }
+        ensures set { self.new.set ≡ self.old.set }
+        ensures state { self.new.state ≡ self.old.state }
+    {
+        let o = match self.place(object, at) {
+            Ok(o) => o,
+            Err(cause) => return self.end(Outcome::Trap(cause)),
+        };
+        if self.attempt.written.has(o) {
+            give(&mut self.machine, at, self.attempt.words.get(o));
+        } else if self.attempt.reads.has(o) {
+            give(&mut self.machine, at, self.state.object(o));
+        } else {
+            self.attempt.reads.add(o);
+            self.phase = Phase::Copying {
+                object: o,
+                at,
+                copied: 0,
+            };
+        }
+    }
+
+    /// The words at the address become the attempt's write.
+    fn write_object(&mut self, object: u32, at: u32)
+        requires kept { IsKept self.old }
+        requires running { self.old.phase ≡ Phase.Running }
+        requires waits { self.old.machine.pc + 4 ≤ length self.old.machine.memory }
+        ensures kept { IsKept self.new }
+        ensures serves { Serves self.old (Write object at) self.new }
+        ensures set { self.new.set ≡ self.old.set }
+        ensures state { self.new.state ≡ self.old.state }
+    {
+        let o = match self.place(object, at) {
+            Ok(o) => o,
+            Err(cause) => return self.end(Outcome::Trap(cause)),
+        };
+        self.attempt.words.take_from(o, &self.machine, at);
+        self.attempt.written.add(o);
+        self.machine.resume(None);
+    }
+
+    /// Asks for a task, and gives its index among those of the attempt.
+    fn spawn_task(&mut self, program: u32, arg: u32)
+        requires kept { IsKept self.old }
+        requires running { self.old.phase ≡ Phase.Running }
+        requires waits { self.old.machine.pc + 4 ≤ length self.old.machine.memory }
+        ensures kept { IsKept self.new }
+        ensures serves { Serves self.old (AsksFor program arg) self.new }
+        ensures set { self.new.set ≡ self.old.set }
+        ensures state { self.new.state ≡ self.old.state }
+    {
+        if program >= u32::from(self.set.programs()) {
+            return self.end(Outcome::Trap(TrapCause::Program));
+        }
+        let index = self.attempt.spawns.len();
+        if index >= MAX_SPAWNS {
+            return self.end(Outcome::Trap(TrapCause::Spawns));
+        }
+        self.attempt.spawns.push(Spawn {
+            program: ProgId(program as u8),
+            arg,
+        });
+        self.machine.resume(Some(index as u32));
+    }
+
+    /// One word of a copy. With the last one the READ is done: no finish has joined since it began, so the words are
+    /// those of the newest version.
+    fn copy(&mut self, object: ObjId, at: u32, copied: u8) -> Line
+        requires kept { IsKept self.old }
+        requires copying { self.old.phase ≡ Phase.Copying object at copied }
+        ensures kept { IsKept self.new }
+        ensures turns { Turns self.old self.new result }
+        ensures set { self.new.set ≡ self.old.set }
+        ensures state { self.new.state ≡ self.old.state }
+    {
+        if copied + 1 < self.set.size(object) {
+            self.phase = Phase::Copying {
+                object,
+                at,
+                copied: copied + 1,
+            };
+        } else {
+            give(&mut self.machine, at, self.state.object(object));
+            self.phase = Phase::Running;
+        }
+        Line::Nothing
+    }
+
+    /// An attempt that meets no other is granted, unless records are not enough. Then its task starts again.
+    fn judge(&mut self, outcome: Outcome) -> Line
+        requires kept { IsKept self.old }
+        requires few { finishes self.old < 1000000 }
+        requires ready { self.old.phase ≡ Phase.Ready outcome }
+        ensures kept { IsKept self.new }
+        ensures turns { Turns self.old self.new result }
+        ensures set { self.new.set ≡ self.old.set }
+        ensures state { self.new.state ≡ self.old.state }
+    {
+        let pending = self.state.pending();
+        let spawns = self.attempt.spawns.len();
+        if pending - 1 + spawns > usize::from(self.set.records()) {
+            self.phase = Phase::Idle;
+            return Line::RefuseRecords {
+                core: CoreId(0),
+                task: self.task,
+                pending: pending as u32,
+                spawns: spawns as u32,
+            };
+        }
+        self.phase = Phase::Committing(self.entry(outcome), self.commit_writes());
+        Line::Nothing
+    }
+
+    /// The finish of the attempt: one that writes stands behind the clock, and another at it.
+    fn entry(&self, outcome: Outcome) -> Entry
+        requires number { self.now.state.number + 1 < 2 ^ 32 }
+        requires clock { self.now.state.clock + 1 < 2 ^ 32 }
+        ensures { result ≡ entry_in self.now outcome }
+    {
+        let clock = self.state.clock();
+        let point = if self.attempt.written == Set64::empty() {
+            clock
+        } else {
+            clock + 1
+        };
+        Entry {
+            number: Seq(self.state.number() + 1),
+            task: self.task,
+            point: Point(point),
+            first: TaskId(self.state.next()),
+            outcome,
+        }
+    }
+
+    /// The writes of a commit: the words of the written objects, the index, and the root.
+    fn commit_writes(&self) -> u32
+        requires kept { IsKept self.now }
+        ensures exact { result ≡ sum_by (λ o. (object_at self.now.set o).size) self.now.attempt.written + index_words self.now.set + 1 }
+        ensures some { 0 < result }
+    {
+        let mut words = 10 + u32::from(self.set.objects()) + 3 * u32::from(self.set.records());
+        for o in 0..self.set.objects() {
+            words += self.words_written(ObjId(o));
+        }
+        words
+    }
+
+    /// The words that a commit writes of an object: all of them, where the attempt wrote it.
+    fn words_written(&self, o: ObjId) -> u32
+        requires inside { o.0 < length self.now.set.objects }
+        requires few { o.0 < 64 }
+        ensures exact { result ≡ (if is_among o.0 self.now.attempt.written then (object_at self.now.set o.0).size else 0) }
+        ensures few { result ≤ 64 }
+    {
+        if self.attempt.written.has(o) {
+            u32::from(self.set.size(o))
+        } else {
+            0
+        }
+    }
+
+    /// One write of the commit, of which the last makes the finish durable, or its end, which tells it.
+    fn commit(&mut self, entry: Entry, left: u32) -> Line
+        requires kept { IsKept self.old }
+        requires few { finishes self.old < 1000000 }
+        requires committing { self.old.phase ≡ Phase.Committing entry left }
+        ensures kept { IsKept self.new }
+        ensures turns { Turns self.old self.new result }
+        ensures set { self.new.set ≡ self.old.set }
+        ensures counted { finishes self.new ≤ finishes self.old + 1 }
+    {
+        if left == 0 {
+            self.phase = Phase::Idle;
+            return Line::Finish(entry);
+        }
+        if left == 1 {
+            return self.flip(entry);
+        }
+        self.phase = Phase::Committing(entry, left - 1);
+        Line::Nothing
+    }
+
+    /// The last write of the commit.
+    fn flip(&mut self, entry: Entry) -> Line
+        requires kept { IsKept self.old }
+        requires few { finishes self.old < 1000000 }
+        requires last { self.old.phase ≡ Phase.Committing entry 1 }
+        ensures kept { IsKept self.new }
+        ensures turns { Turns self.old self.new result }
+        ensures set { self.new.set ≡ self.old.set }
+        ensures counted { finishes self.new ≤ finishes self.old + 1 }
+    {
+        self.state.finish(
+            entry,
+            self.attempt.written,
+            &self.attempt.words,
+            self.attempt.spawns.as_slice(),
+        );
+        self.phase = Phase::Committing(entry, 0);
+        Line::Nothing
+    }
+
+    /// The finish that is durable and that no line has told.
+    pub fn close_line(&self) -> Option<Entry>
+        ensures { (s : State MachineState) → Stands self.now s → entry_if result ≡ unprinted s }
+    {
+        self.untold()
+    }
+
+    fn untold(&self) -> Option<Entry>
+        ensures { result ≡ untold_in self.now.phase }
+    {
+        match self.phase {
+            Phase::Committing(entry, 0) => Some(entry),
+            _ => None,
+        }
+    }
+
+    /// The task set that it was opened with.
+    pub fn set(&self) -> &TaskSet
+        ensures { result.now ≡ self.now.set }
+    {
+        &self.set
+    }
+
+    /// The greatest point of what is durable.
+    pub fn clock(&self) -> Point
+        ensures { (s : State MachineState) → Stands self.now s → result.0 ≡ (left_in self.now s).clock }
+    {
+        Point(self.state.clock())
+    }
+
+    /// The number of the last finish that is durable.
+    pub fn number(&self) -> Seq
+        ensures stands { (s : State MachineState) → Stands self.now s → result.0 ≡ (left_in self.now s).number }
+        ensures count { result.0 ≡ finishes self.now }
+    {
+        Seq(self.state.number())
+    }
+
+    /// The id above all that are durable.
+    pub fn next(&self) -> TaskId
+        ensures { (s : State MachineState) → Stands self.now s → result.0 ≡ (left_in self.now s).next }
+    {
+        TaskId(self.state.next())
+    }
+
+    /// The durable words of an object.
+    pub fn object(&self, o: ObjId) -> &[u32]
+        requires kept { IsKept self.now }
+        requires inside { o.0 < length self.now.set.objects }
+        ensures stands { (s : State MachineState) → Stands self.now s → result.now ≡ words_of (left_in self.now s).objects o.0 }
+        ensures size { length result.now ≡ (object_at self.now.set o.0).size }
+    {
+        self.state.object(o)
+    }
+
+    /// The open tasks that are durable, by id.
+    pub fn open_tasks(&self) -> &[TaskRec]
+        ensures { (s : State MachineState) → Stands self.now s → map task_of result.now ≡ (left_in self.now s).tasks }
+    {
+        self.state.open()
+    }
+}

@@ -1,0 +1,14 @@
+//! The kernel of one core, over any task set, while power is on.
+#![tactic(auto)]
+
+mod attempt;
+mod kernel;
+mod objects;
+mod queue;
+mod spawns;
+mod state;
+
+pub use kernel::Kernel;
+
+#[cfg(test)]
+mod tests;

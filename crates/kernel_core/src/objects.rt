@@ -1,0 +1,125 @@
+//! The words of the objects, in memory that is taken once.
+
+ghost use Rattle.std.specs.Prelude.{◌≡◌, ◌<◌, ◌≤◌, ℕ, IfOk, List, Some, length, map, slice_set};
+ghost use Rattle.rv_core.specs.Machine.{words_at, IsPlace};
+ghost use Rattle.kernel_model.specs.Effects.{Write, put, words_of};
+ghost use Rattle.kernel_core.specs.Shapes.{AreWritten};
+
+use nv_base::{NoMemory, ObjId, Set64};
+use rv_core::Machine;
+use std::alloc::Global;
+use std::marker::Model;
+use task_set::TaskSet;
+
+/// The words of one object, which contracts see as their list.
+#[derive(Drop)]
+struct Words {
+    items: Vec<u32>,
+}
+
+impl Model for Words {
+    ghost use Rattle.std.specs.Prelude.{List, ℕ};
+
+    ghost Value = { List ℕ };
+
+    ghost view = { λ w. w.items.items };
+}
+
+impl Words {
+    fn of(alloc: Global, words: &[u32]) -> Result<Words, NoMemory>
+        ensures { IfOk result (λ w. w ≡ words.now) }
+    {
+        Ok(Words {
+            items: Vec::from_slice(alloc, words)?,
+        })
+    }
+
+    fn as_slice(&self) -> &[u32]
+        ensures { result.now ≡ self.now }
+    {
+        self.items.as_slice()
+    }
+
+    // As many words as there are, from an address of a machine's memory.
+    fn take_from(&mut self, machine: &Machine, at: u32)
+        requires { IsPlace machine.now at (length self.old) }
+        ensures { self.new ≡ words_at machine.now.memory at (length self.old) }
+    {
+        machine.copy_out(at, self.items.as_mut_slice());
+    }
+
+    fn set(&mut self, words: &[u32])
+        requires { length words.now ≡ length self.old }
+        ensures { self.new ≡ words.now }
+    {
+        self.items.as_mut_slice().copy_from_slice(words);
+    }
+}
+
+/// The words of each object of a set, by its number, which contracts see as a list of lists.
+#[derive(Drop)]
+pub(crate) struct Objects {
+    items: Vec<Words>,
+}
+
+impl Model for Objects {
+    ghost use Rattle.std.specs.Prelude.{List, ℕ};
+
+    ghost Value = { List (List ℕ) };
+
+    ghost view = { λ o. o.items.items };
+}
+
+impl Objects {
+    /// The words that the objects of a set have at first.
+    pub(crate) fn of_set(alloc: Global, set: &TaskSet) -> Result<Objects, NoMemory>
+        ensures { IfOk result (λ o. o ≡ map (λ p. p.first) set.now.objects) }
+    {
+        let mut items = Vec::with_capacity(alloc, usize::from(set.objects()))?;
+        for o in 0..set.objects() {
+            items.push(Words::of(alloc, set.first(ObjId(o)))?)?;
+        }
+        Ok(Objects { items })
+    }
+
+    /// The words of an object.
+    pub(crate) fn get(&self, o: ObjId) -> &[u32]
+        requires { o.0 < length self.now }
+        ensures { result.now ≡ words_of self.now o.0 }
+    {
+        self.items[usize::from(o.0)].as_slice()
+    }
+
+    /// Takes an object's words from an address of a machine's memory.
+    pub(crate) fn take_from(&mut self, o: ObjId, machine: &Machine, at: u32)
+        requires inside { o.0 < length self.old }
+        requires place { IsPlace machine.now at (length (words_of self.old o.0)) }
+        ensures { self.new ≡ slice_set self.old o.0 (words_at machine.now.memory at (length (words_of self.old o.0))) }
+    {
+        self.items[usize::from(o.0)].take_from(machine, at);
+    }
+
+    /// Takes over the words of an object.
+    fn set(&mut self, o: ObjId, words: &[u32])
+        requires inside { o.0 < length self.old }
+        requires size { length words.now ≡ length (words_of self.old o.0) }
+        ensures { self.new ≡ slice_set self.old o.0 words.now }
+    {
+        self.items[usize::from(o.0)].set(words);
+    }
+
+    /// Puts the words of the written objects in.
+    pub(crate) fn put(&mut self, written: Set64, words: &Objects)
+        requires few { length self.old ≤ 64 }
+        requires same { length words.now ≡ length self.old }
+        requires sizes { (o : ℕ) → o < length self.old → length (words_of words.now o) ≡ length (words_of self.old o) }
+        ensures { (ws : List Write) → AreWritten ws written words.now → self.new ≡ put ws self.old }
+    {
+        for o in 0..self.items.len() as u8 {
+            let o = ObjId(o);
+            if written.has(o) {
+                self.set(o, words.get(o));
+            }
+        }
+    }
+}

@@ -1,0 +1,69 @@
+//! The tasks that an attempt asks for.
+
+ghost use Rattle.std.specs.Prelude.{◌≡◌, ◌<◌, ◌≤◌, ◌++◌, ◌∷◌, [], IfOk, length};
+
+use nv_base::{NoMemory, Spawn};
+use std::alloc::Global;
+use std::marker::Model;
+
+/// How many tasks an attempt may spawn.
+pub(crate) const MAX_SPAWNS: usize = 8;
+
+/// The tasks that an attempt spawned, in order: at most 8, with room for all from the first on.
+#[derive(Drop)]
+pub(crate) struct Spawns {
+    items: Vec<Spawn>,
+}
+
+impl Model for Spawns {
+    ghost use Rattle.std.specs.Prelude.{List, ◌≤◌, length, vec_capacity};
+    ghost use Rattle.nv_base.specs.declared.lines.Spawn.{Spawn};
+
+    ghost Value = { List Spawn };
+
+    ghost view = { λ s. s.items.items };
+
+    ghost invariant = { λ s. (length s.items.items ≤ 8) × (8 ≤ vec_capacity s.items) };
+}
+
+impl Spawns {
+    /// No spawns, with room for 8.
+    pub(crate) fn with_room(alloc: Global) -> Result<Spawns, NoMemory>
+        ensures { IfOk result (λ s. s ≡ []) }
+    {
+        Ok(Spawns {
+            items: Vec::with_capacity(alloc, MAX_SPAWNS)?,
+        })
+    }
+
+    /// How many there are.
+    pub(crate) fn len(&self) -> usize
+        ensures exact { result ≡ length self.now }
+        ensures few { result ≤ 8 }
+    {
+        self.items.len()
+    }
+
+    /// All of them, in order.
+    pub(crate) fn as_slice(&self) -> &[Spawn]
+        ensures exact { result.now ≡ self.now }
+        ensures few { length result.now ≤ 8 }
+    {
+        self.items.as_slice()
+    }
+
+    /// Adds one, for which there is room.
+    pub(crate) fn push(&mut self, spawn: Spawn)
+        requires { length self.old < 8 }
+        ensures { self.new ≡ self.old ++ spawn ∷ [] }
+    {
+        self.items.push_reserved(spawn);
+    }
+
+    /// Drops them.
+    pub(crate) fn clear(&mut self)
+        ensures { self.new ≡ [] }
+    {
+        self.items.clear();
+    }
+}

@@ -1,0 +1,129 @@
+//! What is durable.
+
+ghost use Rattle.std.specs.Prelude.{◌≡◌, ◌+◌, ◌^◌, ◌<◌, ◌≤◌, ℕ, IfOk, List, MatchOption, [], ◌∷◌, length, map};
+ghost use Rattle.kernel_model.specs.Effects.{Write, words_of};
+ghost use Rattle.kernel_model.specs.OpenTasks.{others_than};
+ghost use Rattle.set_model.specs.Formatted.{formatted};
+ghost use Rattle.set_model.specs.Views.{spawn_of, task_of};
+ghost use Rattle.kernel_core.specs.Shapes.{AreWritten, behind, state_after};
+
+use crate::objects::Objects;
+use crate::queue::Queue;
+use nv_base::{Entry, NoMemory, ObjId, Set64, Spawn, TaskRec};
+use std::alloc::Global;
+use std::marker::Model;
+use task_set::TaskSet;
+
+/// What is durable: the words of the objects, the open tasks, the clock, the number of the last finish, and the next
+/// id. Contracts see the definitions' record of it.
+#[derive(Drop)]
+pub(crate) struct Durable {
+    objects: Objects,
+    tasks: Queue,
+    clock: u32,
+    number: u32,
+    next: u32,
+}
+
+impl Model for Durable {
+    ghost use Rattle.kernel_model.specs.Replay.{Base};
+
+    ghost Value = { Base };
+
+    ghost view = { λ d. record { objects = d.objects; tasks = d.tasks; clock = d.clock; number = d.number; next = d.next } };
+}
+
+impl Durable {
+    /// What a format leaves. All room is taken here.
+    pub(crate) fn of_set(alloc: Global, set: &TaskSet) -> Result<Durable, NoMemory>
+        ensures { IfOk result (λ d. d ≡ formatted set.now) }
+    {
+        let first = set.tasks();
+        let mut tasks = Queue::with_room(alloc)?;
+        few_tasks(set);
+        tasks.add(1, first);
+        Ok(Durable {
+            objects: Objects::of_set(alloc, set)?,
+            tasks,
+            clock: 0,
+            number: 0,
+            next: first.len() as u32 + 1,
+        })
+    }
+
+    /// The greatest point so far.
+    pub(crate) fn clock(&self) -> u32
+        ensures { result ≡ self.now.clock }
+    {
+        self.clock
+    }
+
+    /// The number of the last finish.
+    pub(crate) fn number(&self) -> u32
+        ensures { result ≡ self.now.number }
+    {
+        self.number
+    }
+
+    /// The id above all so far.
+    pub(crate) fn next(&self) -> u32
+        ensures { result ≡ self.now.next }
+    {
+        self.next
+    }
+
+    /// The words of an object.
+    pub(crate) fn object(&self, o: ObjId) -> &[u32]
+        requires { o.0 < length self.now.objects }
+        ensures { result.now ≡ words_of self.now.objects o.0 }
+    {
+        self.objects.get(o)
+    }
+
+    /// The open tasks, by id.
+    pub(crate) fn open(&self) -> &[TaskRec]
+        ensures { map task_of result.now ≡ self.now.tasks }
+    {
+        self.tasks.as_slice()
+    }
+
+    /// How many tasks are open.
+    pub(crate) fn pending(&self) -> usize
+        ensures { result ≡ length self.now.tasks }
+    {
+        self.tasks.len()
+    }
+
+    /// The least open task: None where there is none.
+    pub(crate) fn first(&self) -> Option<TaskRec>
+        ensures { MatchOption result (self.now.tasks ≡ []) (λ t. self.now.tasks ≡ task_of t ∷ behind self.now.tasks) }
+    {
+        self.tasks.first()
+    }
+
+    /// Takes in a finish: the words of the objects that it wrote, and the tasks that it spawned.
+    pub(crate) fn finish(&mut self, entry: Entry, written: Set64, words: &Objects, spawns: &[Spawn])
+        requires few { length self.old.objects ≤ 64 }
+        requires same { length words.now ≡ length self.old.objects }
+        requires sizes { (o : ℕ) → o < length self.old.objects → length (words_of words.now o) ≡ length (words_of self.old.objects o) }
+        requires room { length (others_than entry.task.0 self.old.tasks) + length spawns.now ≤ 256 }
+        requires number { self.old.number + 1 < 2 ^ 32 }
+        requires ids { self.old.next + length spawns.now < 2 ^ 32 }
+        requires first { entry.first.0 ≡ self.old.next }
+        ensures { (ws : List Write) → AreWritten ws written words.now → self.new ≡ state_after entry ws (map spawn_of spawns.now) self.old }
+    {
+        self.objects.put(written, words);
+        self.tasks.remove(entry.task);
+        self.tasks.add(entry.first.0, spawns);
+        self.clock = entry.point.0;
+        self.number += 1;
+        self.next += spawns.len() as u32;
+    }
+}
+
+// A set has at most 256 tasks.
+fn few_tasks(set: &TaskSet)
+    ensures { length set.now.tasks ≤ 256 }
+{
+    let _records = set.records();
+}
