@@ -7,3 +7,4 @@ pub mod Turning
 pub mod Finishing
 pub mod Keeping
 pub mod Placing
+pub mod Durably

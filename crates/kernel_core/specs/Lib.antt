@@ -2,3 +2,4 @@ pub mod Shapes
 pub mod Stands
 pub mod Kept
 pub mod Arms
+pub mod Told

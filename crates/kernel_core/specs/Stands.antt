@@ -45,6 +45,10 @@ state_in k h = record { history = h.history; owed = None; cores = core_in k.mach
 abbrev pub left_in : Kernel → State MachineState → Base
 left_in k s = state_left (formatted k.set) (listed s)
 
+-- what is durable, as the kernel keeps it
+abbrev pub durable_of : Kernel → Base
+durable_of k = k.state
+
 -- the attempt is of this task, and its interval of reads is from the clock on
 pub record IsTried (set : TaskSet) (history : List Item) (clock task : ℕ) (a : Attempt MachineState) : Type 0 where
   pub task_is : a.task ≡ task

@@ -14,7 +14,9 @@ ghost use Rattle.set_model.specs.Numbers.{index_words};
 ghost use Rattle.set_model.specs.Views.{entry_if, task_of};
 ghost use Rattle.task_model.specs.TaskSteps.{address_of, given_words, refusal};
 ghost use Rattle.headline.specs.Run.{first_state as opened_state};
-ghost use Rattle.kernel_core.specs.Stands.{Stands, Leads, left_in};
+ghost use Rattle.std.specs.List.{AllByRecursion};
+ghost use Rattle.kernel_core.specs.Stands.{Stands, Leads, durable_of};
+ghost use Rattle.kernel_core.specs.Told.{IsTold};
 ghost use Rattle.kernel_core.specs.Kept.{IsKept, finishes};
 ghost use Rattle.kernel_core.specs.Arms.{Serves, Turns, attempt_left, entry_in, untold_in};
 
@@ -110,6 +112,7 @@ impl Kernel {
         requires few { finishes self.old < 1000000 }
         ensures kept { IsKept self.new }
         ensures leads { Leads self.old self.new result }
+        ensures told { IsTold result }
         ensures set { self.new.set ≡ self.old.set }
         ensures counted { finishes self.new ≤ finishes self.old + 1 }
     {
@@ -128,6 +131,7 @@ impl Kernel {
         requires idle { self.old.phase ≡ Phase.Idle }
         ensures kept { IsKept self.new }
         ensures turns { Turns self.old self.new result }
+        ensures told { IsTold result }
         ensures set { self.new.set ≡ self.old.set }
         ensures state { self.new.state ≡ self.old.state }
     {
@@ -169,6 +173,7 @@ impl Kernel {
         requires running { self.old.phase ≡ Phase.Running }
         ensures kept { IsKept self.new }
         ensures turns { Turns self.old self.new result }
+        ensures told { IsTold result }
         ensures set { self.new.set ≡ self.old.set }
         ensures state { self.new.state ≡ self.old.state }
     {
@@ -288,6 +293,7 @@ impl Kernel {
         requires copying { self.old.phase ≡ Phase.Copying object at copied }
         ensures kept { IsKept self.new }
         ensures turns { Turns self.old self.new result }
+        ensures told { IsTold result }
         ensures set { self.new.set ≡ self.old.set }
         ensures state { self.new.state ≡ self.old.state }
     {
@@ -311,6 +317,7 @@ impl Kernel {
         requires ready { self.old.phase ≡ Phase.Ready outcome }
         ensures kept { IsKept self.new }
         ensures turns { Turns self.old self.new result }
+        ensures told { IsTold result }
         ensures set { self.new.set ≡ self.old.set }
         ensures state { self.new.state ≡ self.old.state }
     {
@@ -384,6 +391,7 @@ impl Kernel {
         requires committing { self.old.phase ≡ Phase.Committing entry left }
         ensures kept { IsKept self.new }
         ensures turns { Turns self.old self.new result }
+        ensures told { IsTold result }
         ensures set { self.new.set ≡ self.old.set }
         ensures counted { finishes self.new ≤ finishes self.old + 1 }
     {
@@ -405,6 +413,7 @@ impl Kernel {
         requires last { self.old.phase ≡ Phase.Committing entry 1 }
         ensures kept { IsKept self.new }
         ensures turns { Turns self.old self.new result }
+        ensures told { IsTold result }
         ensures set { self.new.set ≡ self.old.set }
         ensures counted { finishes self.new ≤ finishes self.old + 1 }
     {
@@ -443,14 +452,14 @@ impl Kernel {
 
     /// The greatest point of what is durable.
     pub fn clock(&self) -> Point
-        ensures { (s : State MachineState) → Stands self.now s → result.0 ≡ (left_in self.now s).clock }
+        ensures { result.0 ≡ (durable_of self.now).clock }
     {
         Point(self.state.clock())
     }
 
     /// The number of the last finish that is durable.
     pub fn number(&self) -> Seq
-        ensures stands { (s : State MachineState) → Stands self.now s → result.0 ≡ (left_in self.now s).number }
+        ensures exact { result.0 ≡ (durable_of self.now).number }
         ensures count { result.0 ≡ finishes self.now }
     {
         Seq(self.state.number())
@@ -458,7 +467,7 @@ impl Kernel {
 
     /// The id above all that are durable.
     pub fn next(&self) -> TaskId
-        ensures { (s : State MachineState) → Stands self.now s → result.0 ≡ (left_in self.now s).next }
+        ensures { result.0 ≡ (durable_of self.now).next }
     {
         TaskId(self.state.next())
     }
@@ -467,7 +476,7 @@ impl Kernel {
     pub fn object(&self, o: ObjId) -> &[u32]
         requires kept { IsKept self.now }
         requires inside { o.0 < length self.now.set.objects }
-        ensures stands { (s : State MachineState) → Stands self.now s → result.now ≡ words_of (left_in self.now s).objects o.0 }
+        ensures exact { result.now ≡ words_of (durable_of self.now).objects o.0 }
         ensures size { length result.now ≡ (object_at self.now.set o.0).size }
     {
         self.state.object(o)
@@ -475,7 +484,8 @@ impl Kernel {
 
     /// The open tasks that are durable, by id.
     pub fn open_tasks(&self) -> &[TaskRec]
-        ensures { (s : State MachineState) → Stands self.now s → map task_of result.now ≡ (left_in self.now s).tasks }
+        ensures exact { map task_of result.now ≡ (durable_of self.now).tasks }
+        ensures programs { IsKept self.now → AllByRecursion (λ t. t.program < length self.now.set.programs) (map task_of result.now) }
     {
         self.state.open()
     }

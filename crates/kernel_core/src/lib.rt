@@ -3,6 +3,7 @@
 
 mod attempt;
 mod kernel;
+pub mod laws;
 mod objects;
 mod queue;
 mod spawns;

@@ -30,3 +30,11 @@ front_later o p q a b rest whole e f h =
 -- a count that rose at last rose in all
 pub rose_later : (a b c : ℕ) → a ≤ b → Rose b c → Rose a c
 rose_later a b c l h = (omega (arith, h.0), elim h.1 [ inl x ↦ inl (omega arith) | inr e ↦ inr e ])
+
+-- a front of a piece is a front of it and what follows
+pub front_here : (o q : Option (List ℕ)) (a rest : List ℕ) → PutFront o q a → PutFront o q (a ++ rest)
+front_here o q a rest h = (h.0, rw (length-append a rest) (omega (arith, h.1)), h.2 ∙ ap (grown o) (sym (take-append-le h.0 a rest h.1)))
+
+-- so is all of a piece and a front of the next
+pub front_next : (o p q : Option (List ℕ)) (a b : List ℕ) → p ≡ grown o a → PutFront p q b → PutFront o q (a ++ b)
+front_next o p q a b e h = (length a + h.0, rw (length-append a b) (omega (arith, h.1)), put_more o p q a (take h.0 b) e h.2 ∙ ap (grown o) (sym (take-append-add a b h.0)))

@@ -3,3 +3,4 @@ pub mod Replies
 pub mod Exits
 pub mod Answers
 pub mod Carried
+pub mod Runs

@@ -5,6 +5,8 @@ mod call;
 mod command;
 mod input;
 mod names;
+mod read_back;
+mod run;
 mod status;
 
 pub use call::simulate;

@@ -1,6 +1,6 @@
-use Rattle.std.proofs.Common.{ap, sym, ◌∙◌}
-use Rattle.kernel_core.proofs.Turning.{stands_left}
+use Rattle.std.proofs.Common.{◌<◌, length, subst, sym}
+use Rattle.std.specs.List.{AllByRecursion}
 use Rattle.kernel_core.proofs.kernel.Kernel.open_tasks.Goals as goal
 
-pub returns : goal.returns
-returns c = λ s h. c.«open».ensures ∙ ap (λ b. b.tasks) (sym (stands_left c.args.self.now s h))
+pub returns-clause-programs : goal.returns-clause-programs
+returns-clause-programs c = λ h. subst (AllByRecursion (λ t. t.program < length c.args.self.now.set.programs)) (sym c.«open».ensures) h.programs

@@ -1,6 +1,0 @@
-use Rattle.std.proofs.Common.{ap, sym, ◌∙◌}
-use Rattle.kernel_core.proofs.Turning.{stands_left}
-use Rattle.kernel_core.proofs.kernel.Kernel.next.Goals as goal
-
-pub returns : goal.returns
-returns c = λ s h. c.next.ensures ∙ ap (λ b. b.next) (sym (stands_left c.args.self.now s h))

@@ -1,0 +1,21 @@
+use Rattle.std.proofs.Common.{◌≡◌, ◌<◌, length, map, subst, sym, ap, ◌∙◌}
+use Rattle.std.specs.List.{AllByRecursion, flat_map}
+use Rattle.nv_base.specs.Streams.{PutFront, grown}
+use Rattle.set_model.specs.Views.{task_of}
+use Rattle.report_text.specs.Lines.{open_text}
+use Rattle.kernel_core.specs.Stands.{durable_of}
+use Rattle.sim_run.proofs.read_back.put_open.Goals as goal
+
+pub put_open_tasks-requires : goal.put_open_tasks-requires
+put_open_tasks-requires g c =
+    subst (λ s. AllByRecursion (λ t. t.program < length s.programs) (map task_of c.open_tasks.result.now)) (sym c.set.ensures) (c.open_tasks.ensures.programs c.requires)
+
+pub returns-in_default-clause-front : goal.returns-in_default-clause-front
+returns-in_default-clause-front g c =
+    subst (λ s. PutFront (g.K.Sink.taken c.args.out.now) (g.K.Sink.taken c.put_open_tasks.new.out) (flat_map (open_text s) (durable_of c.args.kernel.now).tasks)) c.set.ensures
+    (subst (λ ts. PutFront (g.K.Sink.taken c.args.out.now) (g.K.Sink.taken c.put_open_tasks.new.out) (flat_map (open_text c.set.result.now) ts)) c.open_tasks.ensures.exact c.in_default.ensures.front)
+
+pub returns-clause-all : goal.returns-clause-all
+returns-clause-all g c =
+    subst (λ s. g.K.Sink.taken c.put_open_tasks.new.out ≡ grown (g.K.Sink.taken c.args.out.now) (flat_map (open_text s) (durable_of c.args.kernel.now).tasks)) c.set.ensures
+    (subst (λ ts. g.K.Sink.taken c.put_open_tasks.new.out ≡ grown (g.K.Sink.taken c.args.out.now) (flat_map (open_text c.set.result.now) ts)) c.open_tasks.ensures.exact c.in-Ok.ensures.all)

@@ -1,0 +1,54 @@
+//! A run of a script: its events, one after another, and then what is read back.
+
+ghost use Rattle.std.specs.Prelude.{◌≡◌, ◌≤◌};
+ghost use Rattle.nv_base.specs.Streams.{Rose};
+ghost use Rattle.schedule_model.specs.Failures.{events_of};
+ghost use Rattle.schedule_model.specs.Parts.{failure_count};
+ghost use Rattle.sim_run.specs.Runs.{RunAnswers};
+
+use crate::read_back::{put_line, put_tail};
+use crate::status::Status;
+use kernel_core::Kernel;
+use kernel_core::laws::durable_is_left;
+use nv_base::Sink;
+use power_trace::Schedule;
+use report::LineBuf;
+use schedule_model::laws::events_are_within_limits;
+use std::alloc::Global;
+use task_set::TaskSet;
+
+/// Runs the events of a schedule of one core under continuous power, each with its line, and puts what is read back.
+/// All memory is taken before anything is put.
+pub(crate) fn run_events<K: Sink>(
+    alloc: Global,
+    set: TaskSet,
+    schedule: &Schedule,
+    out: &mut K,
+) -> Status
+    requires one_core { set.cores ≡ 1 }
+    requires same_cores { schedule.now.cores ≡ 1 }
+    requires powered { failure_count (events_of schedule.now) ≡ 0 }
+    ensures answers { RunAnswers set (events_of schedule.now) (Rose (K.faults out.old) (K.faults out.new)) (K.taken out.old) (K.taken out.new) result }
+    ensures never_falls { K.faults out.old ≤ K.faults out.new }
+{
+    // what the kernel keeps is what is durable, and events are few
+    durable_is_left();
+    events_are_within_limits();
+    let steps = schedule.len();
+    let Ok(mut text) = LineBuf::new(alloc) else {
+        return Status::NoMemory;
+    };
+    let Ok(mut kernel) = Kernel::open(alloc, set) else {
+        return Status::NoMemory;
+    };
+    for _ in 0..steps {
+        let line = kernel.turn();
+        let Ok(()) = put_line(out, &mut text, kernel.set(), &line) else {
+            return Status::WriteFault;
+        };
+    }
+    match put_tail(out, &mut text, &kernel) {
+        Ok(()) => Status::Done,
+        Err(_) => Status::WriteFault,
+    }
+}
