@@ -1,5 +1,5 @@
 -- What is left of a run from here is what was left of it at first.
-use Rattle.std.proofs.Common.{◌≡◌, ℕ, zero, suc, ◌+◌, ◌-◌, ◌<◌, ◌≤◌, List, [], length, map, cond, Some, None, sym, ap, subst, ◌∙◌, arith}
+use Rattle.std.proofs.Common.{◌≡◌, ℕ, suc, ◌+◌, ◌-◌, ◌≤◌, List, [], length, map, cond, Some, None, sym, ap, subst, ◌∙◌, arith}
 use Rattle.std.proofs.lemmas.Bool.{le-leb}
 use Rattle.object_sets.specs.ObjectSets.{IsIncreasing}
 use Rattle.nv_base.specs.declared.causes.TrapCause.TheVariants as cause
@@ -8,9 +8,9 @@ use Rattle.nv_base.specs.declared.lines.Outcome.TheVariants as outcome
 use Rattle.rv_core.specs.State.{MachineState, Traps}
 use Rattle.rv_core.specs.Stepping.{fetched}
 use Rattle.rv_core.specs.Machine.{step_of, first_state}
-use Rattle.kernel_model.specs.Effects.{Effects, Objects, Run, ended, no_effects, words_of}
+use Rattle.kernel_model.specs.Effects.{Effects, Objects, Run, ended, no_effects}
 use Rattle.kernel_model.specs.Runs.{run_from, whole_run}
-use Rattle.set_model.specs.Sets.{TaskSet, object_at, program_at}
+use Rattle.set_model.specs.Sets.{TaskSet, program_at}
 use Rattle.set_model.specs.Views.{outcome_of, spawn_of}
 use Rattle.task_model.specs.TaskSteps.{served, task_steps}
 use Rattle.task_model.specs.Shape.{AreAlike, HasShape}

@@ -1,5 +1,7 @@
 //! Whole runs of small programs, with what they come to worked out by hand.
 
+ghost use Rattle.std.specs.Prelude.{◌<◌};
+
 use super::*;
 use nv_base::{NoMemory, ObjId, Outcome, ProgId, Set64, Spawn, TrapCause};
 use rv_core::Machine;
@@ -71,10 +73,10 @@ const ENDS: [u32; 2] = [0x00400893, 0x00000073];
 // jumps to itself
 const WAITS: [u32; 1] = [0x0000006f];
 
-fn object(rt: &HostRuntime, name: &[u8], words: &[u32]) -> Result<ObjPart, NoMemory> {
+fn object(rt: &HostRuntime, name: &[u8], size: u8, words: &[u32]) -> Result<ObjPart, NoMemory> {
     Ok(ObjPart {
         name: Name::from_slice(rt.alloc(), name)?,
-        size: words.len() as u8,
+        size,
         slots: 2,
         first: Words::from_slice(rt.alloc(), words)?,
     })
@@ -91,8 +93,8 @@ fn program(rt: &HostRuntime, name: &[u8], fuel: u32, code: &[u32]) -> Result<Pro
 // Two objects, x of one word and y of two, a program 0 that waits, and some code as program 1.
 fn parts(rt: &HostRuntime, code: &[u32], fuel: u32) -> Result<SetParts, NoMemory> {
     let mut objects = ObjectParts::new(rt.alloc());
-    objects.push(object(rt, b"x", &[5])?)?;
-    objects.push(object(rt, b"y", &[6, 7])?)?;
+    objects.push(object(rt, b"x", 1, &[5])?)?;
+    objects.push(object(rt, b"y", 2, &[6, 7])?)?;
     let mut programs = ProgramParts::new(rt.alloc());
     programs.push(program(rt, b"waits", 100, &WAITS)?)?;
     programs.push(program(rt, b"tested", fuel, code)?)?;
@@ -121,11 +123,11 @@ fn has_words(objects: &Objects, x: u32, y: [u32; 2]) -> bool {
     objects.len() == 2 && objects.get(0) == [x].as_slice() && objects.get(1) == y.as_slice()
 }
 
-fn only(object: u8) -> Set64
-    requires { object < 64 }
+fn only(object: ObjId) -> Set64
+    requires { object.0 < 64 }
 {
     let mut set = Set64::empty();
-    set.add(ObjId(object));
+    set.add(object);
     set
 }
 
@@ -133,8 +135,8 @@ fn only(object: u8) -> Set64
 fn a_task_reads_adds_and_writes(rt: HostRuntime) -> Result<(), Fail> {
     let whole = run(&rt, &ADDS, 100)?;
     assert!(rt; whole.outcome == Outcome::Exit(0));
-    assert!(rt; whole.reads == only(0));
-    assert!(rt; whole.written == only(0));
+    assert!(rt; whole.reads == only(ObjId(0)));
+    assert!(rt; whole.written == only(ObjId(0)));
     assert!(rt; has_words(&whole.values, 12, [6, 7]));
     assert_eq!(rt; whole.spawns.len(), 0);
     Ok(())
@@ -144,13 +146,13 @@ fn a_task_reads_adds_and_writes(rt: HostRuntime) -> Result<(), Fail> {
 fn a_task_reads_one_object_and_writes_the_other(rt: HostRuntime) -> Result<(), Fail> {
     let whole = run(&rt, &SUMS, 100)?;
     assert!(rt; whole.outcome == Outcome::Exit(0));
-    assert!(rt; whole.reads == only(1));
-    assert!(rt; whole.written == only(0));
+    assert!(rt; whole.reads == only(ObjId(1)));
+    assert!(rt; whole.written == only(ObjId(0)));
     assert!(rt; has_words(&whole.values, 13, [6, 7]));
     let whole = run(&rt, &SPREADS, 100)?;
     assert!(rt; whole.outcome == Outcome::Exit(1));
-    assert!(rt; whole.reads == only(0));
-    assert!(rt; whole.written == only(1));
+    assert!(rt; whole.reads == only(ObjId(0)));
+    assert!(rt; whole.written == only(ObjId(1)));
     assert!(rt; has_words(&whole.values, 5, [12, 7]));
     Ok(())
 }
@@ -160,7 +162,7 @@ fn a_task_sees_its_own_write_and_leaves_the_last(rt: HostRuntime) -> Result<(), 
     let whole = run(&rt, &WRITES_TWICE, 100)?;
     assert!(rt; whole.outcome == Outcome::Exit(0));
     assert!(rt; whole.reads == Set64::empty());
-    assert!(rt; whole.written == only(0));
+    assert!(rt; whole.written == only(ObjId(0)));
     assert!(rt; has_words(&whole.values, 14, [6, 7]));
     Ok(())
 }
@@ -169,7 +171,7 @@ fn a_task_sees_its_own_write_and_leaves_the_last(rt: HostRuntime) -> Result<(), 
 fn a_trap_leaves_the_objects_as_they_were(rt: HostRuntime) -> Result<(), Fail> {
     let whole = run(&rt, &BREAKS, 100)?;
     assert!(rt; whole.outcome == Outcome::Trap(TrapCause::Break));
-    assert!(rt; whole.reads == only(0));
+    assert!(rt; whole.reads == only(ObjId(0)));
     assert!(rt; whole.written == Set64::empty());
     assert!(rt; has_words(&whole.values, 5, [6, 7]));
     let whole = run(&rt, &CLEARS, 100)?;
@@ -187,7 +189,7 @@ fn a_read_is_tested(rt: HostRuntime) -> Result<(), Fail> {
     assert!(rt; whole.reads == Set64::empty());
     let whole = run(&rt, &OVERRUNS, 100)?;
     assert!(rt; whole.outcome == Outcome::Trap(TrapCause::CallRange));
-    assert!(rt; whole.reads == only(0));
+    assert!(rt; whole.reads == only(ObjId(0)));
     Ok(())
 }
 

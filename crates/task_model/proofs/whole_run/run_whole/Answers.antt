@@ -1,4 +1,4 @@
-use Rattle.std.proofs.Common.{◌≡◌, ◌+◌, ◌-◌, ap, sym, ◌∙◌, length, arith}
+use Rattle.std.proofs.Common.{◌+◌, ◌-◌, ap, sym, ◌∙◌, length, arith}
 use Rattle.kernel_model.specs.Runs.{whole_run}
 use Rattle.task_model.specs.TaskSteps.{task_steps}
 use Rattle.task_model.proofs.Rests.{begins, ends, goes, keeps_shape, keeps_shape_at_end, same_first, spent}
