@@ -14,13 +14,13 @@ use Rattle.task_model.proofs.WriteFacts.{put_from-none}
 
 -- a trap: the writes and the spawns are dropped, and the reads stay
 pub stopped : (set : TaskSet) (objects : Objects) (e : Effects) (p : Progress) (w : Whole) (o : Outcome) (cause : TrapCause) → Stands set objects e p
-    → o ≡ outcome.Trap cause → w.outcome ≡ o → w.reads ≡ p.reads → w.written ≡ [] → w.values ≡ p.first → w.spawns ≡ []
+    → o ≡ outcome.Trap cause → w.outcome ≡ o → w.reads ≡ p.reads → w.written ≡ [] → w.values ≡ objects → w.spawns ≡ []
     → IsWholeRun w (ended e (outcome_of o)) objects
 stopped set objects e p w o cause h is same r v f s =
     subst (λ x. IsWholeRun w (ended e (outcome_of x)) objects) (sym is) (record {
       outcome = ap outcome_of (same ∙ is);
       reads = r ∙ h.reads;
       written = v;
-      values = f ∙ h.first ∙ sym (put_from-none 0 objects);
+      values = f ∙ sym (put_from-none 0 objects);
       spawns = ap (map spawn_of) s;
     })

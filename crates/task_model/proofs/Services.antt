@@ -17,7 +17,8 @@ use Rattle.kernel_model.specs.Runs.{Ends, Reads, Spawns, Writes, run_from, max_s
 use Rattle.set_model.specs.Sets.{TaskSet, object_at}
 use Rattle.set_model.specs.Views.{spawn_of, trap_of}
 use Rattle.task_model.specs.TaskSteps.{address_of, given_index, given_words, past, refusal, served, task_steps, unless}
-use Rattle.task_model.specs.Progress.{HasShape, Stands, Turns}
+use Rattle.task_model.specs.Shape.{HasShape}
+use Rattle.task_model.specs.Progress.{Stands, Turns}
 use Rattle.task_model.specs.declared.progress.Progress.{Progress}
 use Rattle.task_model.proofs.WriteFacts.{length-put_from, objects_in, objects_in-with_write, put-with_write, reads_after-is, seen}
 use Rattle.task_model.proofs.Shapes.{shape-set}
@@ -67,7 +68,7 @@ reads programs p s m o at r t l a g = λ set objects e k h.
     a ∙ ap (λ w. cond (is_among o w) p.reads (with_object o p.reads)) h.written ∙ ap (λ x. cond (is_among o (objects_in e.writes)) x (with_object o x)) h.reads
     ∙ sym (reads_after-is e.writes o e.reads) in (
       f,
-      record { first = h.first; values = h.values; shape = h.shape; reads = now; written = h.written; increasing = h.increasing; spawns = h.spawns },
+      record { values = h.values; shape = h.shape; reads = now; written = h.written; increasing = h.increasing; spawns = h.spawns },
       λ n. ap (λ x. run_from (task_steps set) objects (suc n) e (unless x (Reads s o))) (sym (t set h.shape)) ∙ ap (λ x. run_from (task_steps set) objects n f (served set (step_of x))) (sym there),
     )
 
@@ -87,7 +88,6 @@ writes programs p s m o at v w t l a b i g size = λ all objects e k h.
     let holds : v ≡ put f.writes objects = same ∙ ap (λ x. set x o write.words) h.values ∙ sym (put-with_write write e.writes objects) in (
       f,
       record {
-        first = h.first;
         values = holds;
         shape = subst (HasShape all) (sym same) (shape-set all p.values o write.words h.shape (ap (λ n. length (words_at s.memory at n)) (sym fits) ∙ size ∙ fits));
         reads = h.reads;
@@ -133,7 +133,7 @@ spawns programs p s m program arg x spawn l room same a g = λ set objects e k h
     ap (map spawn_of) a ∙ map-append spawn_of p.spawns (spawn ∷ []) ∙ ap (λ ys. ys ++ spawn_of spawn ∷ []) h.spawns ∙ ap (λ y. e.spawns ++ y ∷ []) same in
     let there : m ≡ given_index s (length e.spawns) = g ∙ ap (given_index s) many in (
       f,
-      record { first = h.first; values = h.values; shape = h.shape; reads = h.reads; written = h.written; increasing = h.increasing; spawns = now },
+      record { values = h.values; shape = h.shape; reads = h.reads; written = h.written; increasing = h.increasing; spawns = now },
       λ n. ap (asked set objects e n s wanted) (lt-ltb program (length set.programs) (omega (arith, l, k)))
           ∙ ap (counted set objects e n s wanted) (lt-ltb (length e.spawns) max_spawns (omega (arith, room, many)))
           ∙ ap (λ y. run_from (task_steps set) objects n f (served set (step_of y))) (sym there),

@@ -1,5 +1,5 @@
 pub mod TaskSteps
-pub mod OneProgram
+pub mod Shape
 pub mod Progress
 pub mod WholeRun
 pub mod WorkedRuns

@@ -1,24 +1,19 @@
 -- How the code's progress stands for what a run of the model has done. This project's own.
-use Rattle.std.specs.Prelude.{◌≡◌, ℕ, suc, ◌<◌, length, map, Option, Some, None}
+use Rattle.std.specs.Prelude.{◌≡◌, ℕ, suc, length, map, Option, Some, None}
 use Rattle.object_sets.specs.ObjectSets.{IsIncreasing}
 use Rattle.rv_core.specs.State.{MachineState, StepResult}
 use Rattle.rv_core.specs.Machine.{step_of}
 use Rattle.nv_base.specs.declared.lines.Outcome.{Outcome}
-use Rattle.kernel_model.specs.Effects.{Effects, Objects, ended, put, words_of}
+use Rattle.kernel_model.specs.Effects.{Effects, Objects, ended, put}
 use Rattle.kernel_model.specs.Runs.{Step, run_from}
-use Rattle.set_model.specs.Sets.{TaskSet, object_at}
+use Rattle.set_model.specs.Sets.{TaskSet}
 use Rattle.set_model.specs.Views.{outcome_of, spawn_of}
 use Rattle.task_model.specs.TaskSteps.{served, task_steps}
+use Rattle.task_model.specs.Shape.{HasShape}
 use Rattle.task_model.specs.declared.progress.Progress.{Progress}
-
--- as many objects as the set has, each of its size
-pub record HasShape (set : TaskSet) (objects : Objects) : Type 0 where
-  pub number : length objects ≡ length set.objects
-  pub sizes : (o : ℕ) → o < length objects → length (words_of objects o) ≡ (object_at set o).size
 
 -- the code's progress, from these objects, is what the run has done
 pub record Stands (set : TaskSet) (objects : Objects) (e : Effects) (p : Progress) : Type 0 where
-  pub first : p.first ≡ objects
   pub values : p.values ≡ put e.writes objects
   pub shape : HasShape set p.values
   pub reads : p.reads ≡ e.reads

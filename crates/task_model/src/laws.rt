@@ -10,7 +10,7 @@ ghost use Rattle.set_model.specs.Limits.{IsTaskSet};
 ghost use Rattle.set_model.specs.Numbers.{sizes_of};
 ghost use Rattle.set_model.specs.Formatted.{formatted};
 ghost use Rattle.task_model.specs.TaskSteps.{address_of, task_steps};
-ghost use Rattle.task_model.specs.WorkedRuns.{AddsToObject, TrapsAfterWrite};
+ghost use Rattle.task_model.specs.WorkedRuns.{AddsToObject, AsksForAnother, SpawnsOn, SpawnsTwo, SumsUp, TrapsAfterWrite};
 
 use set_model::laws::{formatted_state_is_fit, numbers_are_fit};
 
@@ -33,8 +33,12 @@ pub fn read_names_address()
     ensures { (m s : MachineState) (o at : ℕ) → step_of m ≡ Calls s (Read o at) → at ≡ address_of s }
 {}
 
-/// A worked run: a task reads a word, adds its argument and writes the sum. Where it traps behind that, it has not written.
+/// Worked runs: tasks that read, add and write, from one object to another too, and that spawn. Where one traps, it has written and spawned nothing.
 pub fn worked()
     ensures adds { AddsToObject }
     ensures traps { TrapsAfterWrite }
+    ensures moves { SumsUp }
+    ensures spawns { SpawnsTwo }
+    ensures asks { AsksForAnother }
+    ensures forks { SpawnsOn }
 {}

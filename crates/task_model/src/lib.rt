@@ -7,7 +7,7 @@ mod progress;
 mod spawns;
 mod whole_run;
 
-pub use objects::Objects;
+pub use objects::{Objects, first_objects};
 pub use spawns::Spawns;
 pub use whole_run::{Whole, run_whole};
 

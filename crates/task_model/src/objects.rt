@@ -3,11 +3,15 @@
 ghost use Rattle.std.specs.Prelude.{◌≡◌, ◌<◌, ◌≤◌, ◌++◌, ◌∷◌, [], IfOk, MatchResult, length, slice_set};
 ghost use Rattle.rv_core.specs.Machine.{words_at, IsPlace};
 ghost use Rattle.kernel_model.specs.Effects.{words_of};
+ghost use Rattle.set_model.specs.Formatted.{formatted};
+ghost use Rattle.task_model.specs.Shape.{AreAlike, HasShape};
 
-use nv_base::NoMemory;
+use nv_base::{NoMemory, ObjId};
 use rv_core::Machine;
+use set_model::laws::formatted_state_is_fit;
 use std::alloc::Global;
 use std::marker::Model;
+use task_set::TaskSet;
 
 /// The words of one object, at most 64, which contracts see as their list.
 #[derive(Drop)]
@@ -48,6 +52,13 @@ impl Words {
         ensures { self.new ≡ words_at machine.now.memory at (length self.old) }
     {
         machine.copy_out(at, self.items.as_mut_slice());
+    }
+
+    fn take(&mut self, words: &[u32])
+        requires { length self.old ≡ length words.now }
+        ensures { self.new ≡ words.now }
+    {
+        self.items.as_mut_slice().copy_from_slice(words);
     }
 }
 
@@ -125,4 +136,27 @@ impl Objects {
     {
         self.items[object].take_from(machine, at);
     }
+
+    /// Takes the words of other objects, as many of each.
+    pub(crate) fn restore(&mut self, others: &Objects)
+        requires { AreAlike self.old others.now }
+        ensures { self.new ≡ others.now }
+    {
+        for object in 0..others.items.len() {
+            self.items[object].take(others.items[object].as_slice());
+        }
+    }
+}
+
+/// The objects that a format leaves: the first words of each object of the set.
+pub fn first_objects(alloc: Global, set: &TaskSet) -> Result<Objects, NoMemory>
+    ensures exact { IfOk result (λ o. o ≡ (formatted set.now).objects) }
+    ensures shape { IfOk result (λ o. HasShape set.now o) }
+{
+    let mut objects = Objects::new(alloc);
+    for object in 0..set.objects() {
+        objects.push(alloc, set.first(ObjId(object)))?;
+    }
+    formatted_state_is_fit();
+    Ok(objects)
 }

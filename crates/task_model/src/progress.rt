@@ -8,7 +8,8 @@ ghost use Rattle.rv_core.specs.declared.services.Service.TheVariants.{Read, Writ
 ghost use Rattle.kernel_model.specs.Effects.{words_of};
 ghost use Rattle.set_model.specs.Sets.{TaskSet};
 ghost use Rattle.task_model.specs.TaskSteps.{address_of, refusal};
-ghost use Rattle.task_model.specs.Progress.{HasShape, Turns};
+ghost use Rattle.task_model.specs.Shape.{HasShape};
+ghost use Rattle.task_model.specs.Progress.{Turns};
 
 use crate::objects::Objects;
 use crate::spawns::{MAX_SPAWNS, Spawns};
@@ -19,9 +20,6 @@ use std::alloc::Global;
 /// How far a run has come, with all the room that it will need.
 #[derive(Drop)]
 pub(crate) struct Progress {
-    // the objects as they were, for a trap
-    pub(crate) first: Objects,
-
     // the objects as the task sees them
     pub(crate) values: Objects,
     pub(crate) reads: Set64,
@@ -45,10 +43,9 @@ fn give_words(machine: &mut Machine, at: u32, words: &[u32])
 impl Progress {
     /// Nothing is done yet. All room is taken here.
     pub(crate) fn begin(alloc: Global, objects: &Objects) -> Result<Progress, NoMemory>
-        ensures { IfOk result (λ p. (p.first ≡ objects.now) × (p.values ≡ objects.now) × (p.reads ≡ []) × (p.written ≡ []) × (p.spawns ≡ [])) }
+        ensures { IfOk result (λ p. (p.values ≡ objects.now) × (p.reads ≡ []) × (p.written ≡ []) × (p.spawns ≡ [])) }
     {
         Ok(Progress {
-            first: objects.copy(alloc)?,
             values: objects.copy(alloc)?,
             reads: Set64::empty(),
             written: Set64::empty(),

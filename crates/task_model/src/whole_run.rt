@@ -1,21 +1,22 @@
 //! A task from its first state to its end.
 
-ghost use Rattle.std.specs.Prelude.{◌≡◌, ◌*◌, ◌≤◌, IfOk, List, ℕ, length};
-ghost use Rattle.kernel_model.specs.Effects.{Effects, ended, words_of};
+ghost use Rattle.std.specs.Prelude.{◌≡◌, ◌<◌, IfOk, length};
+ghost use Rattle.kernel_model.specs.Effects.{Effects, ended};
 ghost use Rattle.kernel_model.specs.Runs.{whole_run};
-ghost use Rattle.set_model.specs.Sets.{TaskSet};
+ghost use Rattle.set_model.specs.Sets.{TaskSet as Parts};
 ghost use Rattle.set_model.specs.Views.{outcome_of};
 ghost use Rattle.task_model.specs.TaskSteps.{task_steps};
-ghost use Rattle.task_model.specs.OneProgram.{one_program};
+ghost use Rattle.task_model.specs.Shape.{AreAlike, HasShape};
 ghost use Rattle.task_model.specs.Progress.{Stands};
 ghost use Rattle.task_model.specs.WholeRun.{IsWholeRun};
 
 use crate::objects::Objects;
 use crate::progress::Progress;
 use crate::spawns::Spawns;
-use nv_base::{NoMemory, Outcome, Set64, TrapCause};
+use nv_base::{NoMemory, Outcome, ProgId, Set64, TrapCause};
 use rv_core::Machine;
 use std::alloc::Global;
+use task_set::TaskSet;
 
 /// What the whole run of a task comes to.
 #[derive(Drop)]
@@ -32,13 +33,14 @@ pub struct Whole {
     pub spawns: Spawns,
 }
 
-/// A trap leaves no writes and no spawns, but its reads stay.
-fn whole_of(progress: Progress, outcome: Outcome) -> Whole
-    ensures { (set : TaskSet) (objects : List (List ℕ)) (e : Effects) → Stands set objects e progress → IsWholeRun result (ended e (outcome_of outcome)) objects }
+/// A trap leaves no writes and no spawns, but its reads stay. The run was on these objects.
+fn whole_of(progress: Progress, outcome: Outcome, objects: &Objects) -> Whole
+    requires { AreAlike progress.values objects.now }
+    ensures alike { AreAlike result.values objects.now }
+    ensures exact { (set : Parts) (e : Effects) → Stands set objects.now e progress → IsWholeRun result (ended e (outcome_of outcome)) objects.now }
 {
     let Progress {
-        first,
-        values,
+        mut values,
         reads,
         written,
         mut spawns,
@@ -52,41 +54,44 @@ fn whole_of(progress: Progress, outcome: Outcome) -> Whole
             spawns,
         },
         Outcome::Trap(_) => {
+            values.restore(objects);
             spawns.clear();
             Whole {
                 outcome,
                 reads,
                 written: Set64::empty(),
-                values: first,
+                values,
                 spawns,
             }
         }
     }
 }
 
-/// Runs the task of one program from its first state to its end, on one object of `size` words that nobody else
-/// changes. All memory is taken before the first step: `NoMemory` where there is too little.
+/// Runs the task of a program of the set from its first state to its end, on objects that nobody else changes. All
+/// memory is taken before the first step: `NoMemory` where there is too little.
 pub fn run_whole(
     alloc: Global,
     machine: &mut Machine,
-    code: &[u32],
-    fuel: u32,
-    size: u8,
+    set: &TaskSet,
+    program: ProgId,
     arg: u32,
     objects: &Objects,
 ) -> Result<Whole, NoMemory>
-    requires code { 4 * length code.now ≤ length machine.old.memory }
-    requires number { length objects.now ≡ 1 }
-    requires words { length (words_of objects.now 0) ≡ size }
-    ensures exact { IfOk result (λ w. IsWholeRun w (whole_run (task_steps (one_program code.now fuel size (length machine.old.memory))) 0 arg objects.now) objects.now) }
-    ensures room { length machine.new.memory ≡ length machine.old.memory }
+    requires memory { length machine.old.memory ≡ set.now.memory }
+    requires program { program.0 < length set.now.programs }
+    requires shape { HasShape set.now objects.now }
+    ensures exact { IfOk result (λ w. IsWholeRun w (whole_run (task_steps set.now) program.0 arg objects.now) objects.now) }
+    ensures shape { IfOk result (λ w. HasShape set.now w.values) }
+    ensures room { length machine.new.memory ≡ set.now.memory }
 {
     let mut progress = Progress::begin(alloc, objects)?;
-    machine.load(code, arg, fuel);
+    let fuel = set.fuel(program);
+    let programs = set.programs();
+    machine.load(set.code(program), arg, fuel);
     for _ in 0..fuel {
-        if let Some(outcome) = progress.turn(machine, 1) {
-            return Ok(whole_of(progress, outcome));
+        if let Some(outcome) = progress.turn(machine, programs) {
+            return Ok(whole_of(progress, outcome, objects));
         }
     }
-    Ok(whole_of(progress, Outcome::Trap(TrapCause::Fuel)))
+    Ok(whole_of(progress, Outcome::Trap(TrapCause::Fuel), objects))
 }

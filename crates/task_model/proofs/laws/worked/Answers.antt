@@ -10,3 +10,19 @@ returns-clause-adds c = refl
 pub returns-clause-traps : goal.returns-clause-traps
 unfolding executed instruction_of
 returns-clause-traps c = refl
+
+pub returns-clause-moves : goal.returns-clause-moves
+unfolding executed instruction_of
+returns-clause-moves c = refl
+
+pub returns-clause-spawns : goal.returns-clause-spawns
+unfolding executed instruction_of
+returns-clause-spawns c = refl
+
+pub returns-clause-asks : goal.returns-clause-asks
+unfolding executed instruction_of
+returns-clause-asks c = refl
+
+pub returns-clause-forks : goal.returns-clause-forks
+unfolding executed instruction_of
+returns-clause-forks c = refl
