@@ -29,18 +29,22 @@ use rv_core::{Machine, Service, Step};
 use std::alloc::Global;
 use task_set::TaskSet;
 
-/// What the core does.
-#[derive(Clone, Copy, Debug)]
-pub enum Phase {
-    /// It has no task.
+// What the core does.
+#[derive(Clone, Copy)]
+enum Phase {
+    // It has no task.
     Idle,
-    /// It runs an attempt of its task.
+
+    // It runs an attempt of its task.
     Running,
-    /// The words of this object come next, to this address. So many are copied.
+
+    // The words of this object come next, to this address. So many are copied.
     Copying { object: ObjId, at: u32, copied: u8 },
-    /// The attempt has ended so, and asks for its finish.
+
+    // The attempt has ended so, and asks for its finish.
     Ready(Outcome),
-    /// This finish commits, and so many writes are left.
+
+    // This finish commits, and so many writes are left.
     Committing(Entry, u32),
 }
 
