@@ -103,6 +103,7 @@ fn lines(rt: &HostRuntime, kernel: &mut Kernel, turns: u32) -> Result<Vec<Line>,
 }
 
 // A run from the formatted state, and what it comes to.
+#[derive(Clone, Copy)]
 struct Row<'a> {
     records: u16,
     code: &'a [u32],

@@ -1,4 +1,4 @@
-use Rattle.std.proofs.Common.{◌≡◌, ap, ◌∙◌, arith}
+use Rattle.std.proofs.Common.{ap, ◌∙◌, arith}
 use Rattle.task_model.specs.TaskSteps.{given_words}
 use Rattle.kernel_core.proofs.Placing.{reads_copy, reads_outside, reads_own, traps_read}
 use Rattle.kernel_core.proofs.kernel.Kernel.read_object.Goals as goal
