@@ -153,7 +153,9 @@ fn ends_so(kernel: &Kernel, row: &Row) -> bool
 }
 
 // Whether the open tasks have these ids.
-fn has_open(kernel: &Kernel, ids: &[TaskId]) -> bool {
+fn has_open(kernel: &Kernel, ids: &[TaskId]) -> bool
+    requires { IsKept kernel.now }
+{
     let tasks = kernel.open_tasks();
     tasks.len() == ids.len() && tasks.iter().zip(ids.iter()).all(|(t, id)| t.id == *id)
 }

@@ -1,6 +1,11 @@
-use Rattle.std.proofs.Common.{ap, sym, ◌∙◌}
+use Rattle.std.proofs.Common.{◌<◌, length, ap, subst, sym, ◌∙◌}
+use Rattle.std.specs.List.{AllByRecursion}
+use Rattle.kernel_core.proofs.Tasks.{all-tasks}
 use Rattle.kernel_core.proofs.Turning.{stands_left}
 use Rattle.kernel_core.proofs.kernel.Kernel.open_tasks.Goals as goal
 
-pub returns : goal.returns
-returns c = λ s h. c.«open».ensures ∙ ap (λ b. b.tasks) (sym (stands_left c.args.self.now s h))
+pub returns-clause-stands : goal.returns-clause-stands
+returns-clause-stands c = λ s h. c.«open».ensures ∙ ap (λ b. b.tasks) (sym (stands_left c.args.self.now s h))
+
+pub returns-clause-programs : goal.returns-clause-programs
+returns-clause-programs c = all-tasks (length c.args.self.now.set.programs) c.«open».result.now (subst (AllByRecursion (λ t. t.program < length c.args.self.now.set.programs)) (sym c.«open».ensures) c.requires.programs)
