@@ -1,5 +1,5 @@
 -- What the services make of a running attempt.
-use Rattle.std.proofs.Common.{◌≡◌, ℕ, suc, ◌+◌, ◌<◌, ◌≤◌, Bool, true, false, cond, ltb, eqb, ◌||◌, List, [], ◌∷◌, ◌++◌, length, map, set, Some, None, Option, refl, sym, ap, subst, ◌∙◌, arith}
+use Rattle.std.proofs.Common.{◌≡◌, ℕ, ◌<◌, ◌≤◌, Bool, true, false, cond, eqb, ◌||◌, List, [], ◌∷◌, ◌++◌, length, set, Some, None, Option, refl, sym, ap, ◌∙◌, arith}
 use Rattle.std.specs.Prelude.{is_some, unwrap_or}
 use Rattle.std.specs.List.{AllByRecursion}
 use Rattle.std.proofs.lemmas.Bool.{lt-ltb, le-ltb, eqb-true}
@@ -15,21 +15,20 @@ use Rattle.nv_base.specs.declared.causes.TrapCause.TheVariants as cause
 use Rattle.nv_base.specs.declared.lines.Outcome.TheVariants as outcome
 use Rattle.nv_base.specs.declared.lines.Spawn as base_spawn
 use Rattle.nv_base.specs.declared.names.ObjId.{ObjId}
-use Rattle.kernel_model.specs.Effects.{Objects, Trap, Write, with_write, words_of, written}
+use Rattle.kernel_model.specs.Effects.{Trap, Write, with_write, words_of, written}
 use Rattle.kernel_model.specs.Runs.{Ends, Reads, Spawns, Step, Writes, spawns_cause}
-use Rattle.kernel_model.specs.Items.{Item}
 use Rattle.kernel_model.specs.Replay.{Base, after_history, clock_of, tables_of}
-use Rattle.kernel_model.specs.Versions.{Read, Version, chosen, read_words, versions}
+use Rattle.kernel_model.specs.Versions.{Read, chosen, read_words, versions}
 use Rattle.kernel_model.specs.Intervals.{Interval, is_empty}
 use Rattle.kernel_model.specs.Cores.{Attempt, Idle, Ready, Running}
 use Rattle.kernel_model.specs.Turns.{Turn, fetch_turn, open_read, quiet, read_of, read_turn, run_turn}
 use Rattle.kernel_model.specs.Turns as model
-use Rattle.set_model.specs.Sets.{TaskSet, object_at}
+use Rattle.set_model.specs.Sets.{object_at}
 use Rattle.set_model.specs.Formatted.{formatted}
 use Rattle.set_model.specs.Views.{spawn_of, trap_of}
-use Rattle.task_model.specs.TaskSteps.{given_index, given_words, past, read_step, refusal, served, spawn_step, task_steps, unless, write_step}
-use Rattle.kernel_core.specs.Stands.{Fits, HasDone, Hidden, IsNewest, IsTried, state_in}
-use Rattle.kernel_core.specs.Arms.{Serves, Serviced, attempt_left}
+use Rattle.task_model.specs.TaskSteps.{given_index, given_words, past, refusal, served, task_steps, unless}
+use Rattle.kernel_core.specs.Stands.{Hidden}
+use Rattle.kernel_core.specs.Arms.{Serves, attempt_left}
 use Rattle.kernel_core.specs.declared.kernel.Kernel.{Kernel}
 use Rattle.kernel_core.specs.declared.kernel.Phase.TheVariants as phase
 use Rattle.kernel_core.proofs.Tables.{not_written, words_written, written_more}

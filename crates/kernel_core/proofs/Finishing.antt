@@ -1,5 +1,5 @@
 -- What one turn of the kernel is in the event machine, from the verdict to the end of the commit.
-use Rattle.std.proofs.Common.{◌≡◌, ℕ, suc, ◌+◌, ◌-◌, ◌<◌, ◌≤◌, max, Bool, true, false, cond, leb, List, [], ◌∷◌, ◌++◌, length, map, Some, None, Option, refl, sym, ap, subst, ◌∙◌, arith}
+use Rattle.std.proofs.Common.{◌≡◌, ℕ, suc, ◌+◌, ◌-◌, ◌<◌, ◌≤◌, max, Bool, true, false, cond, leb, List, [], ◌∷◌, ◌++◌, length, map, None, Option, refl, sym, ap, subst, ◌∙◌, arith}
 use Rattle.std.specs.Prelude.{sum_by, unwrap_or}
 use Rattle.std.specs.List.{AllByRecursion}
 use Rattle.std.proofs.lemmas.Bool.{le-leb, lt-leb}
@@ -31,8 +31,8 @@ use Rattle.set_model.specs.Numbers.{index_words, sizes_of}
 use Rattle.set_model.specs.Formatted.{formatted}
 use Rattle.set_model.specs.Views.{entry_of, outcome_of, spawn_of}
 use Rattle.kernel_core.specs.Shapes.{AreWritten, state_after}
-use Rattle.kernel_core.specs.Stands.{Fits, Hidden, IsTried, Leaves, state_in}
-use Rattle.kernel_core.specs.Arms.{Next, Turns, entry_in, point_in}
+use Rattle.kernel_core.specs.Stands.{Fits, Hidden, Leaves, state_in}
+use Rattle.kernel_core.specs.Arms.{Turns, entry_in, point_in}
 use Rattle.kernel_core.specs.declared.kernel.Kernel.{Kernel}
 use Rattle.kernel_core.specs.declared.kernel.Phase.TheVariants as phase
 use Rattle.kernel_core.proofs.Counts.{sum_by-objects}

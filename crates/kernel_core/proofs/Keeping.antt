@@ -1,5 +1,5 @@
 -- What a kernel keeps of its own memory, turn by turn.
-use Rattle.std.proofs.Common.{◌≡◌, ℕ, zero, suc, Bool, true, false, cond, eqb, not, Option, Some, None, unwrap_or, ◌+◌, ◌-◌, ◌*◌, ◌<◌, ◌≤◌, List, [], ◌∷◌, ◌++◌, length, map, set, refl, sym, ap, subst, ◌∙◌, arith, length-append}
+use Rattle.std.proofs.Common.{◌≡◌, ℕ, zero, suc, Bool, true, false, cond, eqb, not, Option, Some, None, unwrap_or, ◌+◌, ◌-◌, ◌<◌, ◌≤◌, List, [], ◌∷◌, ◌++◌, length, map, set, refl, sym, ap, subst, ◌∙◌, arith, length-append}
 use Rattle.std.specs.List.{AllByRecursion}
 use Rattle.std.proofs.lemmas.Bool.{eqb-true}
 use Rattle.std.proofs.lemmas.List.{length-map}
@@ -10,7 +10,6 @@ use Rattle.rv_core.specs.Machine.{first_state, words_at}
 use Rattle.nv_base.specs.declared.lines.Entry.{Entry}
 use Rattle.nv_base.specs.declared.lines.Outcome.{Outcome}
 use Rattle.nv_base.specs.declared.lines.Outcome.TheVariants as outcome
-use Rattle.nv_base.specs.declared.lines.Spawn as base_spawn
 use Rattle.nv_base.specs.declared.lines.TaskRec as base_task
 use Rattle.nv_base.specs.declared.names.TaskId.{TaskId}
 use Rattle.kernel_model.specs.Effects.{Objects, Spawn, Write, put, words_of, written}

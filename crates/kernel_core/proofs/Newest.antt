@@ -1,11 +1,9 @@
 -- What one core reads: the newest version of each object, since no finish joins while its attempt lasts.
-use Rattle.std.proofs.Common.{◌≡◌, ℕ, zero, suc, ◌+◌, ◌<◌, ◌≤◌, max, Bool, true, false, cond, List, [], ◌∷◌, length, Option, Some, None, unwrap_or, refl, sym, ap, subst, ◌∙◌, arith, zero-add}
-use Rattle.std.specs.List.{AllByRecursion}
-use Rattle.kernel_model.specs.Sizes.{Sizes}
+use Rattle.std.proofs.Common.{◌≡◌, ℕ, ◌<◌, ◌≤◌, max, List, [], ◌∷◌, length, Option, Some, None, unwrap_or, refl, sym, ap, ◌∙◌, arith}
 use Rattle.kernel_model.specs.Effects.{Objects, Run, Write, put, words_of, written}
 use Rattle.kernel_model.specs.Items.{Item}
 use Rattle.kernel_model.specs.Replay.{Base, after_history, clock_of, tables_of}
-use Rattle.kernel_model.specs.Versions.{Read, Version, chosen, find_version, read_words, version_read, versions, words_in}
+use Rattle.kernel_model.specs.Versions.{Read, Version, chosen, read_words, version_read, versions, words_in}
 use Rattle.kernel_model.specs.Intervals.{Interval, finish_interval, last_touch, raised_for, read_interval, sooner, within}
 use Rattle.kernel_model.proofs.AloneLaws.{newest, newest-found}
 use Rattle.kernel_model.proofs.ChainLaws.{chosen_exists}

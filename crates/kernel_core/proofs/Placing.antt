@@ -1,15 +1,14 @@
 -- The turns of a kernel that is known by equations.
-use Rattle.std.proofs.Common.{◌≡◌, ℕ, suc, ◌+◌, ◌-◌, ◌<◌, ◌≤◌, Bool, true, false, List, [], ◌∷◌, ◌++◌, length, map, set, Some, None, Option, refl, sym, ap, subst, ◌∙◌, arith}
+use Rattle.std.proofs.Common.{◌≡◌, ℕ, suc, ◌+◌, ◌-◌, ◌<◌, ◌≤◌, true, false, List, [], ◌∷◌, ◌++◌, length, map, set, Some, None, refl, sym, ap, subst, ◌∙◌, arith}
 use Rattle.std.specs.Prelude.{sum_by}
 use Rattle.object_sets.specs.ObjectSets.{IsIncreasing, is_among, with_object}
-use Rattle.rv_core.specs.State.{MachineState, StepResult, Next, Calls, Traps}
+use Rattle.rv_core.specs.State.{MachineState, Next, Calls, Traps}
 use Rattle.rv_core.specs.Machine.{first_state, step_of, words_at}
 use Rattle.rv_core.specs.declared.services.Service.{Service}
 use Rattle.rv_core.specs.declared.services.Service.TheVariants as service
 use Rattle.nv_base.specs.declared.causes.TrapCause.{TrapCause}
 use Rattle.nv_base.specs.declared.causes.TrapCause.TheVariants as cause
 use Rattle.nv_base.specs.declared.lines.Entry.{Entry}
-use Rattle.nv_base.specs.declared.lines.Line.{Line}
 use Rattle.nv_base.specs.declared.lines.Line.TheVariants as line
 use Rattle.nv_base.specs.declared.lines.Outcome.{Outcome}
 use Rattle.nv_base.specs.declared.lines.Outcome.TheVariants as outcome
@@ -17,18 +16,15 @@ use Rattle.nv_base.specs.declared.lines.Spawn as base_spawn
 use Rattle.nv_base.specs.declared.lines.TaskRec as base_task
 use Rattle.nv_base.specs.declared.names.ObjId.{ObjId}
 use Rattle.kernel_model.specs.Effects.{Objects, Write, words_of}
-use Rattle.kernel_model.specs.Runs.{Ends}
 use Rattle.kernel_model.specs.Replay.{Base}
 use Rattle.set_model.specs.Sets.{object_at, program_at}
-use Rattle.set_model.specs.Limits.{IsTaskSet}
 use Rattle.set_model.specs.Numbers.{index_words}
-use Rattle.set_model.specs.Views.{outcome_of, spawn_of, task_of}
-use Rattle.task_model.specs.TaskSteps.{given_index, given_words, past, refusal, served}
+use Rattle.set_model.specs.Views.{spawn_of, task_of}
+use Rattle.task_model.specs.TaskSteps.{given_index, given_words, past, refusal}
 use Rattle.kernel_core.specs.Shapes.{AreWritten, behind, state_after}
 use Rattle.kernel_core.specs.Kept.{IsKept, IsKeptIn}
 use Rattle.kernel_core.specs.Arms.{Serves, Turns, attempt_left, entry_in}
 use Rattle.kernel_core.specs.declared.kernel.Kernel.{Kernel}
-use Rattle.kernel_core.specs.declared.kernel.Phase.{Phase}
 use Rattle.kernel_core.specs.declared.kernel.Phase.TheVariants as phase
 use Rattle.kernel_core.proofs.Attempts as attempts
 use Rattle.kernel_core.proofs.Finishing as finishing

@@ -1,5 +1,5 @@
 -- Open tasks and their children.
-use Rattle.std.proofs.Common.{◌≡◌, ℕ, zero, suc, ◌+◌, ◌-◌, ◌<◌, ◌≤◌, Bool, true, false, cond, eqb, not, List, [], ◌∷◌, ◌++◌, length, map, filter, take, refl, sym, ap, ◌∙◌, arith, add-one, get_or, append_assoc}
+use Rattle.std.proofs.Common.{◌≡◌, ℕ, suc, ◌+◌, ◌-◌, ◌<◌, ◌≤◌, Bool, true, false, cond, eqb, not, List, [], ◌∷◌, ◌++◌, length, map, filter, take, refl, sym, ap, ◌∙◌, arith, get_or, append_assoc}
 use Rattle.std.proofs.lemmas.List.{length-map, length-take-le, map-append, take_more}
 use Rattle.std.specs.List.{AllByRecursion}
 use Rattle.std.proofs.lemmas.Bool.{eq-eqb}
@@ -86,3 +86,7 @@ add_one_more old now new first id i spawns d l queue same pushed =
     let more : map spawn_of (take (i + 1) spawns) ≡ before ++ spawn_of s ∷ [] = ap (map spawn_of) (take_more spawns i d l) ∙ map-append spawn_of (take i spawns) (s ∷ []) in
     pushed ∙ ap (λ q. q ++ made id) queue ∙ append_assoc old (children first before) (made id) ∙ ap (λ n. old ++ (children first before ++ made n)) place
     ∙ ap (λ rest. old ++ rest) (sym (children-append first before (spawn_of s ∷ []))) ∙ ap (λ xs. old ++ children first xs) (sym more)
+
+pub all-tasks : (n : ℕ) (xs : List base_task.TaskRec) → AllByRecursion (λ t. t.program < n) (map task_of xs) → AllByRecursion (λ t. t.program.0 < n) xs
+all-tasks n [] h = tt
+all-tasks n (x ∷ xs) h = (h.0, all-tasks n xs h.1)

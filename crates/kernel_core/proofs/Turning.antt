@@ -1,8 +1,8 @@
 -- What one turn of the kernel is in the event machine, while no finish commits.
-use Rattle.std.proofs.Common.{◌≡◌, ℕ, zero, suc, ◌+◌, ◌<◌, ◌≤◌, Bool, true, false, cond, ltb, eqb, List, [], ◌∷◌, length, Some, None, Option, refl, sym, ap, subst, ◌∙◌, arith}
+use Rattle.std.proofs.Common.{◌≡◌, ℕ, zero, suc, ◌+◌, ◌<◌, ◌≤◌, Bool, true, false, cond, ltb, List, [], ◌∷◌, Some, None, refl, sym, ap, subst, ◌∙◌}
 use Rattle.std.specs.List.{AllByRecursion}
-use Rattle.std.proofs.lemmas.Bool.{eq-eqb, lt-ltb, le-ltb}
-use Rattle.rv_core.specs.State.{MachineState, StepResult, Next as Goes, Calls, Traps}
+use Rattle.std.proofs.lemmas.Bool.{lt-ltb, le-ltb}
+use Rattle.rv_core.specs.State.{MachineState, StepResult, Next as Goes, Calls}
 use Rattle.rv_core.specs.Machine.{step_of, first_state}
 use Rattle.rv_core.specs.declared.services.Service.{Service}
 use Rattle.nv_base.specs.declared.lines.Outcome.{Outcome}
@@ -13,7 +13,6 @@ use Rattle.nv_base.specs.declared.lines.Line.TheVariants as line
 use Rattle.nv_base.specs.declared.names.ObjId.{ObjId}
 use Rattle.kernel_model.specs.Runs.{Ends}
 use Rattle.kernel_model.specs.Replay.{TaskRec, Base, clock_of}
-use Rattle.kernel_model.specs.OpenTasks.{open_tasks}
 use Rattle.kernel_model.specs.Versions.{Read, read_words}
 use Rattle.kernel_model.specs.Intervals.{Interval}
 use Rattle.kernel_model.specs.Effects.{Exit, words_of}
@@ -29,8 +28,8 @@ use Rattle.set_model.specs.Views.{entry_if, line_of, outcome_of, task_of}
 use Rattle.task_model.specs.TaskSteps.{given_words, served, task_steps}
 use Rattle.headline.specs.Run.{first_state as first_of}
 use Rattle.kernel_core.specs.Shapes.{behind}
-use Rattle.kernel_core.specs.Stands.{Fits, FitsIn, HasDone, Hidden, IsNewest, IsTried, Leads, Leaves, Stands, core_in, left_in, state_in}
-use Rattle.kernel_core.specs.Arms.{Next, Serves, Serviced, Turns, attempt_left, untold_in}
+use Rattle.kernel_core.specs.Stands.{FitsIn, HasDone, Hidden, Leads, Leaves, Stands, core_in, left_in, state_in}
+use Rattle.kernel_core.specs.Arms.{Serves, Turns, attempt_left, untold_in}
 use Rattle.kernel_core.specs.declared.kernel.Kernel.{Kernel}
 use Rattle.kernel_core.specs.declared.kernel.Phase.{Phase}
 use Rattle.kernel_core.specs.declared.kernel.Phase.TheVariants as phase

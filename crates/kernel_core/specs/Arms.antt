@@ -12,7 +12,7 @@ use Rattle.set_model.specs.Numbers.{sizes_of}
 use Rattle.set_model.specs.Formatted.{formatted}
 use Rattle.set_model.specs.Views.{line_of}
 use Rattle.task_model.specs.TaskSteps.{served, task_steps}
-use Rattle.kernel_core.specs.Stands.{Fits, FitsIn, Hidden, core_in, state_in}
+use Rattle.kernel_core.specs.Stands.{Fits, Hidden, core_in, state_in}
 use Rattle.kernel_core.specs.declared.attempt.Attempt as own
 use Rattle.kernel_core.specs.declared.kernel.Kernel.{Kernel}
 use Rattle.kernel_core.specs.declared.kernel.Phase.{Phase}

@@ -2,4 +2,3 @@ pub mod Shapes
 pub mod Stands
 pub mod Kept
 pub mod Arms
-pub mod Told

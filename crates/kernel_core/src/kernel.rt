@@ -1,6 +1,7 @@
 //! The event machine of one core, turn by turn.
 
 ghost use Rattle.std.specs.Prelude.{◌≡◌, ◌≤◌, ◌<◌, ◌+◌, ◌^◌, IfOk, OnOk, [], if◌then◌else◌, length, map, sum_by};
+ghost use Rattle.std.specs.List.{AllByRecursion};
 ghost use Rattle.std.specs.Result.{result_err};
 ghost use Rattle.object_sets.specs.ObjectSets.{is_among};
 ghost use Rattle.rv_core.specs.State.{MachineState};
@@ -8,15 +9,14 @@ ghost use Rattle.rv_core.specs.Machine.{IsPlace, first_state, put_words};
 ghost use Rattle.rv_core.specs.declared.services.Service.TheVariants.{Read, Write, Spawn as AsksFor};
 ghost use Rattle.kernel_model.specs.Effects.{words_of};
 ghost use Rattle.kernel_model.specs.Events.{State};
+ghost use Rattle.kernel_model.specs.Alone.{IsUnmet};
 ghost use Rattle.kernel_model.specs.Report.{unprinted};
 ghost use Rattle.set_model.specs.Sets.{object_at, program_at};
 ghost use Rattle.set_model.specs.Numbers.{index_words};
-ghost use Rattle.set_model.specs.Views.{entry_if, task_of};
+ghost use Rattle.set_model.specs.Views.{entry_if, line_of, task_of};
 ghost use Rattle.task_model.specs.TaskSteps.{address_of, given_words, refusal};
 ghost use Rattle.headline.specs.Run.{first_state as opened_state};
-ghost use Rattle.std.specs.List.{AllByRecursion};
 ghost use Rattle.kernel_core.specs.Stands.{Stands, Leads, durable_of};
-ghost use Rattle.kernel_core.specs.Told.{IsTold};
 ghost use Rattle.kernel_core.specs.Kept.{IsKept, finishes};
 ghost use Rattle.kernel_core.specs.Arms.{Serves, Turns, attempt_left, entry_in, untold_in};
 
@@ -31,18 +31,22 @@ use rv_core::{Machine, Service, Step};
 use std::alloc::Global;
 use task_set::TaskSet;
 
-/// What the core does.
-#[derive(Clone, Copy, Debug)]
-pub enum Phase {
-    /// It has no task.
+// What the core does.
+#[derive(Clone, Copy)]
+enum Phase {
+    // It has no task.
     Idle,
-    /// It runs an attempt of its task.
+
+    // It runs an attempt of its task.
     Running,
-    /// The words of this object come next, to this address. So many are copied.
+
+    // The words of this object come next, to this address. So many are copied.
     Copying { object: ObjId, at: u32, copied: u8 },
-    /// The attempt has ended so, and asks for its finish.
+
+    // The attempt has ended so, and asks for its finish.
     Ready(Outcome),
-    /// This finish commits, and so many writes are left.
+
+    // This finish commits, and so many writes are left.
     Committing(Entry, u32),
 }
 
@@ -106,13 +110,13 @@ impl Kernel {
         })
     }
 
-    /// One step of core 0, and the line that it prints. It takes no memory.
+    /// One step of core 0, and the line that it prints: no attempt is stale, or refused Empty or Slots. It takes no memory.
     pub fn turn(&mut self) -> Line
         requires kept { IsKept self.old }
         requires few { finishes self.old < 1000000 }
         ensures kept { IsKept self.new }
         ensures leads { Leads self.old self.new result }
-        ensures told { IsTold result }
+        ensures unmet { IsUnmet (line_of result) }
         ensures set { self.new.set ≡ self.old.set }
         ensures counted { finishes self.new ≤ finishes self.old + 1 }
     {
@@ -131,7 +135,7 @@ impl Kernel {
         requires idle { self.old.phase ≡ Phase.Idle }
         ensures kept { IsKept self.new }
         ensures turns { Turns self.old self.new result }
-        ensures told { IsTold result }
+        ensures unmet { IsUnmet (line_of result) }
         ensures set { self.new.set ≡ self.old.set }
         ensures state { self.new.state ≡ self.old.state }
     {
@@ -173,7 +177,7 @@ impl Kernel {
         requires running { self.old.phase ≡ Phase.Running }
         ensures kept { IsKept self.new }
         ensures turns { Turns self.old self.new result }
-        ensures told { IsTold result }
+        ensures unmet { IsUnmet (line_of result) }
         ensures set { self.new.set ≡ self.old.set }
         ensures state { self.new.state ≡ self.old.state }
     {
@@ -293,7 +297,7 @@ impl Kernel {
         requires copying { self.old.phase ≡ Phase.Copying object at copied }
         ensures kept { IsKept self.new }
         ensures turns { Turns self.old self.new result }
-        ensures told { IsTold result }
+        ensures unmet { IsUnmet (line_of result) }
         ensures set { self.new.set ≡ self.old.set }
         ensures state { self.new.state ≡ self.old.state }
     {
@@ -317,7 +321,7 @@ impl Kernel {
         requires ready { self.old.phase ≡ Phase.Ready outcome }
         ensures kept { IsKept self.new }
         ensures turns { Turns self.old self.new result }
-        ensures told { IsTold result }
+        ensures unmet { IsUnmet (line_of result) }
         ensures set { self.new.set ≡ self.old.set }
         ensures state { self.new.state ≡ self.old.state }
     {
@@ -391,7 +395,7 @@ impl Kernel {
         requires committing { self.old.phase ≡ Phase.Committing entry left }
         ensures kept { IsKept self.new }
         ensures turns { Turns self.old self.new result }
-        ensures told { IsTold result }
+        ensures unmet { IsUnmet (line_of result) }
         ensures set { self.new.set ≡ self.old.set }
         ensures counted { finishes self.new ≤ finishes self.old + 1 }
     {
@@ -413,7 +417,7 @@ impl Kernel {
         requires last { self.old.phase ≡ Phase.Committing entry 1 }
         ensures kept { IsKept self.new }
         ensures turns { Turns self.old self.new result }
-        ensures told { IsTold result }
+        ensures unmet { IsUnmet (line_of result) }
         ensures set { self.new.set ≡ self.old.set }
         ensures counted { finishes self.new ≤ finishes self.old + 1 }
     {
@@ -484,8 +488,9 @@ impl Kernel {
 
     /// The open tasks that are durable, by id.
     pub fn open_tasks(&self) -> &[TaskRec]
+        requires { IsKept self.now }
         ensures exact { map task_of result.now ≡ (durable_of self.now).tasks }
-        ensures programs { IsKept self.now → AllByRecursion (λ t. t.program < length self.now.set.programs) (map task_of result.now) }
+        ensures programs { AllByRecursion (λ t. t.program.0 < length self.now.set.programs) result.now }
     {
         self.state.open()
     }

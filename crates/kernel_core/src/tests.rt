@@ -90,6 +90,7 @@ fn lines(rt: &HostRuntime, kernel: &mut Kernel, turns: u32) -> Result<Vec<Line>,
     requires kept { IsKept kernel.old }
     requires few { finishes kernel.old + turns ≤ 1000000 }
     ensures kept { IsKept kernel.new }
+    ensures counted { finishes kernel.new ≤ finishes kernel.old + turns }
 {
     let mut lines = Vec::new(rt.alloc());
     for _ in 0..turns {
@@ -99,6 +100,26 @@ fn lines(rt: &HostRuntime, kernel: &mut Kernel, turns: u32) -> Result<Vec<Line>,
         }
     }
     Ok(lines)
+}
+
+// A run from the formatted state, and what it comes to.
+#[derive(Clone, Copy)]
+struct Row<'a> {
+    records: u16,
+    code: &'a [u32],
+    fuel: u32,
+    args: &'a [u32],
+    turns: u32,
+    told: &'a [Line],
+    // the object's word
+    word: u32,
+    clock: u32,
+    number: u32,
+    next: u32,
+    // the ids of the open tasks
+    open: &'a [TaskId],
+    // whether a durable finish is not told
+    found: bool,
 }
 
 fn start(task: u32, at: u32) -> Line {
@@ -119,141 +140,187 @@ fn finish(number: u32, task: u32, point: u32, first: u32, outcome: Outcome) -> L
     })
 }
 
-// Whether the object's durable word is this one.
-fn has_word(kernel: &Kernel, word: u32) -> bool
+// Whether what is durable is what the row says.
+fn ends_so(kernel: &Kernel, row: &Row) -> bool
     requires { IsKept kernel.now }
 {
-    0 < kernel.set().objects() && kernel.object(ObjId(0)) == [word].as_slice()
+    0 < kernel.set().objects()
+        && kernel.object(ObjId(0)) == [row.word].as_slice()
+        && kernel.clock() == Point(row.clock)
+        && kernel.number() == Seq(row.number)
+        && kernel.next() == TaskId(row.next)
+        && kernel.close_line().is_some() == row.found
 }
 
-// Whether the durable clock, number and next id are these, and so many tasks are open.
-fn has_end(kernel: &Kernel, clock: u32, number: u32, next: u32, open: usize) -> bool {
-    kernel.clock() == Point(clock)
-        && kernel.number() == Seq(number)
-        && kernel.next() == TaskId(next)
-        && kernel.open_tasks().len() == open
+// Whether the open tasks have these ids.
+fn has_open(kernel: &Kernel, ids: &[TaskId]) -> bool
+    requires { IsKept kernel.now }
+{
+    let tasks = kernel.open_tasks();
+    tasks.len() == ids.len() && tasks.iter().zip(ids.iter()).all(|(t, id)| t.id == *id)
+}
+
+// Whether a run comes to what the row says.
+fn holds(rt: &HostRuntime, row: &Row) -> Result<bool, NoMemory>
+    requires { row.now.turns ≤ 1000 }
+{
+    let parts = parts(rt, row.records, row.code, row.fuel, row.args)?;
+    let Some(mut kernel) = kernel_of(rt, parts)? else {
+        return Ok(false);
+    };
+    let told = lines(rt, &mut kernel, row.turns)?;
+    Ok(told.as_slice() == row.told && ends_so(&kernel, row) && has_open(&kernel, row.open))
+}
+
+// Three tasks on one object. Each takes 14 turns to the end of its run, 1 for the verdict, and 1 + 20 + 1 for the
+// commit, of which the last tells it.
+fn three_tasks<'a>(turns: u32, told: &'a [Line]) -> Row<'a>
+    ensures { result.turns ≡ turns }
+{
+    Row {
+        records: 3,
+        code: &ADDS,
+        fuel: 100,
+        args: &[1, 2, 3],
+        turns,
+        told,
+        word: 11,
+        clock: 3,
+        number: 3,
+        next: 4,
+        open: &[],
+        found: false,
+    }
 }
 
 #[test]
 fn three_tasks_run_one_after_another(rt: HostRuntime) -> Result<(), Fail> {
-    let Some(mut kernel) = kernel_of(&rt, parts(&rt, 3, &ADDS, 100, &[1, 2, 3])?)? else {
-        assert!(rt; false);
-        return Ok(());
-    };
-    // 14 turns to the end of the run, 1 for the verdict, 1 + 20 + 1 for the commit
-    let first = lines(&rt, &mut kernel, 36)?;
-    assert!(rt; first.as_slice() == [start(1, 0)].as_slice());
-    assert!(rt; has_word(&kernel, 6) && has_end(&kernel, 1, 1, 4, 2));
-    assert!(rt; kernel.close_line() == Some(entry_of_first()));
-    let rest = lines(&rt, &mut kernel, 75)?;
-    let wanted = [
+    let told = [
+        start(1, 0),
         finish(1, 1, 1, 4, Outcome::Exit(0)),
         start(2, 1),
         finish(2, 2, 2, 4, Outcome::Exit(0)),
         start(3, 2),
         finish(3, 3, 3, 4, Outcome::Exit(0)),
     ];
-    assert!(rt; rest.as_slice() == wanted.as_slice());
-    assert!(rt; has_word(&kernel, 11) && has_end(&kernel, 3, 3, 4, 0));
-    assert!(rt; kernel.close_line() == None);
-    assert_eq!(rt; lines(&rt, &mut kernel, 10)?.len(), 0);
+    assert!(rt; holds(&rt, &three_tasks(111, &told))?);
+    assert!(rt; holds(&rt, &three_tasks(120, &told))?);
     Ok(())
 }
 
-fn entry_of_first() -> Entry {
-    Entry {
-        number: Seq(1),
-        task: TaskId(1),
-        point: Point(1),
-        first: TaskId(4),
-        outcome: Outcome::Exit(0),
+#[test]
+fn a_durable_finish_is_found(rt: HostRuntime) -> Result<(), Fail> {
+    let told = [start(1, 0)];
+    let row = Row {
+        word: 6,
+        clock: 1,
+        number: 1,
+        open: &[TaskId(2), TaskId(3)],
+        found: true,
+        ..three_tasks(36, &told)
+    };
+    assert!(rt; holds(&rt, &row)?);
+    Ok(())
+}
+
+// A task that writes its argument, with so much fuel.
+fn puts<'a>(fuel: u32, told: &'a [Line], word: u32, clock: u32) -> Row<'a>
+    ensures { result.turns ≡ 25 }
+{
+    Row {
+        records: 1,
+        code: &PUTS,
+        fuel,
+        args: &[7],
+        turns: 25,
+        told,
+        word,
+        clock,
+        number: 1,
+        next: 2,
+        open: &[],
+        found: false,
     }
 }
 
 #[test]
-fn fuel_that_is_enough(rt: HostRuntime) -> Result<(), Fail> {
-    let Some(mut kernel) = kernel_of(&rt, parts(&rt, 1, &PUTS, 7, &[7])?)? else {
-        assert!(rt; false);
-        return Ok(());
-    };
-    let told = lines(&rt, &mut kernel, 25)?;
-    let wanted = [start(1, 0), finish(1, 1, 1, 2, Outcome::Exit(0))];
-    assert!(rt; told.as_slice() == wanted.as_slice());
-    assert!(rt; has_word(&kernel, 7) && has_end(&kernel, 1, 1, 2, 0));
-    Ok(())
-}
-
-#[test]
-fn fuel_that_is_spent_leaves_no_write(rt: HostRuntime) -> Result<(), Fail> {
-    let Some(mut kernel) = kernel_of(&rt, parts(&rt, 1, &PUTS, 6, &[7])?)? else {
-        assert!(rt; false);
-        return Ok(());
-    };
-    let told = lines(&rt, &mut kernel, 25)?;
+fn fuel_is_enough_or_leaves_no_write(rt: HostRuntime) -> Result<(), Fail> {
+    let told = [start(1, 0), finish(1, 1, 1, 2, Outcome::Exit(0))];
+    assert!(rt; holds(&rt, &puts(7, &told, 7, 1))?);
     let trap = Outcome::Trap(TrapCause::Fuel);
-    assert!(rt; told.as_slice() == [start(1, 0), finish(1, 1, 0, 2, trap)].as_slice());
-    assert!(rt; has_word(&kernel, 5) && has_end(&kernel, 0, 1, 2, 0));
+    let told = [start(1, 0), finish(1, 1, 0, 2, trap)];
+    assert!(rt; holds(&rt, &puts(6, &told, 5, 0))?);
     Ok(())
 }
 
-#[test]
-fn a_child_gets_the_next_id(rt: HostRuntime) -> Result<(), Fail> {
-    let Some(mut kernel) = kernel_of(&rt, parts(&rt, 1, &SPAWNS, 100, &[7])?)? else {
-        assert!(rt; false);
-        return Ok(());
-    };
-    let told = lines(&rt, &mut kernel, 24)?;
-    let wanted = [start(1, 0), finish(1, 1, 0, 2, Outcome::Exit(0))];
-    assert!(rt; told.as_slice() == wanted.as_slice());
-    assert!(rt; has_word(&kernel, 5) && has_end(&kernel, 0, 1, 3, 1));
-    let open = kernel.open_tasks();
-    assert!(rt; open.len() == 1 && open[0].id == TaskId(2) && open[0].arg == 0);
-    Ok(())
+// A task that spawns others and writes nothing.
+fn spawns<'a>(
+    records: u16,
+    code: &'a [u32],
+    args: &'a [u32],
+    turns: u32,
+    told: &'a [Line],
+    next: u32,
+    open: &'a [TaskId],
+) -> Row<'a>
+    ensures { result.turns ≡ turns }
+{
+    Row {
+        records,
+        code,
+        fuel: 200,
+        args,
+        turns,
+        told,
+        word: 5,
+        clock: 0,
+        number: 1,
+        next,
+        open,
+        found: false,
+    }
 }
 
 #[test]
-fn eight_children_fit_eight_records(rt: HostRuntime) -> Result<(), Fail> {
-    let Some(mut kernel) = kernel_of(&rt, parts(&rt, 8, &FORKS, 200, &[8])?)? else {
-        assert!(rt; false);
-        return Ok(());
-    };
-    let told = lines(&rt, &mut kernel, 99)?;
-    let wanted = [start(1, 0), finish(1, 1, 0, 2, Outcome::Exit(0))];
-    assert!(rt; told.as_slice() == wanted.as_slice());
-    assert!(rt; has_end(&kernel, 0, 1, 10, 8));
-    let open = kernel.open_tasks();
-    assert!(rt; open.len() == 8 && open[0].id == TaskId(2) && open[7].id == TaskId(9));
+fn children_get_the_next_ids(rt: HostRuntime) -> Result<(), Fail> {
+    let told = [start(1, 0), finish(1, 1, 0, 2, Outcome::Exit(0))];
+    assert!(rt; holds(&rt, &spawns(1, &SPAWNS, &[7], 24, &told, 3, &[TaskId(2)]))?);
+    let open = [
+        TaskId(2),
+        TaskId(3),
+        TaskId(4),
+        TaskId(5),
+        TaskId(6),
+        TaskId(7),
+        TaskId(8),
+        TaskId(9),
+    ];
+    assert!(rt; holds(&rt, &spawns(8, &FORKS, &[8], 99, &told, 10, &open))?);
     Ok(())
 }
 
 #[test]
 fn a_ninth_child_traps_and_leaves_none(rt: HostRuntime) -> Result<(), Fail> {
-    let Some(mut kernel) = kernel_of(&rt, parts(&rt, 8, &FORKS, 200, &[9])?)? else {
-        assert!(rt; false);
-        return Ok(());
-    };
-    let told = lines(&rt, &mut kernel, 101)?;
     let trap = Outcome::Trap(TrapCause::Spawns);
-    assert!(rt; told.as_slice() == [start(1, 0), finish(1, 1, 0, 2, trap)].as_slice());
-    assert!(rt; has_end(&kernel, 0, 1, 2, 0));
+    let told = [start(1, 0), finish(1, 1, 0, 2, trap)];
+    assert!(rt; holds(&rt, &spawns(8, &FORKS, &[9], 101, &told, 2, &[]))?);
     Ok(())
 }
 
 #[test]
 fn a_task_without_records_starts_again(rt: HostRuntime) -> Result<(), Fail> {
-    let Some(mut kernel) = kernel_of(&rt, parts(&rt, 2, &FORKS, 200, &[2, 0])?)? else {
-        assert!(rt; false);
-        return Ok(());
-    };
-    // 20 turns to the end of the run, and 1 for the verdict
-    let told = lines(&rt, &mut kernel, 42)?;
     let refusal = Line::RefuseRecords {
         core: CoreId(0),
         task: TaskId(1),
         pending: 2,
         spawns: 2,
     };
-    assert!(rt; told.as_slice() == [start(1, 0), refusal, start(1, 0), refusal].as_slice());
-    assert!(rt; has_end(&kernel, 0, 0, 3, 2));
+    // 20 turns to the end of the run, and 1 for the verdict
+    let told = [start(1, 0), refusal, start(1, 0), refusal];
+    let row = Row {
+        number: 0,
+        ..spawns(2, &FORKS, &[2, 0], 42, &told, 3, &[TaskId(1), TaskId(2)])
+    };
+    assert!(rt; holds(&rt, &row)?);
     Ok(())
 }

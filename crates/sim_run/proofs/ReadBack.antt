@@ -80,10 +80,10 @@ pub of_mapped : {A B : Type 0} (f : B → List ℕ) (g : A → B) (xs : List A) 
 of_mapped f g [] = refl
 of_mapped f g (x ∷ xs) = flat_map-cons f (g x) (map g xs) ∙ ap (λ t. f (g x) ++ t) (of_mapped f g xs) ∙ sym (flat_map-cons (λ x. f (g x)) x xs)
 
-pub mapped_at_place : {A B : Type 0} (P : B → Type 0) (g : A → B) (xs : List A) (i : ℕ) (d : A) → AllByRecursion P (map g xs) → i < length xs → P (g (get_or xs i d))
-mapped_at_place P g [] i d h l = absurd (omega (arith, l))
-mapped_at_place P g (x ∷ xs) zero d h l = h.0
-mapped_at_place P g (x ∷ xs) (suc i) d h l = mapped_at_place P g xs i d h.1 (omega arith)
+pub at_place : {A : Type 0} (P : A → Type 0) (xs : List A) (i : ℕ) (d : A) → AllByRecursion P xs → i < length xs → P (get_or xs i d)
+at_place P [] i d h l = absurd (omega (arith, l))
+at_place P (x ∷ xs) zero d h l = h.0
+at_place P (x ∷ xs) (suc i) d h l = at_place P xs i d h.1 (omega arith)
 
 -- ---- four parts, one after another
 

@@ -92,7 +92,7 @@ fn put_open_tasks<K: Sink>(
     set: &TaskSet,
     tasks: &[TaskRec],
 ) -> Result<(), WriteFault>
-    requires { AllByRecursion (λ t. t.program < length set.now.programs) (map task_of tasks.now) }
+    requires { AllByRecursion (λ t. t.program.0 < length set.now.programs) tasks.now }
     ensures all { OnOk result (K.taken out.new ≡ grown (K.taken out.old) (flat_map (open_text set.now) (map task_of tasks.now))) }
     ensures front { OnErr result (PutFront (K.taken out.old) (K.taken out.new) (flat_map (open_text set.now) (map task_of tasks.now))) }
     ensures fault { OnErr result (Rose (K.faults out.old) (K.faults out.new)) }

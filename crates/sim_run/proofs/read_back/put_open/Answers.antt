@@ -8,7 +8,7 @@ use Rattle.sim_run.proofs.read_back.put_open.Goals as goal
 
 pub put_open_tasks-requires : goal.put_open_tasks-requires
 put_open_tasks-requires g c =
-    subst (λ s. AllByRecursion (λ t. t.program < length s.programs) (map task_of c.open_tasks.result.now)) (sym c.set.ensures) (c.open_tasks.ensures.programs c.requires)
+    subst (λ s. AllByRecursion (λ t. t.program.0 < length s.programs) c.open_tasks.result.now) (sym c.set.ensures) c.open_tasks.ensures.programs
 
 pub returns-in_default-clause-front : goal.returns-in_default-clause-front
 returns-in_default-clause-front g c =

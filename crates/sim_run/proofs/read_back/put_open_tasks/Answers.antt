@@ -3,11 +3,11 @@ use Rattle.std.specs.List.{flat_map}
 use Rattle.nv_base.specs.Streams.{PutFront, grown}
 use Rattle.set_model.specs.Views.{task_of}
 use Rattle.report_text.specs.Lines.{open_text}
-use Rattle.sim_run.proofs.ReadBack.{cut_text, last_text, mapped_at_place, of_mapped}
+use Rattle.sim_run.proofs.ReadBack.{cut_text, last_text, at_place, of_mapped}
 use Rattle.sim_run.proofs.read_back.put_open_tasks.Goals as goal
 
 pub put_open_task-requires : goal.put_open_task-requires
-put_open_task-requires g c = mapped_at_place (λ t. t.program < length c.args.set.now.programs) task_of c.args.tasks.now c.loop-task.task-index _ c.requires c.loop-task-test.true
+put_open_task-requires g c = at_place (λ t. t.program.0 < length c.args.set.now.programs) c.args.tasks.now c.loop-task.task-index _ c.requires c.loop-task-test.true
 
 pub returns-in_default-clause-front : goal.returns-in_default-clause-front
 returns-in_default-clause-front g c =

@@ -1,4 +1,4 @@
-use Rattle.std.proofs.Common.{◌≡◌, ◌≤◌, ◌+◌, ◌*◌, ℕ, length, arith, refl, sym, ◌∙◌, ap}
+use Rattle.std.proofs.Common.{◌≡◌, ℕ, length, arith, refl, ◌∙◌, ap}
 use Rattle.object_sets.specs.ObjectSets.{is_among}
 use Rattle.set_model.specs.Sets.{object_at}
 use Rattle.kernel_core.proofs.Counts.{sum_to, sum_to-all, sum_to-more, sum_to-none}

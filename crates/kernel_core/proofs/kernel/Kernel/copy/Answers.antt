@@ -1,4 +1,4 @@
-use Rattle.std.proofs.Common.{◌≡◌, ◌≤◌, ◌+◌, ap, ◌∙◌, arith}
+use Rattle.std.proofs.Common.{ap, ◌∙◌, arith}
 use Rattle.task_model.specs.TaskSteps.{given_words}
 use Rattle.kernel_core.proofs.Placing.{copies_last, copies_more}
 use Rattle.kernel_core.proofs.kernel.Kernel.copy.Goals as goal

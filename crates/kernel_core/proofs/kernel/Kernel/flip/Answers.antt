@@ -1,5 +1,4 @@
-use Rattle.std.proofs.Common.{◌≡◌, ◌+◌, ◌-◌, ◌<◌, ◌≤◌, List, length, map, ap, sym, ◌∙◌, arith}
-use Rattle.kernel_model.specs.OpenTasks.{others_than}
+use Rattle.std.proofs.Common.{length, map, ap, sym, ◌∙◌, arith}
 use Rattle.set_model.specs.Views.{spawn_of}
 use Rattle.kernel_core.specs.Shapes.{state_after}
 use Rattle.kernel_core.proofs.Keeping.{granted_in, taken, taken_number}

@@ -1,4 +1,3 @@
-use Rattle.std.proofs.Common.{◌≡◌, arith, refl}
 use Rattle.nv_base.specs.declared.lines.Outcome.TheVariants.{Exit, Trap}
 use Rattle.task_model.proofs.StepFacts.{read_names_address}
 use Rattle.kernel_core.proofs.Keeping.{ended, held_running, stepped}

@@ -1,4 +1,4 @@
-use Rattle.std.proofs.Common.{◌≡◌, ◌≤◌, length, arith, ap, ◌∙◌, Some}
+use Rattle.std.proofs.Common.{arith, ap, ◌∙◌}
 use Rattle.nv_base.specs.declared.causes.TrapCause.TheVariants.{Spawns}
 use Rattle.nv_base.specs.declared.lines.Outcome.TheVariants.{Trap}
 use Rattle.task_model.specs.TaskSteps.{given_index}

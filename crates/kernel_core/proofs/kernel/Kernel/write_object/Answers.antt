@@ -1,4 +1,4 @@
-use Rattle.std.proofs.Common.{◌≡◌, length, ap, ◌∙◌, arith}
+use Rattle.std.proofs.Common.{length, ap, arith}
 use Rattle.kernel_core.proofs.Keeping.{wrote}
 use Rattle.kernel_core.proofs.Placing.{next_is, traps_write, writes_words}
 use Rattle.kernel_core.proofs.kernel.Kernel.write_object.Goals as goal

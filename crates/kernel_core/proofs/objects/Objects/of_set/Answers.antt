@@ -1,4 +1,4 @@
-use Rattle.std.proofs.Common.{◌≡◌, ◌<◌, length, map, ap, sym, ◌∙◌, arith}
+use Rattle.std.proofs.Common.{◌∙◌, arith}
 use Rattle.kernel_core.proofs.Tables.{first_one_more}
 use Rattle.kernel_core.proofs.objects.Objects.of_set.Goals as goal
 

@@ -1,6 +1,5 @@
-use Rattle.std.proofs.Common.{◌≡◌, ℕ, ◌+◌, ◌<◌, ◌≤◌, List, [], ◌∷◌, ◌++◌, length, map, take, get_or, refl, sym, ap, ◌∙◌, arith, append_assoc, length-append}
+use Rattle.std.proofs.Common.{◌≡◌, ◌+◌, length, map, take, ap, ◌∙◌, arith, length-append}
 use Rattle.std.proofs.lemmas.List.{length-map, length-take-le}
-use Rattle.kernel_model.specs.Replay.{TaskRec}
 use Rattle.kernel_model.specs.OpenTasks.{children}
 use Rattle.set_model.specs.Views.{spawn_of}
 use Rattle.kernel_core.proofs.Tasks.{add_one_more, length-children}
