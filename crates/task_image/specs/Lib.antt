@@ -1,0 +1,4 @@
+pub mod Packed
+pub mod Reading
+pub mod Unpacked
+pub mod Answers
