@@ -1,10 +1,14 @@
 -- Reading fields from left to right: each is refused at its own place, where it is cut and else where it breaks its rule. This project's own.
-use Rattle.std.specs.Prelude.{ℕ, zero, suc, ◌+◌, ◌&&◌, not, Bool, List, [], ◌∷◌, ◌++◌, length, take, drop, get_or, nat_le, nat_eq, ◌==◌, Result, Ok, Err, if◌then◌else◌}
+use Rattle.std.specs.Prelude.{ℕ, zero, suc, ◌+◌, ◌<◌, ◌&&◌, not, Bool, List, [], ◌∷◌, ◌++◌, length, take, drop, get_or, nat_le, nat_eq, ◌==◌, Result, Ok, Err, if◌then◌else◌}
 use Rattle.std.specs.Char.{is_ascii_digit}
 use Rattle.std.specs.Cmp.Lexicographic.{pointwise}
 use Rattle.std.specs.List.{list_all, list_any}
 use Rattle.byteorder.specs.Endian.{little_number}
 use Rattle.set_model.specs.Names.{is_name_byte}
+
+-- each is a byte
+abbrev pub AreBytes : List ℕ → Type 0
+AreBytes bytes = (i : ℕ) → get_or bytes i 0 < 256
 
 -- a place in the bytes, and the bytes from there on
 pub record Here : Type 0 where

@@ -10,21 +10,21 @@ use Rattle.task_image.specs.Reading.{Here, Reader, ◌>>=◌, done, number, lite
 abbrev pub words : ℕ → Reader (List ℕ)
 words n = several n (λ _. number 4 (λ _. true)) []
 
--- after the objects before it
-unfoldable pub object : List ObjectPart → Reader ObjectPart
-object before = do
+-- with a name that no object before it has
+unfoldable pub object : List (List ℕ) → Reader ObjectPart
+object taken = do
   length_of_name ← number 1 (is_in_range 1 16)
-  name ← new_name (map (λ o. o.name) before) length_of_name
+  name ← new_name taken length_of_name
   size ← number 1 (is_in_range 1 64)
   slots ← number 1 (is_in_range 2 8)
   first ← words size
   done (record { name = name; size = size; slots = slots; first = first })
 
--- in so much memory, after the programs before it
-unfoldable pub program : ℕ → List ProgramPart → Reader ProgramPart
-program memory before = do
+-- that fits so much private memory, with a name that no program before it has
+unfoldable pub program : ℕ → List (List ℕ) → Reader ProgramPart
+program memory taken = do
   length_of_name ← number 1 (is_in_range 1 16)
-  name ← new_name (map (λ p. p.name) before) length_of_name
+  name ← new_name taken length_of_name
   fuel ← number 4 (is_in_range 1 1000000)
   number_of_words ← number 2 (is_in_range 0 (min 1024 (memory / 4)))
   code ← words number_of_words
@@ -66,8 +66,8 @@ header = do
 unfoldable pub task_set : Reader TaskSet
 task_set = do
   h ← header
-  objects ← several h.objects object []
-  programs ← several h.programs (program h.memory) []
+  objects ← several h.objects (λ before. object (map (λ o. o.name) before)) []
+  programs ← several h.programs (λ before. program h.memory (map (λ p. p.name) before)) []
   tasks ← several h.tasks (λ _. task h.programs) []
   done (record { cores = h.cores; memory = h.memory; records = h.records; objects = objects; programs = programs; tasks = tasks })
 

@@ -2,6 +2,10 @@
 #![tactic(auto)]
 
 mod cursor;
+mod header;
+mod names;
+mod parts;
+mod reading;
 mod refusal;
 
 pub use refusal::ImageRefusal;

@@ -4,7 +4,7 @@ ghost use Rattle.std.specs.Prelude.{◌≡◌};
 ghost use Rattle.task_image.specs.declared.refusal.Stop.TheVariants.{NoMemory as none_left};
 
 use nv_base::NoMemory;
-use std::alloc::{AllocError, AllocFailed};
+use std::alloc::AllocFailed;
 
 /// Why bytes are no packed set.
 #[derive(Clone, Copy, PartialEq, Eq, Debug)]
@@ -28,6 +28,14 @@ impl From<NoMemory> for Stop {
     ghost from_gives = { λ _ stop. stop ≡ none_left };
 
     fn from(_error: NoMemory) -> Stop {
+        Stop::NoMemory
+    }
+}
+
+impl<T: Drop> From<AllocFailed<T>> for Stop {
+    ghost from_gives = { λ _ stop. stop ≡ none_left };
+
+    fn from(_error: AllocFailed<T>) -> Stop {
         Stop::NoMemory
     }
 }

@@ -1,0 +1,5 @@
+pub mod NameFacts
+pub mod Several
+pub mod Fields
+pub mod Composed
+pub mod Numbers
