@@ -71,8 +71,11 @@ then {first = first} {next = next} {a = a} {P = P} {m = m} {b = b} {Q = Q} {n = 
 
 pub nothing_more : {B : Type 0} (v : B) → Reads (done v) (λ _. []) (λ y. y ≡ v) 0
 nothing_more v = record {
-  takes = λ here there y h e. let s = same_gift v y here there e in (record { left = ap (λ (x : Here). x.left) s.1; place = ap (λ (x : Here). x.place) (sym s.1); bytes = subst (λ (x : Here). AreBytes x.left) s.1 h }, sym s.0);
-  again = λ y place rest e. ap (λ x. gives x (at place rest)) (sym e);
+  takes = λ here there y h e.
+      let s = same_gift v y here there e in
+      let place : there.place ≡ here.place = ap (λ (x : Here). x.place) (sym s.1) in
+      (record { left = ap (λ (x : Here). x.left) s.1; place = omega (arith, place); bytes = subst (λ (x : Here). AreBytes x.left) s.1 h }, sym s.0);
+  again = λ y place rest e. let z : place ≡ place + 0 = omega arith in ap (λ x. gives x (at place rest)) (sym e) ∙ ap (λ (p : ℕ). gives y (at p rest)) z;
   few = λ y e. omega arith;
   stops = λ here place h e. absurd (cc);
   near = λ here place k other h e far agree. absurd (cc);

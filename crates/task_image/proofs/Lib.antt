@@ -3,3 +3,4 @@ pub mod Several
 pub mod Fields
 pub mod Composed
 pub mod Numbers
+pub mod Lists

@@ -1,6 +1,6 @@
 -- A field, and the numbers, names and literal bytes that are fields.
 use Rattle.std.proofs.Common.{◌≡◌, ℕ, zero, suc, ◌+◌, ◌*◌, ◌/◌, ◌%◌, ◌^◌, ◌<◌, ◌≤◌, ◌&&◌, Bool, true, false, cond, leb, min, nat_eq, List, [], ◌∷◌, ◌++◌, length, get_or, take, drop, Result, Ok, Err, refl, sym, ap, subst, ◌∙◌, arith, inl, inr}
-use Rattle.std.proofs.Math.Nat.{div-div-eq-div-mul, pow-suc}
+use Rattle.std.proofs.Math.Nat.{div-div-eq-div-mul, pow-succ'}
 use Rattle.std.proofs.lemmas.Bool.{leb-true, le-leb}
 use Rattle.std.proofs.lemmas.Bool.Decides.{nat_tests}
 use Rattle.std.proofs.lemmas.List.{append-nil, take_at, drop_at, take-append-drop, length-append, length-take, take-take, get_or-take, get_or_past}
@@ -112,7 +112,7 @@ field_reads {A = A} n rule value text Fits small back forth = record {
 
 byte_on : (j x : ℕ) → byte_at (suc j) x ≡ byte_at j (x / 256)
 byte_on zero x = refl
-byte_on (suc j) x = ap (λ (p : ℕ). x / p % 256) (pow-suc 256 (suc j)) ∙ ap (λ (p : ℕ). p % 256) (sym (div-div-eq-div-mul x 256 (256 ^ suc j)))
+byte_on (suc j) x = ap (λ (p : ℕ). x / p % 256) (pow-succ' 256 (suc j)) ∙ ap (λ (p : ℕ). p % 256) (sym (div-div-eq-div-mul x 256 (256 ^ suc j)))
 
 bytes_on : (j n x : ℕ) → bytes_low_first (suc j) n x ≡ bytes_low_first j n (x / 256)
 bytes_on j zero x = refl
