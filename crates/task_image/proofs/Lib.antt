@@ -4,3 +4,4 @@ pub mod Fields
 pub mod Composed
 pub mod Numbers
 pub mod Lists
+pub mod Formats

@@ -15,7 +15,7 @@ use Rattle.task_image.proofs.Fields.{Reads, Takes, Stops, at, gives, refused, by
 abbrev holds : ℕ → (List ℕ → Bool) → List ℕ → Bool
 holds n rule left = leb n (length left) && rule (take n left)
 
-both : (a b : Bool) → (a && b) ≡ true → (a ≡ true) × (b ≡ true)
+pub both : (a b : Bool) → (a && b) ≡ true → (a ≡ true) × (b ≡ true)
 both true b e = (refl, e)
 both false b e = absurd cc
 
