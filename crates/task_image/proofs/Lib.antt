@@ -5,3 +5,6 @@ pub mod Composed
 pub mod Numbers
 pub mod Lists
 pub mod Formats
+pub mod Sets
+pub mod NameLists
+pub mod Limits
