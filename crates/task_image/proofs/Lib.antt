@@ -8,3 +8,4 @@ pub mod Formats
 pub mod Sets
 pub mod NameLists
 pub mod Limits
+pub mod Whole

@@ -3,6 +3,7 @@
 
 mod cursor;
 mod header;
+pub mod laws;
 mod names;
 mod parts;
 mod reading;
