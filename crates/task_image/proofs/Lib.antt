@@ -9,3 +9,4 @@ pub mod Sets
 pub mod NameLists
 pub mod Limits
 pub mod Whole
+pub mod SetFacts

@@ -8,5 +8,8 @@ mod names;
 mod parts;
 mod reading;
 mod refusal;
+mod writing;
 
+pub use reading::read_set;
 pub use refusal::ImageRefusal;
+pub use writing::write_set;
