@@ -1,12 +1,11 @@
 -- One reader after another keeps what each of them owes.
-use Rattle.std.proofs.Common.{◌≡◌, ℕ, ◌+◌, ◌-◌, ◌<◌, ◌≤◌, List, [], ◌∷◌, ◌++◌, length, take, drop, Result, Ok, Err, refl, sym, ap, subst, ◌∙◌, append_assoc, arith, inl, inr}
+use Rattle.std.proofs.Common.{◌≡◌, ℕ, ◌+◌, ◌-◌, ◌≤◌, List, [], ◌++◌, length, take, drop, Result, sym, ap, subst, ◌∙◌, append_assoc, arith, inl, inr}
 use Rattle.std.proofs.lemmas.List.{length-append}
 use Rattle.task_image.specs.Reading.{Here, Reader, and_then, ◌>>=◌, done, AreBytes}
-use Rattle.task_image.proofs.Fields.{Reads, Takes, Stops, Takes-then, Stops-then, Stops-more, WentOn, went_on, StoppedLater, stopped, at, gives, refused, same_front, same_behind, same_gift}
+use Rattle.task_image.proofs.Fields.{Reads, Takes, Stops, Takes-then, Stops-then, Stops-more, went_on, StoppedLater, stopped, at, gives, refused, same_front, same_behind, same_gift}
 
 module _ {A B : Type 0} (first : Reader A) (next : A → Reader B) (a : A → List ℕ) (P : A → Type 0) (m : ℕ) (part : B → A) (b : B → List ℕ) (Q : A → B → Type 0) (n : ℕ)
     (f : Reads first a P m) (g : (x : A) → P x → Reads (next x) b (Q x) n) (same : (x : A) (y : B) → P x → Q x y → part y ≡ x) where
-
   then_takes : (here there : Here) (y : B) → AreBytes here.left → and_then (first here) next ≡ gives y there → Takes here (a (part y) ++ b y) there × (P (part y) × Q (part y) y)
   then_takes here there y h e =
       let w = went_on (first here) next y there e in

@@ -1,8 +1,7 @@
 -- What a reader and a spelling owe each other, and that it holds of a field and of one reader after another.
-use Rattle.std.proofs.Common.{◌≡◌, ℕ, zero, suc, ◌+◌, ◌-◌, ◌*◌, ◌^◌, ◌<◌, ◌≤◌, ◌&&◌, Bool, true, false, cond, leb, min, List, [], ◌∷◌, ◌++◌, length, get_or, take, drop, Result, Ok, Err, refl, sym, ap, subst, ◌∙◌, append_assoc, arith, inl, inr, ◌⊎◌}
-use Rattle.std.proofs.lemmas.Bool.{leb-true, leb-false, le-leb, lt-leb}
-use Rattle.std.proofs.lemmas.List.{take_at, drop_at, take-append-drop, length-append, length-take, length-drop, get_or-drop, drop-take, take-take, take-append-le}
-use Rattle.task_image.specs.Reading.{Here, Reader, and_then, ◌>>=◌, done, field, past, AreBytes}
+use Rattle.std.proofs.Common.{◌≡◌, ℕ, ◌+◌, ◌-◌, ◌≤◌, List, ◌++◌, length, take, drop, Result, Ok, Err, refl, sym, ap, subst, ◌∙◌, append_assoc, arith, inl, inr, ◌⊎◌}
+use Rattle.std.proofs.lemmas.List.{take_at, drop_at, take-append-drop, length-append, get_or-drop, drop-take, take-take}
+use Rattle.task_image.specs.Reading.{Here, Reader, and_then, AreBytes}
 
 abbrev pub at : ℕ → List ℕ → Here
 at place left = record { place = place; left = left }
@@ -79,7 +78,7 @@ Stops-more here place m n l s = record { low = s.low; high = s.high; short = ome
 pub same_front : (k : ℕ) (text rest other : List ℕ) → length text ≤ k → take k other ≡ take k (text ++ rest) → other ≡ text ++ drop (length text) other
 same_front k text rest other l e =
     let cut : take (length text) other ≡ text =
-        sym (take-take (length text) k other l) ∙ ap (take (length text)) e ∙ take-take (length text) k (text ++ rest) l ∙ take_at text rest (length text) refl in
+    sym (take-take (length text) k other l) ∙ ap (take (length text)) e ∙ take-take (length text) k (text ++ rest) l ∙ take_at text rest (length text) refl in
     sym (take-append-drop (length text) other) ∙ ap (λ (u : List ℕ). u ++ drop (length text) other) cut
 
 pub same_behind : (k : ℕ) (text rest other : List ℕ) → length text ≤ k → take k other ≡ take k (text ++ rest) → take (k - length text) (drop (length text) other) ≡ take (k - length text) rest

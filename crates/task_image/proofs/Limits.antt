@@ -1,20 +1,20 @@
 -- What is read keeps the limits of a task set and has names, and the other way round.
-use Rattle.std.proofs.Common.{◌≡◌, ℕ, zero, suc, ◌+◌, ◌*◌, ◌/◌, ◌%◌, ◌^◌, ◌<◌, ◌≤◌, ◌&&◌, ◌==◌, Bool, true, false, nat_lt, min, max, eqb, leb, ltb, List, [], ◌∷◌, ◌++◌, length, map, refl, sym, ap, subst, ◌∙◌, arith}
+use Rattle.std.proofs.Common.{◌≡◌, ℕ, zero, suc, ◌*◌, ◌/◌, ◌%◌, ◌^◌, ◌<◌, ◌≤◌, true, nat_lt, min, max, eqb, List, [], ◌∷◌, ◌++◌, length, map, refl, sym, subst, arith}
 use Rattle.std.specs.Int.{is_in_range}
 use Rattle.std.specs.List.{AllByRecursion}
 use Rattle.std.proofs.lemmas.Bool.{eqb-true, ltb-true}
 use Rattle.std.proofs.lemmas.Bool.Decides.{nat_tests}
 use Rattle.std.proofs.lemmas.List.{map_push}
 use Rattle.kernel_model.specs.Effects.{Spawn}
-use Rattle.set_model.specs.Limits.{IsWithin, IsWord, IsObject, IsProgram, IsTask, IsTaskSet}
-use Rattle.set_model.specs.Names.{AreNames, IsName, IsNamed}
+use Rattle.set_model.specs.Limits.{IsWord, IsObject, IsProgram, IsTask, IsTaskSet}
+use Rattle.set_model.specs.Names.{IsName, IsNamed}
 use Rattle.set_model.specs.Sets.{ObjectPart, ProgramPart, TaskSet}
 use Rattle.task_image.specs.Unpacked.{is_memory}
 use Rattle.task_image.proofs.Formats.{in_range, each_length, IsNewName, AreWordsOf, IsObjectAfter, IsProgramAfter, IsTaskOf, most_words}
 use Rattle.task_image.proofs.Lists.{Each}
 use Rattle.task_image.proofs.NameLists.{is_name_means, is_name_told, AreNew, new_are_distinct, distinct_are_new}
 use Rattle.task_image.proofs.Numbers.{IsNumber, both}
-use Rattle.task_image.proofs.Sets.{IsHeader, IsRead, header_from, AreObjects, ArePrograms, AreTasks}
+use Rattle.task_image.proofs.Sets.{IsRead}
 
 within_told : (low high n : ℕ) → low ≤ n → n ≤ high → is_in_range low high n ≡ true
 within_told low high n l h = grind (arith, nat_tests)

@@ -1,9 +1,9 @@
 -- Several of a kind keep what each of them owes.
-use Rattle.std.proofs.Common.{◌≡◌, ℕ, zero, suc, ◌+◌, ◌-◌, ◌*◌, ◌<◌, ◌≤◌, List, [], ◌∷◌, ◌++◌, length, take, drop, Result, Ok, Err, refl, sym, ap, subst, ◌∙◌, append_assoc, arith, inl, inr}
+use Rattle.std.proofs.Common.{◌≡◌, ℕ, zero, suc, ◌+◌, ◌-◌, ◌*◌, ◌≤◌, List, [], ◌∷◌, ◌++◌, length, take, drop, Result, sym, ap, subst, ◌∙◌, append_assoc, arith, inl, inr}
 use Rattle.std.proofs.lemmas.List.{append-nil, length-append}
 use Rattle.std.specs.List.{flat_map}
 use Rattle.task_image.specs.Reading.{Here, Reader, and_then, several, AreBytes}
-use Rattle.task_image.proofs.Fields.{Reads, Takes, Stops, Takes-then, Stops-then, Stops-more, WentOn, went_on, StoppedLater, stopped, at, gives, refused, same_front, same_behind, same_gift}
+use Rattle.task_image.proofs.Fields.{Reads, Takes, Stops, Takes-then, Stops-then, Stops-more, went_on, stopped, at, gives, refused, same_front, same_behind, same_gift}
 
 -- so many, each in view of those before it
 abbrev pub Each : {A : Type 0} → (List A → A → Type 0) → ℕ → List A → List A → Type 0
@@ -20,7 +20,6 @@ pub record Took {A : Type 0} (text : A → List ℕ) (P : List A → A → Type 
   pub fits : Each P n before more
 
 module _ {A : Type 0} (next : List A → Reader A) (text : A → List ℕ) (P : List A → A → Type 0) (m : ℕ) (f : (before : List A) → Reads (next before) text (P before) m) where
-
   abbrev rest_of : ℕ → List A → A → Reader (List A)
   rest_of n before one = several n next (before ++ one ∷ [])
 

@@ -1,5 +1,5 @@
 -- Names, each of which is new after those before it, are distinct names, and the other way round.
-use Rattle.std.proofs.Common.{◌≡◌, ◌≢◌, ℕ, ◌≤◌, Bool, true, false, not, nat_eq, ◌||◌, ◌&&◌, List, [], ◌∷◌, ◌++◌, length, get_or, refl, sym, ◌∙◌, ap, subst}
+use Rattle.std.proofs.Common.{◌≡◌, ◌≢◌, ℕ, Bool, true, false, not, nat_eq, ◌||◌, ◌&&◌, List, [], ◌∷◌, ◌++◌, length, get_or, refl, sym, ◌∙◌, ap}
 use Rattle.std.specs.Bool.{Decides}
 use Rattle.std.specs.Char.{is_ascii_digit}
 use Rattle.std.specs.Cmp.Lexicographic.{pointwise}
@@ -8,7 +8,7 @@ use Rattle.std.proofs.lemmas.Bool.Decides.{Decides-eqb}
 use Rattle.std.proofs.lemmas.List.Sums.{AllPass-from_list_all, list_all-from_AllPass}
 use Rattle.std.proofs.lemmas.Slice.Eq.{slice_eq-Decides}
 use Rattle.set_model.specs.Limits.{IsWithin}
-use Rattle.set_model.specs.Names.{AreDistinct, AreNames, IsName, is_name_byte}
+use Rattle.set_model.specs.Names.{AreDistinct, IsName, is_name_byte}
 use Rattle.task_image.specs.Reading.{is_name, is_new}
 use Rattle.task_image.proofs.Numbers.{both}
 
@@ -94,9 +94,10 @@ new_are_distinct taken (name ∷ names) f =
 
 distinct_after : (taken names : List (List ℕ)) → AllByRecursion (Apart names) taken → AreDistinct names → AreNew taken names
 distinct_after taken [] a d = tt
-distinct_after taken (name ∷ names) a d =
-    (ap not (none_told taken name (all_first (λ x. x ≢ name) (Apart names) taken a)),
-     distinct_after (taken ++ name ∷ []) names (all_with (Apart names) taken name (all_second (λ x. x ≢ name) (Apart names) taken a) d.0) d.1)
+distinct_after taken (name ∷ names) a d = (
+  ap not (none_told taken name (all_first (λ x. x ≢ name) (Apart names) taken a)),
+  distinct_after (taken ++ name ∷ []) names (all_with (Apart names) taken name (all_second (λ x. x ≢ name) (Apart names) taken a) d.0) d.1,
+)
 
 pub distinct_are_new : (names : List (List ℕ)) → AreDistinct names → AreNew [] names
 distinct_are_new names d = distinct_after [] names tt d

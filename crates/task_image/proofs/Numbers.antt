@@ -1,5 +1,5 @@
 -- A field, and the numbers, names and literal bytes that are fields.
-use Rattle.std.proofs.Common.{◌≡◌, ℕ, zero, suc, ◌+◌, ◌*◌, ◌/◌, ◌%◌, ◌^◌, ◌<◌, ◌≤◌, ◌&&◌, Bool, true, false, cond, leb, min, nat_eq, List, [], ◌∷◌, ◌++◌, length, get_or, take, drop, Result, Ok, Err, refl, sym, ap, subst, ◌∙◌, arith, inl, inr}
+use Rattle.std.proofs.Common.{◌≡◌, ℕ, zero, suc, ◌+◌, ◌*◌, ◌/◌, ◌%◌, ◌^◌, ◌<◌, ◌≤◌, ◌&&◌, Bool, true, false, cond, leb, min, List, [], ◌∷◌, ◌++◌, length, get_or, take, drop, refl, sym, ap, subst, ◌∙◌, arith}
 use Rattle.std.proofs.Math.Nat.{div-div-eq-div-mul, pow-succ'}
 use Rattle.std.proofs.lemmas.Bool.{leb-true, le-leb}
 use Rattle.std.proofs.lemmas.Bool.Decides.{nat_tests}
@@ -7,8 +7,8 @@ use Rattle.std.proofs.lemmas.List.{append-nil, take_at, drop_at, take-append-dro
 use Rattle.std.specs.Int.{byte_at, bytes_low_first}
 use Rattle.byteorder.specs.Endian.{little_bytes, little_number, little_from}
 use Rattle.byteorder.specs.Numbers.{little_from-cons, little_from-lt, little_number-reads_back, length-bytes_low_first}
-use Rattle.task_image.specs.Reading.{Here, Reader, field, number, past, AreBytes}
-use Rattle.task_image.proofs.Fields.{Reads, Takes, Stops, at, gives, refused, bytes_from, same_gift}
+use Rattle.task_image.specs.Reading.{Here, field, number, past, AreBytes}
+use Rattle.task_image.proofs.Fields.{Reads, Takes, at, gives, refused, bytes_from, same_gift}
 
 -- ---- any field
 
@@ -89,6 +89,7 @@ field_reads {A = A} n rule value text Fits small back forth = record {
           bytes = bytes_from n here.left h;
         } in
         subst (λ (q : Here). Takes here (text x) q × Fits x) k.there_is (subst (λ (y : A). Takes here (text y) (past n here) × Fits y) k.value_is (t, b.1))
+
     field_again : (x : A) (place : ℕ) (rest : List ℕ) → Fits x → field n rule value (at place (text x ++ rest)) ≡ gives x (at (place + length (text x)) rest)
     field_again x place rest q =
         let f = forth x q in
@@ -101,6 +102,7 @@ field_reads {A = A} n rule value text Fits small back forth = record {
         ∙ ap (λ (u : List ℕ). gives (value (text x)) (at (place + n) u)) behind
         ∙ ap (λ (y : A). gives y (at (place + n) rest)) f.2
         ∙ ap (λ (k : ℕ). gives x (at (place + k) rest)) (sym f.0)
+
     field_near : (here : Here) (place k : ℕ) (other : List ℕ) → AreBytes here.left → field n rule value here ≡ refused place → place + 16 ≤ here.place + k → take k other ≡ take k here.left → field n rule value (at here.place other) ≡ refused place
     field_near here place k other h e far agree =
         let b = broken n rule value here place e in

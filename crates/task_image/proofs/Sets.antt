@@ -1,5 +1,5 @@
 -- The reader of a whole task set, and its spelling.
-use Rattle.std.proofs.Common.{◌≡◌, ℕ, ◌+◌, ◌*◌, ◌<◌, ◌≤◌, true, max, List, [], ◌∷◌, ◌++◌, length, map, refl, sym, ap, subst, ◌∙◌, append_assoc, arith}
+use Rattle.std.proofs.Common.{◌≡◌, ℕ, ◌≤◌, max, List, [], ◌++◌, length, map, refl, ap, ◌∙◌, append_assoc, arith}
 use Rattle.std.specs.Prelude.{codes}
 use Rattle.std.specs.Int.{is_in_range}
 use Rattle.std.specs.List.{flat_map}
@@ -8,7 +8,7 @@ use Rattle.byteorder.specs.Endian.{little_bytes}
 use Rattle.kernel_model.specs.Effects.{Spawn}
 use Rattle.set_model.specs.Sets.{ObjectPart, ProgramPart, TaskSet}
 use Rattle.task_image.specs.Packed.{packed_object, packed_program, packed_task, packed_header, packed}
-use Rattle.task_image.specs.Reading.{Reader, ◌>>=◌, done, several}
+use Rattle.task_image.specs.Reading.{several}
 use Rattle.task_image.specs.Unpacked.{object, program, task, header, task_set, Header, is_memory}
 use Rattle.task_image.proofs.Fields.{Reads}
 use Rattle.task_image.proofs.Composed.{then, nothing_more, reworded}
@@ -48,7 +48,7 @@ header_reads =
     then (λ (h : Header). h.memory) (number_reads 4 is_memory (omega arith)) (λ memory p7.
     then (λ (h : Header). h.records) (number_reads 2 (is_in_range (max 1 tasks) 256) (omega arith)) (λ records p8.
     then (λ (h : Header). tt) (literal_reads (little_bytes 2 0) (omega arith)) (λ zeros p9.
-      let made : Header = record { cores = cores; objects = objects; programs = programs; tasks = tasks; memory = memory; records = records } in nothing_more made)
+    let made : Header = record { cores = cores; objects = objects; programs = programs; tasks = tasks; memory = memory; records = records } in nothing_more made)
     (λ x h p q. refl))
     (λ x h p q. ap (λ (k : Header). k.records) q.1))
     (λ x h p q. ap (λ (k : Header). k.memory) q.1.1))
@@ -122,17 +122,17 @@ set_reads =
     then (λ (s : TaskSet). s.objects) (objects_read h.objects (in_range 1 64 h.objects p.objects.kept).1) (λ objects p1.
     then (λ (s : TaskSet). s.programs) (programs_read h.memory h.programs (in_range 1 16 h.programs p.programs.kept).1) (λ programs p2.
     then (λ (s : TaskSet). s.tasks) (tasks_read h.programs h.tasks (in_range 0 256 h.tasks p.tasks.kept).1) (λ tasks p3.
-      let whole : TaskSet = record { cores = h.cores; memory = h.memory; records = h.records; objects = objects; programs = programs; tasks = tasks } in nothing_more whole)
+    let whole : TaskSet = record { cores = h.cores; memory = h.memory; records = h.records; objects = objects; programs = programs; tasks = tasks } in nothing_more whole)
     (λ x s p3 q. ap (λ (k : TaskSet). k.tasks) q))
     (λ x s p2 q. ap (λ (k : TaskSet). k.programs) q.1))
     (λ x s p1 q. ap (λ (k : TaskSet). k.objects) q.1.1))
     (λ h s p q.
-      let e = q.1.1.1 in
-      same_header s.cores (length s.objects) (length s.programs) (length s.tasks) s.memory s.records h
-      (ap (λ (k : TaskSet). k.cores) e) (each_length (λ before. IsObjectAfter (map (λ o. o.name) before)) h.objects [] s.objects q.0)
-      (each_length (λ before. IsProgramAfter h.memory (map (λ r. r.name) before)) h.programs [] s.programs q.1.0)
-      (each_length (λ _. IsTaskOf h.programs) h.tasks [] s.tasks q.1.1.0)
-      (ap (λ (k : TaskSet). k.memory) e) (ap (λ (k : TaskSet). k.records) e)))
+    let e = q.1.1.1 in
+    same_header s.cores (length s.objects) (length s.programs) (length s.tasks) s.memory s.records h
+    (ap (λ (k : TaskSet). k.cores) e) (each_length (λ before. IsObjectAfter (map (λ o. o.name) before)) h.objects [] s.objects q.0)
+    (each_length (λ before. IsProgramAfter h.memory (map (λ r. r.name) before)) h.programs [] s.programs q.1.0)
+    (each_length (λ _. IsTaskOf h.programs) h.tasks [] s.tasks q.1.1.0)
+    (ap (λ (k : TaskSet). k.memory) e) (ap (λ (k : TaskSet). k.records) e)))
     (λ s q. four (header_text (header_from s)) (flat_map packed_object s.objects) (flat_map packed_program s.programs) (flat_map packed_task s.tasks))
     (λ s q. record { header = q.0; objects = q.1.0; programs = q.1.1.0; tasks = q.1.1.1.0 })
     (λ s q. (q.header, (q.objects, (q.programs, (q.tasks, refl)))))

@@ -1,9 +1,9 @@
 -- Several of a kind, read one after another: one more, a stop, and the end.
-use Rattle.std.proofs.Common.{◌≡◌, ℕ, zero, suc, ◌+◌, ◌-◌, ◌<◌, ◌≤◌, List, [], ◌∷◌, ◌++◌, Result, Ok, Err, refl, sym, ◌∙◌, ap, arith}
+use Rattle.std.proofs.Common.{◌≡◌, ℕ, suc, ◌+◌, ◌-◌, ◌<◌, ◌≤◌, List, [], ◌∷◌, ◌++◌, Result, Ok, Err, refl, sym, ◌∙◌, arith}
 use Rattle.task_image.specs.declared.refusal.Stop.{Stop}
 use Rattle.task_image.specs.declared.refusal.Stop.TheVariants as stop
 use Rattle.task_image.specs.Answers.{Stops}
-use Rattle.task_image.specs.Reading.{Here, Reader, and_then, several}
+use Rattle.task_image.specs.Reading.{Here, Reader, several}
 
 pub several_more : {A : Type 0} (n i : ℕ) (next : List A → Reader A) (before : List A) (here there : Here) (one : A) (total : Result (List A × Here) ℕ)
     → i < n → next before here ≡ Ok (one, there) → several (n - i) next before here ≡ total → several (n - (i + 1)) next (before ++ one ∷ []) there ≡ total

@@ -1,5 +1,5 @@
 -- The laws of packed sets: a set that is read is spelled so, what is spelled so is read, and where a refusal stands.
-use Rattle.std.proofs.Common.{◌≡◌, ℕ, zero, suc, ◌+◌, ◌-◌, ◌<◌, ◌≤◌, Bool, true, false, cond, eqb, min, List, [], ◌∷◌, ◌++◌, length, take, drop, Result, Ok, Err, refl, sym, ap, subst, ◌∙◌, arith, inl, inr}
+use Rattle.std.proofs.Common.{◌≡◌, ℕ, ◌+◌, ◌-◌, ◌≤◌, Bool, true, false, cond, eqb, min, List, [], ◌++◌, length, take, drop, Result, Ok, Err, refl, sym, ap, subst, ◌∙◌, arith, inl, inr}
 use Rattle.std.proofs.lemmas.Bool.{eqb-true}
 use Rattle.std.proofs.lemmas.Bool.Decides.{nat_tests}
 use Rattle.std.proofs.lemmas.List.{append-nil, length-append, length-take, nil_from_length}
@@ -9,7 +9,7 @@ use Rattle.set_model.specs.Sets.{TaskSet}
 use Rattle.task_image.specs.Packed.{packed}
 use Rattle.task_image.specs.Reading.{Here, Reader, and_then, ◌>>=◌, done, end, AreBytes}
 use Rattle.task_image.specs.Unpacked.{task_set, whole, value_of, unpacked}
-use Rattle.task_image.proofs.Fields.{Reads, Takes, Stops, at, gives, refused, went_on, WentOn, stopped, StoppedLater, same_front, same_behind, same_gift}
+use Rattle.task_image.proofs.Fields.{at, gives, refused, went_on, stopped, StoppedLater, same_front, same_behind, same_gift}
 use Rattle.task_image.proofs.Limits.{read_is_set, read_is_named, set_is_read}
 use Rattle.task_image.proofs.Sets.{IsRead, set_reads}
 

@@ -1,5 +1,5 @@
 -- What bytes are read as: the fields of a packed set with their rules, in order. This project's own.
-use Rattle.std.specs.Prelude.{ℕ, ◌/◌, ◌%◌, ◌==◌, ◌&&◌, Bool, true, List, [], length, map, max, min, nat_lt, codes, Result, Ok, Err}
+use Rattle.std.specs.Prelude.{ℕ, ◌/◌, ◌%◌, ◌==◌, ◌&&◌, Bool, true, List, [], map, max, min, nat_lt, codes, Result, Ok, Err}
 use Rattle.std.specs.Int.{is_in_range}
 use Rattle.byteorder.specs.Endian.{little_bytes}
 use Rattle.kernel_model.specs.Effects.{Spawn}

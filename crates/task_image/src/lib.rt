@@ -13,3 +13,6 @@ mod writing;
 pub use reading::read_set;
 pub use refusal::ImageRefusal;
 pub use writing::write_set;
+
+#[cfg(test)]
+mod tests;

@@ -106,7 +106,12 @@ pub(crate) fn programs(
 }
 
 /// Reads so many tasks, each of so many programs.
-pub(crate) fn tasks(alloc: Global, cursor: &mut Cursor<'_>, programs: u8, n: u16) -> Result<Tasks, Stop>
+pub(crate) fn tasks(
+    alloc: Global,
+    cursor: &mut Cursor<'_>,
+    programs: u8,
+    n: u16,
+) -> Result<Tasks, Stop>
     ensures { Gives (map spawn_of) result cursor.new (several n (λ _. task programs) [] cursor.old) }
 {
     let mut tasks = Tasks::new(alloc);

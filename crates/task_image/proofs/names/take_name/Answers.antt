@@ -1,4 +1,4 @@
-use Rattle.std.proofs.Common.{nat_eq, sym}
+use Rattle.std.proofs.Common.{nat_eq}
 use Rattle.std.specs.Cmp.Lexicographic.{pointwise}
 use Rattle.std.specs.List.{list_any}
 use Rattle.task_image.proofs.NameFacts.{told_both, is_taken}

@@ -1,6 +1,6 @@
-use Rattle.std.proofs.Common.{ℕ, true, []}
+use Rattle.std.proofs.Common.{true}
 use Rattle.std.proofs.lemmas.Result.{err_from_is_err_and}
-use Rattle.task_image.specs.Reading.{number, several}
+use Rattle.task_image.specs.Reading.{number}
 use Rattle.task_image.proofs.Several.{several_more, several_stop, several_done}
 use Rattle.task_image.proofs.parts.words.Goals as goal
 
