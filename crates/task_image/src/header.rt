@@ -11,11 +11,17 @@ use crate::refusal::Stop;
 /// The numbers before the first object.
 #[derive(Clone, Copy)]
 pub struct Header {
+    /// How many cores there are.
     pub cores: u8,
+    /// How many objects follow.
     pub objects: u8,
+    /// How many programs follow the objects.
     pub programs: u8,
+    /// How many tasks follow the programs.
     pub tasks: u16,
+    /// The private memory of each attempt, in bytes.
     pub memory: u32,
+    /// How many tasks may be open at a time.
     pub records: u16,
 }
 
