@@ -16,20 +16,16 @@ abbrev pub Answers : Result TaskSet ImageRefusal → Result TaskSet ℕ → Type
 Answers (Ok set) read = read ≡ Ok set
 Answers (Err refusal) read = Refuses refusal read
 
--- The same of a reader on its way: its value seen by view, and where it went on to.
-abbrev pub Stops : {Y : Type 0} → Stop → Result (Y × Here) ℕ → Type 0
+-- The same of a reader on its way.
+abbrev pub Stops : {Y : Type 0} → Stop → Result Y ℕ → Type 0
 Stops stop.NoMemory read = Unit {0}
 Stops (stop.Refused place) read = read ≡ Err place
 
+abbrev pub Tells : {Y : Type 0} → Result Y Stop → Result Y ℕ → Type 0
+Tells (Ok y) read = read ≡ Ok y
+Tells (Err e) read = Stops e read
+
+-- And with the place where it goes on: its value is seen by view.
 abbrev pub Gives : {X Y : Type 0} → (X → Y) → Result X Stop → Here → Result (Y × Here) ℕ → Type 0
 Gives view (Ok x) here read = read ≡ Ok (view x, here)
 Gives view (Err e) here read = Stops e read
-
--- The same where it went on to does not matter.
-abbrev pub TellsStop : {Y : Type 0} → Stop → Result Y ℕ → Type 0
-TellsStop stop.NoMemory read = Unit {0}
-TellsStop (stop.Refused place) read = read ≡ Err place
-
-abbrev pub Tells : {Y : Type 0} → Result Y Stop → Result Y ℕ → Type 0
-Tells (Ok y) read = read ≡ Ok y
-Tells (Err e) read = TellsStop e read
