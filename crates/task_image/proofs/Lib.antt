@@ -1,0 +1,12 @@
+pub mod NameFacts
+pub mod Several
+pub mod Fields
+pub mod Composed
+pub mod Numbers
+pub mod Lists
+pub mod Formats
+pub mod Sets
+pub mod NameLists
+pub mod Limits
+pub mod Whole
+pub mod SetFacts

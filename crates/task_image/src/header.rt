@@ -1,0 +1,51 @@
+//! The numbers with which a packed set begins.
+
+ghost use Rattle.std.specs.Prelude.{◌≡◌};
+ghost use Rattle.task_image.specs.Answers.{Gives};
+ghost use Rattle.task_image.specs.Unpacked.{header};
+ghost use Rattle.task_image.specs.HeaderView.{header_of};
+
+use crate::cursor::Cursor;
+use crate::refusal::Stop;
+
+/// The numbers before the first object.
+#[derive(Clone, Copy)]
+pub struct Header {
+    /// How many cores there are.
+    pub cores: u8,
+    /// How many objects follow.
+    pub objects: u8,
+    /// How many programs follow the objects.
+    pub programs: u8,
+    /// How many tasks follow the programs.
+    pub tasks: u16,
+    /// The private memory of each attempt, in bytes.
+    pub memory: u32,
+    /// How many tasks may be open at a time.
+    pub records: u16,
+}
+
+/// Reads the numbers before the first object.
+#[tactic(auto, unfolding(crate::specs::Unpacked::header))]
+pub(crate) fn read_header(cursor: &mut Cursor<'_>) -> Result<Header, Stop>
+    ensures { Gives header_of result cursor.new (header cursor.old) }
+{
+    cursor.literal(b"NVKS")?;
+    cursor.literal(&[1, 0])?;
+    let cores = cursor.byte(1, 8)?;
+    let objects = cursor.byte(1, 64)?;
+    let programs = cursor.byte(1, 16)?;
+    cursor.literal(&[0])?;
+    let tasks = cursor.half(0, 256)?;
+    let memory = cursor.memory()?;
+    let records = cursor.half(tasks.max(1), 256)?;
+    cursor.literal(&[0, 0])?;
+    Ok(Header {
+        cores,
+        objects,
+        programs,
+        tasks,
+        memory,
+        records,
+    })
+}
