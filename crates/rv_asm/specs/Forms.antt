@@ -41,18 +41,28 @@ imm_template op = OpImm op x0 x0 (pos 0)
 abbrev pub op_template : RegOp → Instr
 op_template op = Op op x0 x0 x0
 
--- each instruction, where its operands are still to be filled in
-abbrev pub templates : List Instr
-templates =
-    Lui x0 0 ∷ Auipc x0 0 ∷ Jal x0 (pos 0) ∷ Jalr x0 x0 (pos 0) ∷
-    branch_template Beq ∷ branch_template Bne ∷ branch_template Blt ∷ branch_template Bge ∷ branch_template Bltu ∷ branch_template Bgeu ∷
-    load_template Lb ∷ load_template Lh ∷ load_template Lw ∷ load_template Lbu ∷ load_template Lhu ∷
-    store_template Sb ∷ store_template Sh ∷ store_template Sw ∷
-    imm_template Addi ∷ imm_template Slti ∷ imm_template Sltiu ∷ imm_template Xori ∷ imm_template Ori ∷ imm_template Andi ∷
-    imm_template Slli ∷ imm_template Srli ∷ imm_template Srai ∷
-    op_template Add ∷ op_template Sub ∷ op_template Sll ∷ op_template Slt ∷ op_template Sltu ∷
-    op_template Xor ∷ op_template Srl ∷ op_template Sra ∷ op_template Or ∷ op_template And ∷
-    Fence x0 x0 0x0FF ∷ Ecall ∷ Ebreak ∷ []
+unfoldable pub single_templates : List Instr
+single_templates =
+    Lui x0 0 ∷ Auipc x0 0 ∷ Jal x0 (pos 0) ∷ Jalr x0 x0 (pos 0) ∷ Fence x0 x0 0x0FF ∷ Ecall ∷ Ebreak ∷ []
+
+unfoldable pub branch_templates : List Instr
+branch_templates = map branch_template (Beq ∷ Bne ∷ Blt ∷ Bge ∷ Bltu ∷ Bgeu ∷ [])
+
+unfoldable pub load_templates : List Instr
+load_templates = map load_template (Lb ∷ Lh ∷ Lw ∷ Lbu ∷ Lhu ∷ [])
+
+unfoldable pub store_templates : List Instr
+store_templates = map store_template (Sb ∷ Sh ∷ Sw ∷ [])
+
+unfoldable pub imm_templates : List Instr
+imm_templates = map imm_template (Addi ∷ Slti ∷ Sltiu ∷ Xori ∷ Ori ∷ Andi ∷ Slli ∷ Srli ∷ Srai ∷ [])
+
+unfoldable pub op_templates : List Instr
+op_templates = map op_template (Add ∷ Sub ∷ Sll ∷ Slt ∷ Sltu ∷ Xor ∷ Srl ∷ Sra ∷ Or ∷ And ∷ [])
+
+-- the 40 instructions, each where its operands are still to be filled in
+unfoldable pub templates : List Instr
+templates = single_templates ++ branch_templates ++ load_templates ++ store_templates ++ imm_templates ++ op_templates
 
 pub record Form : Type 0 where
   pub name : List ℕ
@@ -65,7 +75,7 @@ form name operands template = record { name = name; operands = operands; templat
 abbrev pub instruction_form : Instr → Form
 instruction_form i = form (mnemonic_of i) (operands_of i) i
 
-abbrev pub pseudo_forms : List Form
+unfoldable pub pseudo_forms : List Form
 pseudo_forms =
     form (codes "nop") [] (imm_template Addi) ∷
     form (codes "mv") (Rd ∷ Rs1 ∷ []) (imm_template Addi) ∷

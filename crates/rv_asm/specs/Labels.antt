@@ -1,6 +1,7 @@
 -- Where labels stand. This project's own.
 use Rattle.std.specs.Prelude.{ℕ, ◌+◌, ◌^◌, nat_lt, Bool, true, false, List, [], ◌∷◌, length, Option, Some, None, is_some, Result, Ok, Err, if◌then◌else◌, nat_eq}
 use Rattle.std.specs.Cmp.Lexicographic.{pointwise}
+use Rattle.std.specs.Option.{option_or}
 use Rattle.rv_isa.specs.Fields.{unsigned}
 use Rattle.rv_asm.specs.declared.cause.AsmCause.{AsmCause}
 use Rattle.rv_asm.specs.declared.labels.Spot.{Spot}
@@ -15,14 +16,10 @@ Found = List ℕ → Option Spot
 abbrev pub spot : ℕ → ℕ → Spot
 spot line place = record { line = line; place = place }
 
-abbrev pub or_else : Option Spot → Option Spot → Option Spot
-or_else None next = next
-or_else (Some s) next = Some s
-
 -- one more label, unless it was there
 abbrev pub noted : Found → Option (List ℕ) → Spot → Found
 noted found None s name = found name
-noted found (Some label) s name = or_else (found name) (if pointwise nat_eq name label then Some s else None)
+noted found (Some label) s name = option_or (found name) (if pointwise nat_eq name label then Some s else None)
 
 abbrev pub is_found : Found → Option (List ℕ) → Bool
 is_found found None = false

@@ -8,3 +8,4 @@ pub mod Loads
 pub mod Labels
 pub mod Assembly
 pub mod Answers
+pub mod Seen

@@ -2,6 +2,7 @@
 -- manual, chapter "RISC-V Assembly Programmer's Handbook").
 use Rattle.std.specs.Prelude.{ℕ, List, [], ◌∷◌, Option, Some, None, position, option_map, nat_eq, codes, if◌then◌else◌}
 use Rattle.std.specs.Cmp.Lexicographic.{pointwise}
+use Rattle.std.specs.Option.{option_or}
 use Rattle.rv_isa.specs.Names.{register_names}
 use Rattle.rv_isa.specs.declared.instruction.Reg.{Reg}
 
@@ -20,11 +21,7 @@ numbered place = option_map (λ n. record { 0 = n }) place
 abbrev pub register_among : List (List ℕ) → List ℕ → Option Reg
 register_among names word = numbered (position (λ name. pointwise nat_eq name word) names)
 
-abbrev pub or_else : Option Reg → Option Reg → Option Reg
-or_else None next = next
-or_else (Some r) next = Some r
-
 unfoldable pub register_of : List ℕ → Option Reg
 register_of word =
     if pointwise nat_eq word (codes "fp") then Some (record { 0 = 8 })
-    else or_else (register_among register_names word) (register_among numbered_names word)
+    else option_or (register_among register_names word) (register_among numbered_names word)

@@ -2,6 +2,10 @@
 #![tactic(auto)]
 
 mod cause;
+mod fields;
+mod forms;
 mod labels;
+mod numbers;
+mod registers;
 
 pub use cause::{AsmCause, AsmError, AsmRefusal};
