@@ -10,6 +10,8 @@ mod names;
 mod syntax;
 #[cfg(test)]
 mod tests;
+#[cfg(test)]
+mod text_tests;
 mod texts;
 
 pub use decoding::decode;
