@@ -1,2 +1,5 @@
 pub mod Searches
 pub mod FormSearch
+pub mod Cuts
+pub mod Ranges
+pub mod Whole

@@ -9,3 +9,4 @@ pub mod Labels
 pub mod Assembly
 pub mod Answers
 pub mod Seen
+pub mod Found

@@ -3,8 +3,8 @@
 ghost use Rattle.std.specs.Prelude.{◌≡◌, option_map, find, nat_eq};
 ghost use Rattle.std.specs.Cmp.Lexicographic.{pointwise};
 ghost use Rattle.rv_isa.specs.Names.{mnemonic_of};
-ghost use Rattle.rv_asm.specs.Forms.{branch_template as branch_row, branch_templates, form_among, form_named as named, imm_template as imm_row, imm_templates, load_template as load_row, load_templates, op_template as op_row, op_templates, pseudo_forms, single_templates, store_template as store_row, store_templates, templates};
-ghost use Rattle.rv_asm.specs.Seen.{form_parts, form_seen};
+ghost use Rattle.rv_asm.specs.Forms.{branch_template as branch_row, branch_templates, form_among, form_named as named, form_parts, imm_template as imm_row, imm_templates, load_template as load_row, load_templates, op_template as op_row, op_templates, pseudo_forms, single_templates, store_template as store_row, store_templates, templates};
+ghost use Rattle.rv_asm.specs.Seen.{form_seen};
 
 use rv_isa::{BranchOp, ImmOp, Instr, LoadOp, Operand, Reg, RegOp, StoreOp, mnemonic, operands};
 
@@ -253,7 +253,7 @@ fn pseudo_form(word: &[u8]) -> Option<Form>
 /// The form of a mnemonic.
 #[tactic(auto, using(crate::proofs::FormSearch::form_is))]
 pub fn form_named(word: &[u8]) -> Option<Form>
-    ensures { option_map form_seen result ≡ option_map form_parts (named word.now) }
+    ensures { option_map form_seen result ≡ named word.now }
 {
     match template_named(word) {
         Some(template) => Some(make_form(operands(template), template)),
