@@ -1,5 +1,5 @@
 -- Text between commas, and round a parenthesis.
-use Rattle.std.proofs.Common.{◌≡◌, ℕ, ◌+◌, ◌<◌, ◌≤◌, Bool, List, [], ◌∷◌, length, take, drop, position, Some, None, refl, arith, ltb, inl, inr}
+use Rattle.std.proofs.Common.{◌≡◌, ℕ, ◌+◌, ◌<◌, ◌≤◌, Bool, List, [], ◌∷◌, length, get_or, take, drop, drop-cons, add-one, position, Some, None, refl, arith, ltb, inl, inr}
 use Rattle.std.specs.List.{slice_split, position_or_len, before_first, after_first}
 use Rattle.std.proofs.lemmas.Bool.{ltb-true, lt-ltb, cases_lt}
 use Rattle.std.proofs.lemmas.Option.{cond_some}
@@ -7,7 +7,8 @@ use Rattle.std.proofs.lemmas.List.{drop_all}
 use Rattle.std.proofs.lemmas.List.Sums.{fails_before_first}
 use Rattle.std.proofs.lemmas.List.Splits.{slice_split_first, slice_split_none, length-slice_split}
 use Rattle.rv_isa.specs.declared.syntax.Operand.{Operand}
-use Rattle.rv_asm.specs.Operands.{Open, comma, parenthesis, two_from, filled}
+use Rattle.rv_isa.specs.declared.syntax.Operand.TheVariants.{Rd}
+use Rattle.rv_asm.specs.Operands.{Open, comma, parenthesis, operand_in, two_from, fill, filled}
 
 place_is : (p : ℕ → Bool) (text : List ℕ) (i : ℕ) → position p text ≡ Some i → (i < length text) × (position_or_len p text ≡ i)
 place_is p text i e =
@@ -53,7 +54,30 @@ extra_part o (p ∷ rest) lt = refl
 pub too_many : (operands : List Operand) (i : ℕ) (text : List ℕ) (o : Open) → length operands ≤ i → filled (drop i operands) (slice_split comma text) o ≡ None
 too_many operands i text o le = rw (drop_all i operands le) (extra_part o (slice_split comma text) (some_part text))
 
-none_left : (operands : List Operand) (o : Open) → 0 < length operands → filled operands [] o ≡ None
+pub none_left : (operands : List Operand) (i : ℕ) (o : Open) → i < length operands → filled (drop i operands) [] o ≡ None
 unfolding filled
-none_left [] o lt = absurd (omega arith)
-none_left (x ∷ operands) o lt = refl
+none_left operands i o lt = rw (drop-cons operands i Rd lt) refl
+
+-- the next piece holds no operand
+pub no_operand : (operands : List Operand) (i : ℕ) (text piece : List ℕ) (more : List (List ℕ)) (o : Open) → i < length operands
+    → slice_split comma text ≡ piece ∷ more → None ≡ operand_in piece → filled (drop i operands) (slice_split comma text) o ≡ None
+unfolding filled
+no_operand operands i text piece more o lt split e = rw (split, drop-cons operands i Rd lt, ← e) refl
+
+-- the next operand does not fill
+pub no_fill : (operands : List Operand) (i : ℕ) (d : Operand) (text piece word : List ℕ) (more : List (List ℕ)) (o : Open) → i < length operands
+    → slice_split comma text ≡ piece ∷ more → Some word ≡ operand_in piece → None ≡ fill (get_or operands i d) word o → filled (drop i operands) (slice_split comma text) o ≡ None
+unfolding filled
+no_fill operands i d text piece word more o lt split e f = rw (split, drop-cons operands i d lt, ← e, ← f) refl
+
+-- the next operand fills
+pub one_filled : (operands : List Operand) (i : ℕ) (d : Operand) (text piece word : List ℕ) (more : List (List ℕ)) (o q : Open) → i < length operands
+    → slice_split comma text ≡ piece ∷ more → Some word ≡ operand_in piece → Some q ≡ fill (get_or operands i d) word o
+    → filled (drop i operands) (slice_split comma text) o ≡ filled (drop (i + 1) operands) more q
+unfolding filled
+one_filled operands i d text piece word more o q lt split e f = rw (split, drop-cons operands i d lt, ← e, ← f, add-one) refl
+
+-- all operands are filled in
+pub all_filled : (operands : List Operand) (i : ℕ) (o : Open) → length operands ≤ i → filled (drop i operands) [] o ≡ Some o
+unfolding filled
+all_filled operands i o le = rw (drop_all i operands le) refl

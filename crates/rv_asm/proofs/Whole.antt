@@ -14,19 +14,23 @@ use Rattle.rv_isa.specs.declared.instruction.Reg.{Reg}
 use Rattle.rv_isa.specs.declared.instruction.ImmOp.{ImmOp}
 use Rattle.rv_isa.specs.declared.instruction.ImmOp.TheVariants.{Addi, Slti, Sltiu, Xori, Ori, Andi, Slli, Srli, Srai}
 use Rattle.rv_isa.specs.declared.instruction.BranchOp.{BranchOp}
+use Rattle.rv_isa.specs.declared.instruction.BranchOp.TheVariants.{Beq, Bne, Blt, Bge, Bltu, Bgeu}
 use Rattle.rv_isa.specs.declared.instruction.LoadOp.{LoadOp}
+use Rattle.rv_isa.specs.declared.instruction.LoadOp.TheVariants.{Lb, Lh, Lw, Lbu, Lhu}
 use Rattle.rv_isa.specs.declared.instruction.StoreOp.{StoreOp}
+use Rattle.rv_isa.specs.declared.instruction.StoreOp.TheVariants.{Sb, Sh, Sw}
 use Rattle.rv_isa.specs.declared.instruction.RegOp.{RegOp}
+use Rattle.rv_isa.specs.declared.instruction.RegOp.TheVariants.{Add, Sub, Sll, Slt, Sltu, Xor, Srl, Sra, Or, And}
 use Rattle.rv_isa.specs.declared.instruction.Instr.{Instr}
 use Rattle.rv_isa.specs.declared.instruction.Instr.TheVariants.{Lui, Auipc, Jal, Jalr, Branch, Load as LoadFrom, Store, OpImm, Op, Fence, Ecall, Ebreak}
 use Rattle.rv_asm.specs.declared.cause.AsmCause.{AsmCause}
-use Rattle.rv_asm.specs.declared.cause.AsmCause.TheVariants.{Operand as BadOperand}
+use Rattle.rv_asm.specs.declared.cause.AsmCause.TheVariants.{Mnemonic, Operand as BadOperand}
 use Rattle.rv_asm.specs.Numbers.{number_of}
 use Rattle.rv_asm.specs.Registers.{register_of, register_among, numbered, numbered_names}
 use Rattle.rv_asm.specs.Fields.{with_rd, with_rs1, with_rs2}
 use Rattle.rv_asm.specs.Forms.{Form, forms, form_among, form_named, form_parts, instruction_form, templates, single_templates, branch_templates, load_templates, store_templates, imm_templates, op_templates, pseudo_forms, branch_template, load_template, store_template, imm_template, op_template}
 use Rattle.rv_asm.specs.Operands.{◌>>=◌, Open, Absent, Number, opened, before_end, parenthesis, address_of, target_of, fill, filled, operand_in, pieces_of, two_from}
-use Rattle.rv_asm.specs.Lines.{Body, Load, Instruction, instruction_in, load_in, word_in, by_form, by_words, by_label, by_first_word, body_of, body_in, labelled, parsed}
+use Rattle.rv_asm.specs.Lines.{Body, Load, Instruction, Line, line, instruction_in, load_in, word_in, by_form, by_words, by_label, by_first_word, body_of, body_in, labelled, parsed}
 use Rattle.rv_asm.specs.Seen.{IsWhole}
 
 -- ---- options
@@ -179,12 +183,16 @@ singles_ok = ((lit< tt, lit< tt), ((lit< tt, lit< tt), ((lit< tt, (lit< tt, refl
 templates_ok : AllByRecursion IsInstr templates
 unfolding templates branch_templates load_templates store_templates imm_templates op_templates
 templates_ok =
-    let branches : AllByRecursion IsInstr branch_templates = all_map branch_template branch_ok _ in
-    let loads : AllByRecursion IsInstr load_templates = all_map load_template load_ok _ in
-    let stores : AllByRecursion IsInstr store_templates = all_map store_template store_ok _ in
-    let immediates : AllByRecursion IsInstr imm_templates = all_map imm_template imm_ok _ in
-    let ops : AllByRecursion IsInstr op_templates = all_map op_template op_ok _ in
-    all_append IsInstr _ op_templates (all_append IsInstr _ imm_templates (all_append IsInstr _ store_templates (all_append IsInstr _ load_templates (all_append IsInstr single_templates branch_templates singles_ok branches) loads) stores) immediates) ops
+    let branches : AllByRecursion IsInstr branch_templates = all_map branch_template branch_ok (Beq ∷ Bne ∷ Blt ∷ Bge ∷ Bltu ∷ Bgeu ∷ []) in
+    let loads : AllByRecursion IsInstr load_templates = all_map load_template load_ok (Lb ∷ Lh ∷ Lw ∷ Lbu ∷ Lhu ∷ []) in
+    let stores : AllByRecursion IsInstr store_templates = all_map store_template store_ok (Sb ∷ Sh ∷ Sw ∷ []) in
+    let immediates : AllByRecursion IsInstr imm_templates = all_map imm_template imm_ok (Addi ∷ Slti ∷ Sltiu ∷ Xori ∷ Ori ∷ Andi ∷ Slli ∷ Srli ∷ Srai ∷ []) in
+    let ops : AllByRecursion IsInstr op_templates = all_map op_template op_ok (Add ∷ Sub ∷ Sll ∷ Slt ∷ Sltu ∷ Xor ∷ Srl ∷ Sra ∷ Or ∷ And ∷ []) in
+    let two = all_append IsInstr single_templates branch_templates singles_ok branches in
+    let three = all_append IsInstr (single_templates ++ branch_templates) load_templates two loads in
+    let four = all_append IsInstr (single_templates ++ branch_templates ++ load_templates) store_templates three stores in
+    let five = all_append IsInstr (single_templates ++ branch_templates ++ load_templates ++ store_templates) imm_templates four immediates in
+    all_append IsInstr (single_templates ++ branch_templates ++ load_templates ++ store_templates ++ imm_templates) op_templates five ops
 
 abbrev whole_form : Form → Type 0
 whole_form f = IsInstr f.template
@@ -256,11 +264,12 @@ by_words_whole (Some w) = body_of_whole w.0 w.1
 body_whole : (text : List ℕ) → IsWhole (body_in text)
 body_whole text = by_words_whole (word_and_rest text)
 
+chosen_line : (b : Bool) (x y : Line) → IsWhole x.body → IsWhole y.body → IsWhole (cond b x y).body
+chosen_line true x y h k = h
+chosen_line false x y h k = k
+
 labelled_whole : (name rest : List ℕ) → IsWhole (labelled name rest).body
-labelled_whole name rest = elim (cases_Bool (is_name name)) [
-  | inl e ↦ rw e (body_whole rest)
-  | inr e ↦ rw e tt
-]
+labelled_whole name rest = chosen_line (is_name name) (line (Some name) (body_in rest)) (line None (Err Mnemonic)) (body_whole rest) tt
 
 by_label_whole : (label : Option (List ℕ)) (text rest : List ℕ) → IsWhole (by_label label text rest).body
 by_label_whole None text rest = body_whole text

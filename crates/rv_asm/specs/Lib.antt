@@ -10,3 +10,4 @@ pub mod Assembly
 pub mod Answers
 pub mod Seen
 pub mod Found
+pub mod Laws

@@ -27,16 +27,20 @@ fn note_line<'a>(
     ensures count { IfOk result (λ n. (n ≡ line_count (find_in labels.old) (parsed bytes.entry.now)) × (n ≤ 2)) }
 {
     let line = parse(bytes);
-    if let Some(name) = line.label {
-        let spot = Spot {
-            line: number,
-            place,
-        };
-        if !labels.note(name, spot)? {
-            return Ok(0);
+    match line.label {
+        None => Ok(count(line.body)),
+        Some(name) => {
+            let spot = Spot {
+                line: number,
+                place,
+            };
+            if labels.note(name, spot)? {
+                Ok(count(line.body))
+            } else {
+                Ok(0)
+            }
         }
     }
-    Ok(count(line.body))
 }
 
 /// The labels of all lines.

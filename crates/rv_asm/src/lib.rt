@@ -6,6 +6,7 @@ mod cause;
 mod fields;
 mod forms;
 mod labels;
+mod laws;
 mod lines;
 mod loads;
 mod numbers;
@@ -14,4 +15,7 @@ mod registers;
 mod words;
 
 pub use assembler::{assemble, assemble_lines};
+pub use laws::{
+    load_is_short, load_leaves_value, range_is_what_fits, refusal_is_first, words_are_few,
+};
 pub use cause::{AsmCause, AsmError, AsmRefusal};
