@@ -26,16 +26,28 @@ here : (found : Found) (n : ℕ) (words : List ℕ) (line : List ℕ) (lines : L
     → Faults found n words (line ∷ lines) (record { line = n; cause = cause })
 unfolding lines_after
 here found n words line lines cause h = record {
-  before = []; line = line; after = lines; taken_words = words;
-  parts = refl; number = omega arith; taken = refl; refused = h;
+  before = [];
+  line = line;
+  after = lines;
+  taken_words = words;
+  parts = refl;
+  number = omega arith;
+  taken = refl;
+  refused = h;
 }
 
 later : (found : Found) (n : ℕ) (words more : List ℕ) (line : List ℕ) (lines : List (List ℕ)) (e : AsmError) → line_after found n words (parsed line) ≡ Ok more
     → Faults found (n + 1) more lines e → Faults found n words (line ∷ lines) e
 unfolding lines_after
 later found n words more line lines e h f = record {
-  before = line ∷ f.before; line = f.line; after = f.after; taken_words = f.taken_words;
-  parts = ap (λ (ls : List (List ℕ)). line ∷ ls) f.parts; number = omega (arith, f.number); taken = rw h f.taken; refused = f.refused;
+  before = line ∷ f.before;
+  line = f.line;
+  after = f.after;
+  taken_words = f.taken_words;
+  parts = ap (λ (ls : List (List ℕ)). line ∷ ls) f.parts;
+  number = omega (arith, f.number);
+  taken = rw h f.taken;
+  refused = f.refused;
 }
 
 first_fault : (found : Found) (n : ℕ) (words : List ℕ) (lines : List (List ℕ)) (e : AsmError) → lines_after found n words (map parsed lines) ≡ Err e → Faults found n words lines e
@@ -54,8 +66,14 @@ pub first_refusal : (lines : List (List ℕ)) (e : AsmError) → assembled lines
 first_refusal lines e h =
     let f = first_fault (labels_of (map parsed lines)) 1 [] lines e h in
     record {
-      before = f.before; line = f.line; after = f.after; words = f.taken_words;
-      parts = f.parts; number = f.number; taken = f.taken; refused = f.refused;
+      before = f.before;
+      line = f.line;
+      after = f.after;
+      words = f.taken_words;
+      parts = f.parts;
+      number = f.number;
+      taken = f.taken;
+      refused = f.refused;
     }
 
 -- ---- how many words

@@ -117,7 +117,7 @@ unfolding address_of
 address_whole word =
     bound (before_end 41 (after_first parenthesis word)) _ (λ _. Unit {0}) (λ a. IsReg a.1) (any _)
     (λ name _. bound (number_of (before_first parenthesis word)) (λ z. register_of name >>= λ r. Some (z, r)) (λ _. Unit {0}) (λ a. IsReg a.1) (any _)
-      (λ z _. bound (register_of name) (λ r. Some (z, r)) IsReg (λ a. IsReg a.1) (register_whole name) (λ r h. h)))
+    (λ z _. bound (register_of name) (λ r. Some (z, r)) IsReg (λ a. IsReg a.1) (register_whole name) (λ r h. h)))
 
 abbrev whole_open : Open → Type 0
 whole_open o = IsInstr o.instr
@@ -233,7 +233,7 @@ load_whole : (text : List ℕ) → IfSome (load_in text) whole_body
 load_whole text =
     bound (two_from (pieces_of text)) _ (λ _. Unit {0}) whole_body (any _)
     (λ w _. bound (register_of w.0) (λ rd. number_of w.1 >>= λ z. Some (Load rd z)) IsReg whole_body (register_whole w.0)
-      (λ rd h. bound (number_of w.1) (λ z. Some (Load rd z)) (λ _. Unit {0}) whole_body (any _) (λ z _. h)))
+    (λ rd h. bound (number_of w.1) (λ z. Some (Load rd z)) (λ _. Unit {0}) whole_body (any _) (λ z _. h)))
 
 word_whole : (text : List ℕ) → IfSome (word_in text) whole_body
 word_whole text =

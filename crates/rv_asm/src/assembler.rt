@@ -110,11 +110,7 @@ fn take_line(
 
 /// The words of lines whose labels are known.
 #[tactic(auto, unfolding(crate::specs::Assembly::lines_after))]
-fn encode_lines(
-    alloc: Global,
-    labels: &Labels<'_>,
-    lines: &[&[u8]],
-) -> Result<Vec<u32>, AsmRefusal>
+fn encode_lines(alloc: Global, labels: &Labels<'_>, lines: &[&[u8]]) -> Result<Vec<u32>, AsmRefusal>
     requires { length lines.now ≤ 1048576 }
     ensures { Gives (λ words. words.items) result (lines_after (find_in labels.now) 1 [] (map parsed (map (λ line. line.now) lines.now))) }
 {

@@ -15,7 +15,10 @@ mod registers;
 mod words;
 
 pub use assembler::{assemble, assemble_lines};
+pub use cause::{AsmCause, AsmError, AsmRefusal};
 pub use laws::{
     load_is_short, load_leaves_value, range_is_what_fits, refusal_is_first, words_are_few,
 };
-pub use cause::{AsmCause, AsmError, AsmRefusal};
+
+#[cfg(test)]
+mod tests;

@@ -14,6 +14,6 @@ returns-in-Err c =
     let rest : List Line = map parsed (map (λ line. line.now) (drop (c.loop-line.line-index + 1) c.args.lines.now)) in
     let all : Result (List ℕ) AsmError = lines_after (find_in c.args.labels.now) 1 [] (map parsed (map (λ line. line.now) c.args.lines.now)) in
     let so_far : lines_after (find_in c.args.labels.now) c.loop-line.number c.loop-line.words.items (line ∷ rest) ≡ all =
-      rw (next_line c.args.lines.now c.loop-line.line-index d c.loop-line-test.true) at c.loop-line.invariant.words in
+    rw (next_line c.args.lines.now c.loop-line.line-index d c.loop-line-test.true) at c.loop-line.invariant.words in
     let fails = lines_fail (find_in c.args.labels.now) c.loop-line.number c.loop-line.words.items line rest c.in-Err.refusal c.in-Err.ensures.line in
     rw c.at.ensures (subst (λ (r : Result (List ℕ) AsmError). Fails (refusal_at c.loop-line.number c.in-Err.refusal) r) so_far fails)

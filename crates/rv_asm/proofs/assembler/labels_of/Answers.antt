@@ -11,7 +11,7 @@ loop-line-preserved c =
     let line : Line = parsed (get_or c.args.lines.now c.loop-line.line-index d).now in
     let rest : List Line = map parsed (map (λ line. line.now) (drop (c.loop-line.line-index + 1) c.args.lines.now)) in
     let so_far : labels_from (find_in c.loop-line.labels) c.loop-line.number c.loop-line.place (line ∷ rest) ≡ labels_of (map parsed (map (λ line. line.now) c.args.lines.now)) =
-      rw (next_line c.args.lines.now c.loop-line.line-index d c.loop-line-test.true) at c.loop-line.invariant.labels in
+    rw (next_line c.args.lines.now c.loop-line.line-index d c.loop-line-test.true) at c.loop-line.invariant.labels in
     record {
       labels = labels_step (find_in c.loop-line.labels) (find_in c.note_line.new.labels) _ c.loop-line.number c.loop-line.place c.in_ok-place.field-0 line rest c.in_ok-place.ensures.labels c.in_ok-place.ensures.count.0 so_far;
       number = omega arith;

@@ -15,5 +15,5 @@ pub returns-clause-noted : goal.returns-clause-noted
 returns-clause-noted c =
     let key : Bor (List ℕ) = c.args.name in
     let absent : lookup (λ (k : Bor (List ℕ)). pointwise nat_eq c.args.name.now k.now) c.args.self.now.spots.entries ≡ None =
-      sym c.find.ensures ∙ absent_from c.find.result (sym c.is_some.ensures ∙ c.if-is_some.false) in
+    sym c.find.ensures ∙ absent_from c.find.result (sym c.is_some.ensures ∙ c.if-is_some.false) in
     rw c.in_ok-insert.ensures.entries (λ i name. added c.args.self.now.spots.entries key c.args.spot absent name i)
