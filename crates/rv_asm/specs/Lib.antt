@@ -1,0 +1,13 @@
+pub mod Numbers
+pub mod Registers
+pub mod Fields
+pub mod Forms
+pub mod Operands
+pub mod Lines
+pub mod Loads
+pub mod Labels
+pub mod Assembly
+pub mod Answers
+pub mod Seen
+pub mod Found
+pub mod Laws
