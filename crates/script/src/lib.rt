@@ -1,8 +1,12 @@
 //! Scripts as a user writes them.
 #![tactic(auto)]
 
+mod draft;
+mod items;
 mod keyword;
 mod refusals;
+mod set_lines;
+mod timeline;
 mod words;
 
 pub use keyword::{BlockKind, Keyword, Stage};
