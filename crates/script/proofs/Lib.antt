@@ -1,2 +1,5 @@
+pub mod BodyLines
 pub mod Counts
 pub mod Each
+pub mod Faults
+pub mod HexWords

@@ -8,4 +8,7 @@ pub mod ScheduleLines
 pub mod Lines
 pub mod Sections
 pub mod Blocks
+pub mod Reading
+-- How the code meets them.
 pub mod Answers
+pub mod Views

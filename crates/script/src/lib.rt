@@ -1,13 +1,18 @@
 //! Scripts as a user writes them.
 #![tactic(auto)]
 
+mod block;
 mod draft;
 mod items;
 mod keyword;
+mod program;
+mod reading;
 mod refusals;
+mod section;
 mod set_lines;
 mod timeline;
 mod words;
 
 pub use keyword::{BlockKind, Keyword, Stage};
+pub use reading::Script;
 pub use refusals::{ScriptCause, ScriptError, ScriptRefusal};
