@@ -3,3 +3,9 @@ pub mod Counts
 pub mod Each
 pub mod Faults
 pub mod HexWords
+pub mod Inversions
+pub mod Kept
+pub mod KeptLines
+pub mod KeptSections
+pub mod NewNames
+pub mod Whole

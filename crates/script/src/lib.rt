@@ -14,5 +14,5 @@ mod timeline;
 mod words;
 
 pub use keyword::{BlockKind, Keyword, Stage};
-pub use reading::Script;
+pub use reading::{Script, read_script};
 pub use refusals::{ScriptCause, ScriptError, ScriptRefusal};
