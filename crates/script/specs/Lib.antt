@@ -11,5 +11,6 @@ pub mod Blocks
 pub mod Reading
 pub mod Laws
 -- How the code meets them.
+pub mod Causes
 pub mod Answers
 pub mod Views

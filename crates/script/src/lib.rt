@@ -5,6 +5,7 @@ mod block;
 mod draft;
 mod items;
 mod keyword;
+pub mod laws;
 mod program;
 mod reading;
 mod refusals;
@@ -16,3 +17,6 @@ mod words;
 pub use keyword::{BlockKind, Keyword, Stage};
 pub use reading::{Script, read_script};
 pub use refusals::{ScriptCause, ScriptError, ScriptRefusal};
+
+#[cfg(test)]
+mod tests;
