@@ -8,4 +8,9 @@ pub mod ScheduleLines
 pub mod Lines
 pub mod Sections
 pub mod Blocks
+pub mod Reading
+pub mod Laws
+-- How the code meets them.
+pub mod Causes
 pub mod Answers
+pub mod Views

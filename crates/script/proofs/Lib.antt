@@ -1,0 +1,13 @@
+pub mod BodyLines
+pub mod Counts
+pub mod Each
+pub mod Faults
+pub mod Firsts
+pub mod HexWords
+pub mod Inversions
+pub mod Kept
+pub mod KeptLines
+pub mod KeptSections
+pub mod NewNames
+pub mod Order
+pub mod Whole
