@@ -3,3 +3,5 @@ pub mod Formats
 pub mod Table
 pub mod Ranges
 pub mod Words
+pub mod Names
+pub mod Texts

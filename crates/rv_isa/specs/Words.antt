@@ -1,5 +1,5 @@
--- The word of each instruction, as the sum of its fields. No public clause cites it: it is how the
--- encoder is followed, and the table alone says what a word means.
+-- The word of each instruction, as the sum of its fields (the RISC-V unprivileged ISA manual, section 2.2
+-- "Base Instruction Formats"). The table alone says what a word means; by a law it reads this word back.
 use Rattle.std.specs.Prelude.{ℕ, ◌+◌, ◌*◌, ℤ}
 use Rattle.rv_isa.specs.Fields.{bits, unsigned}
 use Rattle.rv_isa.specs.declared.instruction.ImmOp.{ImmOp}

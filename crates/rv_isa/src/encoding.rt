@@ -160,6 +160,7 @@ fn bits_of_imm(op: ImmOp, imm: i32) -> u32
 /// The word of an instruction: the table has this instruction for it, and for no other word.
 pub fn encode(i: Instr) -> u32
     requires { IsInstr i }
+    ensures word { result ≡ word_of i }
     ensures again { instruction_of result ≡ Some i }
     ensures only { (word : ℕ) → word < 2 ^ 32 → instruction_of word ≡ Some i → result ≡ word }
 {

@@ -5,9 +5,18 @@ mod decoding;
 mod encoding;
 mod fields;
 mod instruction;
+pub mod laws;
+mod names;
+mod syntax;
 #[cfg(test)]
 mod tests;
+#[cfg(test)]
+mod text_tests;
+mod texts;
 
 pub use decoding::decode;
 pub use encoding::encode;
 pub use instruction::{BranchOp, ImmOp, Instr, LoadOp, Reg, RegOp, StoreOp};
+pub use names::{mnemonic, register_name};
+pub use syntax::{Operand, operands};
+pub use texts::{push_text, text};
