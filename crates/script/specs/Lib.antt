@@ -9,3 +9,4 @@ pub mod Lines
 pub mod Sections
 pub mod Blocks
 pub mod Answers
+pub mod ScriptText

@@ -3,7 +3,12 @@
 
 mod keyword;
 mod refusals;
+mod set_text;
 mod words;
 
 pub use keyword::{BlockKind, Keyword, Stage};
 pub use refusals::{ScriptCause, ScriptError, ScriptRefusal};
+pub use set_text::script_text;
+
+#[cfg(test)]
+mod text_tests;
