@@ -1,1 +1,3 @@
 pub mod NamesAsText
+pub mod Counts
+pub mod Each

@@ -27,7 +27,7 @@ unfoldable pub header_of : Parts → List (List ℕ) → Result Header ScriptCau
 header_of p words = do
   stage ← allowed p.last stages.Program
   word ← two words
-  name ← new_name (map (λ program. program.name) p.set.programs) word.0
+  name ← new_name (λ program. program.name) p.set.programs word.0
   fuel ← number 1 1000000 word.1
   if length p.set.programs == 16 then Err Many else Ok (record { name = name; fuel = fuel })
 

@@ -6,6 +6,7 @@ use Rattle.schedule_model.specs.Schedules.{StepItem, InOrder, Drawn}
 use Rattle.schedule_model.specs.Limits.{steps_together}
 use Rattle.script.specs.declared.refusals.ScriptCause.{ScriptCause}
 use Rattle.script.specs.declared.refusals.ScriptCause.TheVariants.{Count, Number, Range, Many}
+use Rattle.script.specs.declared.items.OnTimes.{OnTimes}
 use Rattle.script.specs.Results.{◌>>=◌, each}
 use Rattle.script.specs.Words.{number, two}
 use Rattle.script.specs.Parts.{Timeline, event_count}
@@ -19,11 +20,6 @@ times_of front word = if length front == length word then Some 1 else value_in 1
 
 abbrev pub are_times : ℕ → Bool
 are_times times = nat_le 1 times && nat_le times 1000000
-
--- an on-time, and how often it comes
-pub record OnTimes : Type 0 where
-  pub time : ℕ
-  pub times : ℕ
 
 abbrev pub on_times_within : Option ℕ → Option ℕ → Result OnTimes ScriptCause
 on_times_within (Some time) (Some times) =

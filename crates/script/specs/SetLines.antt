@@ -1,5 +1,5 @@
 -- The lines of the task set, by what each makes of the set so far. This project's own.
-use Rattle.std.specs.Prelude.{ℕ, ◌^◌, ◌%◌, ◌==◌, List, [], ◌∷◌, ◌++◌, length, map, replicate, Result, Ok, Err, if◌then◌else◌}
+use Rattle.std.specs.Prelude.{ℕ, ◌^◌, ◌%◌, ◌==◌, List, [], ◌∷◌, ◌++◌, length, replicate, Result, Ok, Err, if◌then◌else◌}
 use Rattle.set_model.specs.Sets.{TaskSet}
 use Rattle.script.specs.declared.refusals.ScriptCause.{ScriptCause}
 use Rattle.script.specs.declared.refusals.ScriptCause.TheVariants.{Count, Range, Many}
@@ -44,7 +44,7 @@ first_values size words =
 unfoldable pub object_after : TaskSet → List (List ℕ) → Result TaskSet ScriptCause
 object_after set words = do
   word ← three words
-  name ← new_name (map (λ o. o.name) set.objects) word.0
+  name ← new_name (λ o. o.name) set.objects word.0
   size ← number 1 64 word.1
   slots ← number 2 8 word.2
   first ← first_values size word.3
@@ -55,7 +55,7 @@ object_after set words = do
 unfoldable pub task_after : TaskSet → List (List ℕ) → Result TaskSet ScriptCause
 task_after set words = do
   word ← two words
-  program ← known_name (map (λ p. p.name) set.programs) word.0
+  program ← known_name (λ p. p.name) set.programs word.0
   arg ← value word.1
   if length set.tasks == set.records then Err Many
       else Ok (record set { tasks = set.tasks ++ record { program = program; arg = arg } ∷ [] })

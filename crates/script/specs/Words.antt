@@ -41,24 +41,24 @@ abbrev pub three : List (List ℕ) → Result (List ℕ × List ℕ × List ℕ 
 three (a ∷ b ∷ c ∷ words) = Ok (a, b, c, words)
 three _ = Err Count
 
--- where a name stands among names
-abbrev pub place_of : List ℕ → List (List ℕ) → Option ℕ
-place_of name names = position (λ other. pointwise nat_eq other name) names
+-- where the first of some things stands that has this name
+abbrev pub place_of : {X : Type 0} → (X → List ℕ) → List ℕ → List X → Option ℕ
+place_of name_of name things = position (λ thing. pointwise nat_eq (name_of thing) name) things
 
--- a name that none of these is
-abbrev pub new_name : List (List ℕ) → List ℕ → Result (List ℕ) ScriptCause
-new_name names word =
+-- a name that none of these things has
+abbrev pub new_name : {X : Type 0} → (X → List ℕ) → List X → List ℕ → Result (List ℕ) ScriptCause
+new_name name_of things word =
     if not (is_name word) then Err Name
-    else if is_some (place_of word names) then Err Twice
+    else if is_some (place_of name_of word things) then Err Twice
     else Ok word
 
 abbrev pub known : Option ℕ → Result ℕ ScriptCause
 known None = Err Unknown
 known (Some place) = Ok place
 
--- where a name stands that is one of these
-abbrev pub known_name : List (List ℕ) → List ℕ → Result ℕ ScriptCause
-known_name names word = if not (is_name word) then Err Name else known (place_of word names)
+-- where a thing of this name stands
+abbrev pub known_name : {X : Type 0} → (X → List ℕ) → List X → List ℕ → Result ℕ ScriptCause
+known_name name_of things word = if not (is_name word) then Err Name else known (place_of name_of word things)
 
 -- a line may stand where it comes
 abbrev pub allowed : Option Stage → Stage → Result Stage ScriptCause

@@ -1,6 +1,6 @@
 //! What the words of a line say, one by one.
 
-ghost use Rattle.std.specs.Prelude.{◌≡◌};
+ghost use Rattle.std.specs.Prelude.{◌≡◌, ◌≤◌, IfOk};
 ghost use Rattle.plain_text.specs.Left.{words_left};
 ghost use Rattle.script.specs.Answers.{Gives};
 ghost use Rattle.script.specs.Results.{each};
@@ -12,7 +12,8 @@ use plain_text::{Words, number_in, word_value};
 
 /// A number within its limits.
 pub(crate) fn number(low: u32, high: u32, word: &[u8]) -> Result<u32, LineRefusal>
-    ensures { Gives (λ n. n) result (number_word low high word.now) }
+    ensures exact { Gives (λ n. n) result (number_word low high word.now) }
+    ensures within { IfOk result (λ n. (low ≤ n) × (n ≤ high)) }
 {
     Ok(number_in(low, high, word)?)
 }

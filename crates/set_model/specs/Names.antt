@@ -1,19 +1,10 @@
 -- The names in a task set. This project's own.
-use Rattle.std.specs.Prelude.{◌≡◌, ◌≢◌, ℕ, List, [], ◌∷◌, Bool, false, ◌||◌, ◌==◌, map, length, get_or}
-use Rattle.std.specs.Char.{is_ascii_alphanumeric, is_ascii_digit}
-use Rattle.std.specs.List.{AllByRecursion, AllPass}
+use Rattle.std.specs.Prelude.{◌≢◌, ℕ, List, [], ◌∷◌, map}
+use Rattle.std.specs.List.{AllByRecursion}
 use Rattle.set_model.specs.Sets.{TaskSet}
-use Rattle.set_model.specs.Limits.{IsWithin}
 
--- a letter, a digit or `_`
-abbrev pub is_name_byte : ℕ → Bool
-is_name_byte b = is_ascii_alphanumeric b || b == 95
-
--- 1 to 16 letters, digits or `_`, of which the first is no digit
-pub record IsName (name : List ℕ) : Type 0 where
-  pub size : IsWithin 1 16 (length name)
-  pub bytes : AllPass is_name_byte name
-  pub first : is_ascii_digit (get_or name 0 0) ≡ false
+-- what a name is
+pub use Rattle.plain_text.specs.Names.{IsName, is_name_byte}
 
 -- none is the same as a later one
 abbrev pub AreDistinct : List (List ℕ) → Type 0

@@ -9,11 +9,6 @@ use Rattle.set_model.specs.Limits.{IsWithin}
 use Rattle.set_model.specs.Names.{AreDistinct, AreNames, IsName, is_name_byte}
 use Rattle.task_set.proofs.WordFacts.{all_with, all_last}
 
-pub name_by_bytes : (name : List ℕ) (b : Bool) → b ≡ list_all is_name_byte name → IsWithin 1 16 (length name) → is_ascii_digit (get_or name 0 0) ≡ false
-    → MatchBool b (IsName name) (IsName name → ⊥)
-name_by_bytes name true e w d = record { size = w; bytes = AllPass-from_list_all is_name_byte name (sym e); first = d }
-name_by_bytes name false e w d = λ h. let f : false ≡ true = e ∙ list_all-from_AllPass is_name_byte name h.bytes in cc
-
 distinct_with : (xs : List (List ℕ)) (y : List ℕ) → AreDistinct xs → AllByRecursion (λ x. x ≢ y) xs → AreDistinct (xs ++ y ∷ [])
 distinct_with [] y d h = (tt, tt)
 distinct_with (x ∷ xs) y d h = (all_with (λ later. x ≢ later) xs y d.0 h.0, distinct_with xs y d.1 h.1)

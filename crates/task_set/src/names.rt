@@ -1,29 +1,13 @@
 //! What names look like, and that each is given once.
 
 ghost use Rattle.std.specs.Prelude.{◌≡◌, ◌++◌, ◌∷◌, [], IfOk, MatchBool, map};
-ghost use Rattle.std.specs.List.{list_all};
-ghost use Rattle.set_model.specs.Names.{AreNames, IsName, IsNamed, is_name_byte};
+ghost use Rattle.set_model.specs.Names.{AreNames, IsNamed};
 
 use crate::parts::{ObjPart, ProgPart, SetParts};
 use indexmap::IndexSet;
 use nv_base::NoMemory;
+use plain_text::is_name;
 use std::alloc::Global;
-
-fn has_name_bytes(name: &[u8]) -> bool
-    ensures { result ≡ list_all is_name_byte name.now }
-{
-    name.iter().all(|b| b.is_ascii_alphanumeric() || *b == b'_')
-}
-
-#[tactic(auto, using(crate::proofs::NameFacts::name_by_bytes))]
-fn is_name(name: &[u8]) -> bool
-    ensures { MatchBool result (IsName name.now) (IsName name.now → ⊥) }
-{
-    if name.is_empty() || 16 < name.len() {
-        return false;
-    }
-    !name[0].is_ascii_digit() && has_name_bytes(name)
-}
 
 // Takes a name that is one, and that was not taken before.
 fn take_name<'a>(taken: &mut IndexSet<&'a [u8]>, name: &'a [u8]) -> Result<bool, NoMemory>

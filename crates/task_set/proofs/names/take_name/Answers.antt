@@ -8,4 +8,4 @@ use Rattle.task_set.proofs.names.take_name.Goals as goal
 pub returns : goal.returns
 returns c =
     name_is_taken (λ a b. pointwise nat_eq a.now b.now) (λ a b. slice_eq-Decides Decides-eqb a.now b.now _ refl) c.args.taken.now.keys c.insert.new.self.keys c.args.name
-    c.in_ok-insert.field-0 c.if-not-is_name.ensures c.requires c.in_ok-insert.ensures.added c.in_ok-insert.ensures.keys
+    c.in_ok-insert.field-0 c.if-not-is_name.ensures.facts c.requires c.in_ok-insert.ensures.added c.in_ok-insert.ensures.keys

@@ -1,0 +1,11 @@
+pub mod Numbers
+pub mod Registers
+pub mod Fields
+pub mod Forms
+pub mod Operands
+pub mod Lines
+pub mod Loads
+pub mod Labels
+pub mod Assembly
+pub mod Answers
+pub mod Seen
