@@ -1,3 +1,9 @@
 pub mod NamesAsText
 pub mod Counts
 pub mod Each
+pub mod WrittenLines
+pub mod WrittenWords
+pub mod CodeLines
+pub mod NamesRead
+pub mod LinesRead
+pub mod ScriptLines
