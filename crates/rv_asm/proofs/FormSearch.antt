@@ -6,7 +6,7 @@ use Rattle.std.proofs.lemmas.Bool.{cases_Bool}
 use Rattle.std.proofs.lemmas.List.Folds.{find-append}
 use Rattle.rv_isa.specs.Names.{mnemonic_of}
 use Rattle.rv_isa.specs.declared.instruction.Instr.{Instr}
-use Rattle.rv_asm.specs.Forms.{Form, form_among, form_named, instruction_form, templates, single_templates, branch_templates, load_templates, store_templates, imm_templates, op_templates, pseudo_forms}
+use Rattle.rv_asm.specs.Forms.{Form, form_among, form_named, form_parts, instruction_form, templates, single_templates, branch_templates, load_templates, store_templates, imm_templates, op_templates, pseudo_forms}
 
 six : (p : Instr → Bool) (a b c d e f : List Instr) → find p (a ++ b ++ c ++ d ++ e ++ f)
     ≡ option_or (option_or (option_or (option_or (option_or (find p a) (find p b)) (find p c)) (find p d)) (find p e)) (find p f)
@@ -26,8 +26,8 @@ find-map p f (x ∷ xs) = elim (cases_Bool (p (f x))) [
 ]
 
 -- an instruction's own form comes first
-pub form_is : (word : List ℕ) → form_named word ≡ option_or (option_map instruction_form (find (λ i. pointwise nat_eq (mnemonic_of i) word) templates)) (form_among pseudo_forms word)
+pub form_is : (word : List ℕ) → form_named word ≡ option_map form_parts (option_or (option_map instruction_form (find (λ i. pointwise nat_eq (mnemonic_of i) word) templates)) (form_among pseudo_forms word))
 unfolding form_named
-form_is word =
-    find-append (λ (f : Form). pointwise nat_eq f.name word) (map instruction_form templates) pseudo_forms
-    ∙ ap (λ o. option_or o (form_among pseudo_forms word)) (find-map (λ (f : Form). pointwise nat_eq f.name word) instruction_form templates)
+form_is word = ap (option_map form_parts)
+    (find-append (λ (f : Form). pointwise nat_eq f.name word) (map instruction_form templates) pseudo_forms
+    ∙ ap (λ o. option_or o (form_among pseudo_forms word)) (find-map (λ (f : Form). pointwise nat_eq f.name word) instruction_form templates))

@@ -1,2 +1,9 @@
 pub mod Searches
 pub mod FormSearch
+pub mod Cuts
+pub mod Ranges
+pub mod Whole
+pub mod Passes
+pub mod Spots
+pub mod Faults
+pub mod LoadFacts

@@ -37,8 +37,8 @@ with_rs2 r i = i
 
 -- the value is the immediate or the offset
 abbrev pub with_value : ℤ → Instr → Instr
-with_value z (Lui rd imm) = Lui rd (unsigned 20 z)
-with_value z (Auipc rd imm) = Auipc rd (unsigned 20 z)
+with_value z (Lui rd imm) = Lui rd (unsigned 32 z)
+with_value z (Auipc rd imm) = Auipc rd (unsigned 32 z)
 with_value z (Jal rd offset) = Jal rd z
 with_value z (Jalr rd rs1 imm) = Jalr rd rs1 z
 with_value z (Branch op rs1 rs2 offset) = Branch op rs1 rs2 z

@@ -1,6 +1,6 @@
 -- The forms of a line: a mnemonic, its operands in order, and the instruction that they fill. This project's own;
 -- the pseudo forms after the RISC-V unprivileged ISA manual, chapter "RISC-V Assembly Programmer's Handbook".
-use Rattle.std.specs.Prelude.{ℕ, ℤ, pos, negsuc, List, [], ◌∷◌, ◌++◌, Option, find, map, nat_eq, codes}
+use Rattle.std.specs.Prelude.{ℕ, ℤ, pos, negsuc, List, [], ◌∷◌, ◌++◌, Option, find, map, option_map, nat_eq, codes}
 use Rattle.std.specs.Cmp.Lexicographic.{pointwise}
 use Rattle.rv_isa.specs.Names.{mnemonic_of}
 use Rattle.rv_isa.specs.Texts.{operands_of}
@@ -93,6 +93,10 @@ forms = map instruction_form templates ++ pseudo_forms
 abbrev pub form_among : List Form → List ℕ → Option Form
 form_among among word = find (λ f. pointwise nat_eq f.name word) among
 
--- the form of a mnemonic
-unfoldable pub form_named : List ℕ → Option Form
-form_named word = form_among forms word
+-- the operands and the template of a form
+abbrev pub form_parts : Form → List Operand × Instr
+form_parts f = (f.operands, f.template)
+
+-- the operands and the template of a mnemonic
+unfoldable pub form_named : List ℕ → Option (List Operand × Instr)
+form_named word = option_map form_parts (form_among forms word)

@@ -9,3 +9,5 @@ pub mod Labels
 pub mod Assembly
 pub mod Answers
 pub mod Seen
+pub mod Found
+pub mod Laws

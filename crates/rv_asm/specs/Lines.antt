@@ -1,17 +1,19 @@
 -- What a line says, before labels are known. This project's own.
-use Rattle.std.specs.Prelude.{ℕ, ◌==◌, ℤ, List, [], ◌∷◌, Option, Some, None, Result, Ok, Err, if◌then◌else◌, nat_eq, codes}
+use Rattle.std.specs.Prelude.{ℕ, ◌==◌, ℤ, List, Option, Some, None, Result, Ok, Err, if◌then◌else◌, nat_eq, codes}
 use Rattle.std.specs.Cmp.Lexicographic.{pointwise}
 use Rattle.std.specs.List.{before_first}
 use Rattle.std.specs.Option.{ok_or}
 use Rattle.plain_text.specs.Words.{word_and_rest}
 use Rattle.plain_text.specs.Names.{is_name}
+use Rattle.rv_isa.specs.declared.syntax.Operand.{Operand}
+use Rattle.rv_isa.specs.declared.instruction.Instr.{Instr}
 use Rattle.rv_isa.specs.declared.instruction.Reg.{Reg}
 use Rattle.rv_asm.specs.declared.cause.AsmCause.{AsmCause}
-use Rattle.rv_asm.specs.declared.cause.AsmCause.TheVariants.{Mnemonic, Operand}
+use Rattle.rv_asm.specs.declared.cause.AsmCause.TheVariants.{Mnemonic, Operand as BadOperand}
 use Rattle.rv_asm.specs.Numbers.{number_of}
 use Rattle.rv_asm.specs.Registers.{register_of}
-use Rattle.rv_asm.specs.Operands.{◌>>=◌, Absent, Open, opened, before_end, operand_in, filled, pieces_of}
-use Rattle.rv_asm.specs.Forms.{Form, form_named}
+use Rattle.rv_asm.specs.Operands.{◌>>=◌, Absent, Open, opened, before_end, operand_in, filled, pieces_of, two_from}
+use Rattle.rv_asm.specs.Forms.{form_named}
 
 pub data Body : Type 0 where
   Nothing : Body
@@ -25,9 +27,9 @@ pub record Line : Type 0 where
   pub label : Option (List ℕ)
   pub body : Result Body AsmCause
 
-abbrev pub instruction_in : Form → List ℕ → Option Body
-instruction_in form text = do
-  o ← filled form.operands (pieces_of text) (opened form.template Absent)
+abbrev pub instruction_in : List Operand → Instr → List ℕ → Option Body
+instruction_in operands template text = do
+  o ← filled operands (pieces_of text) (opened template Absent)
   Some (Instruction o)
 
 abbrev pub word_in : List ℕ → Option Body
@@ -36,30 +38,25 @@ word_in text = do
   z ← number_of word
   Some (Word z)
 
-abbrev load_from : List (List ℕ) → Option Body
-load_from (first ∷ second ∷ []) = do
-  register ← operand_in first
-  number ← operand_in second
-  rd ← register_of register
-  z ← number_of number
-  Some (Load rd z)
-load_from _ = None
-
 abbrev pub load_in : List ℕ → Option Body
-load_in text = load_from (pieces_of text)
+load_in text = do
+  w ← two_from (pieces_of text)
+  rd ← register_of w.0
+  z ← number_of w.1
+  Some (Load rd z)
 
-abbrev by_form : Option Form → List ℕ → Result Body AsmCause
+abbrev pub by_form : Option (List Operand × Instr) → List ℕ → Result Body AsmCause
 by_form None text = Err Mnemonic
-by_form (Some form) text = ok_or (instruction_in form text) Operand
+by_form (Some form) text = ok_or (instruction_in form.0 form.1 text) BadOperand
 
 -- a mnemonic with what stands after it
 abbrev pub body_of : List ℕ → List ℕ → Result Body AsmCause
 body_of mnemonic text =
-    if pointwise nat_eq mnemonic (codes "li") then ok_or (load_in text) Operand
-    else if pointwise nat_eq mnemonic (codes ".word") then ok_or (word_in text) Operand
+    if pointwise nat_eq mnemonic (codes "li") then ok_or (load_in text) BadOperand
+    else if pointwise nat_eq mnemonic (codes ".word") then ok_or (word_in text) BadOperand
     else by_form (form_named mnemonic) text
 
-abbrev by_words : Option (List ℕ × List ℕ) → Result Body AsmCause
+abbrev pub by_words : Option (List ℕ × List ℕ) → Result Body AsmCause
 by_words None = Ok Nothing
 by_words (Some w) = body_of w.0 w.1
 
@@ -73,11 +70,11 @@ abbrev pub labelled : List ℕ → List ℕ → Line
 labelled name rest = if is_name name then line (Some name) (body_in rest) else line None (Err Mnemonic)
 
 -- a label is a word of its own that ends in a colon
-abbrev by_label : Option (List ℕ) → List ℕ → List ℕ → Line
+abbrev pub by_label : Option (List ℕ) → List ℕ → List ℕ → Line
 by_label None text rest = line None (body_in text)
 by_label (Some name) text rest = labelled name rest
 
-abbrev by_first_word : List ℕ → Option (List ℕ × List ℕ) → Line
+abbrev pub by_first_word : List ℕ → Option (List ℕ × List ℕ) → Line
 by_first_word text None = line None (Ok Nothing)
 by_first_word text (Some w) = by_label (before_end 58 w.0) text w.1
 

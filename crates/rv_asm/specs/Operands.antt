@@ -79,6 +79,22 @@ filled (operand ∷ operands) (piece ∷ pieces) o = do
   next ← fill operand word o
   filled operands pieces next
 
--- what stands between commas; nothing where there is no word at all
+-- what stands between commas
+abbrev pub pieces_left : Option (List ℕ) → List (List ℕ)
+pieces_left None = []
+pieces_left (Some text) = slice_split comma text
+
+-- a text, where it has a word
+abbrev pub worded : List ℕ → Option (List ℕ)
+worded text = if length (words_in text) == 0 then None else Some text
+
 abbrev pub pieces_of : List ℕ → List (List ℕ)
-pieces_of text = if length (words_in text) == 0 then [] else slice_split comma text
+pieces_of text = pieces_left (worded text)
+
+-- the operands of two pieces
+abbrev pub two_from : List (List ℕ) → Option (List ℕ × List ℕ)
+two_from (first ∷ second ∷ []) = do
+  a ← operand_in first
+  b ← operand_in second
+  Some (a, b)
+two_from _ = None

@@ -30,7 +30,10 @@ pub fn with_rs1(rs1: Reg, instr: Instr) -> Instr
     match instr {
         Instr::Jalr { rd, imm, .. } => Instr::Jalr { rd, rs1, imm },
         Instr::Branch {
-            op, rs2, offset, ..
+            op,
+            rs2,
+            offset,
+            ..
         } => Instr::Branch {
             op,
             rs1,
@@ -56,7 +59,10 @@ pub fn with_rs2(rs2: Reg, instr: Instr) -> Instr
 {
     match instr {
         Instr::Branch {
-            op, rs1, offset, ..
+            op,
+            rs1,
+            offset,
+            ..
         } => Instr::Branch {
             op,
             rs1,

@@ -1,10 +1,11 @@
 //! The forms of a line: mnemonics with their operands.
 
-ghost use Rattle.std.specs.Prelude.{◌≡◌, option_map, find, nat_eq};
+ghost use Rattle.std.specs.Prelude.{◌≡◌, option_map, find, nat_eq, pos};
 ghost use Rattle.std.specs.Cmp.Lexicographic.{pointwise};
 ghost use Rattle.rv_isa.specs.Names.{mnemonic_of};
-ghost use Rattle.rv_asm.specs.Forms.{branch_template as branch_row, branch_templates, form_among, form_named as named, imm_template as imm_row, imm_templates, load_template as load_row, load_templates, op_template as op_row, op_templates, pseudo_forms, single_templates, store_template as store_row, store_templates, templates};
-ghost use Rattle.rv_asm.specs.Seen.{form_parts, form_seen};
+ghost use Rattle.rv_isa.specs.declared.instruction.Instr.TheVariants.{Jalr};
+ghost use Rattle.rv_asm.specs.Forms.{branch_template as branch_row, branch_templates, form_among, form_named as named, form_parts, imm_template as imm_row, imm_templates, load_template as load_row, load_templates, op_template as op_row, op_templates, pseudo_forms, single_templates, store_template as store_row, store_templates, templates};
+ghost use Rattle.rv_asm.specs.Seen.{form_seen};
 
 use rv_isa::{BranchOp, ImmOp, Instr, LoadOp, Operand, Reg, RegOp, StoreOp, mnemonic, operands};
 
@@ -140,7 +141,10 @@ fn op_template(op: RegOp) -> Instr
 fn single_named(word: &[u8]) -> Option<Instr>
     ensures { result ≡ find (λ i. pointwise nat_eq (mnemonic_of i) word.now) single_templates }
 {
-    SINGLES.iter().copied().find(|i| mnemonic(*i).as_bytes() == word)
+    SINGLES
+        .iter()
+        .copied()
+        .find(|i| mnemonic(*i).as_bytes() == word)
 }
 
 #[tactic(auto, unfolding(crate::specs::Forms::branch_templates))]
@@ -223,6 +227,16 @@ fn make_form(operands: &'static [Operand], template: Instr) -> Form
     Form { operands, template }
 }
 
+fn indirect_jump(rs1: Reg) -> Instr
+    ensures { result ≡ Jalr (record { 0 = 0 }) rs1 (pos 0) }
+{
+    Instr::Jalr {
+        rd: X0,
+        rs1,
+        imm: 0,
+    }
+}
+
 #[tactic(auto, unfolding(crate::specs::Forms::pseudo_forms))]
 fn pseudo_form(word: &[u8]) -> Option<Form>
     ensures { option_map form_seen result ≡ option_map form_parts (form_among pseudo_forms word.now) }
@@ -232,19 +246,33 @@ fn pseudo_form(word: &[u8]) -> Option<Form>
     } else if word == b"mv".as_slice() {
         Some(make_form(&[Operand::Rd, Operand::Rs1], imm_template(ImmOp::Addi)))
     } else if word == b"not".as_slice() {
-        Some(make_form(&[Operand::Rd, Operand::Rs1], Instr::OpImm { op: ImmOp::Xori, rd: X0, rs1: X0, imm: -1 }))
+        Some(make_form(
+            &[Operand::Rd, Operand::Rs1],
+            Instr::OpImm {
+                op: ImmOp::Xori,
+                rd: X0,
+                rs1: X0,
+                imm: -1,
+            },
+        ))
     } else if word == b"neg".as_slice() {
         Some(make_form(&[Operand::Rd, Operand::Rs2], op_template(RegOp::Sub)))
     } else if word == b"j".as_slice() {
         Some(make_form(&[Operand::Target], Instr::Jal { rd: X0, offset: 0 }))
     } else if word == b"jr".as_slice() {
-        Some(make_form(&[Operand::Rs1], Instr::Jalr { rd: X0, rs1: X0, imm: 0 }))
+        Some(make_form(&[Operand::Rs1], indirect_jump(X0)))
     } else if word == b"ret".as_slice() {
-        Some(make_form(&[], Instr::Jalr { rd: X0, rs1: RA, imm: 0 }))
+        Some(make_form(&[], indirect_jump(RA)))
     } else if word == b"beqz".as_slice() {
-        Some(make_form(&[Operand::Rs1, Operand::Target], branch_template(BranchOp::Beq)))
+        Some(make_form(
+            &[Operand::Rs1, Operand::Target],
+            branch_template(BranchOp::Beq),
+        ))
     } else if word == b"bnez".as_slice() {
-        Some(make_form(&[Operand::Rs1, Operand::Target], branch_template(BranchOp::Bne)))
+        Some(make_form(
+            &[Operand::Rs1, Operand::Target],
+            branch_template(BranchOp::Bne),
+        ))
     } else {
         None
     }
@@ -253,7 +281,7 @@ fn pseudo_form(word: &[u8]) -> Option<Form>
 /// The form of a mnemonic.
 #[tactic(auto, using(crate::proofs::FormSearch::form_is))]
 pub fn form_named(word: &[u8]) -> Option<Form>
-    ensures { option_map form_seen result ≡ option_map form_parts (named word.now) }
+    ensures { option_map form_seen result ≡ named word.now }
 {
     match template_named(word) {
         Some(template) => Some(make_form(operands(template), template)),

@@ -1,6 +1,6 @@
 //! Registers by their names.
 
-ghost use Rattle.std.specs.Prelude.{◌≡◌, ◌<◌, IfSome, position, option_map, nat_eq};
+ghost use Rattle.std.specs.Prelude.{◌≡◌, ◌<◌, IfSome, length, position, nat_eq};
 ghost use Rattle.std.specs.Cmp.Lexicographic.{pointwise};
 ghost use Rattle.rv_isa.specs.Names.{register_names};
 ghost use Rattle.rv_asm.specs.Registers.{numbered_names, register_among, register_of as register_in};
@@ -24,18 +24,19 @@ fn abi_register(word: &[u8]) -> Option<Reg>
     None
 }
 
-fn number_named(word: &[u8]) -> Option<usize>
-    ensures same { result ≡ position (λ name. pointwise nat_eq name.now word.now) NUMBERED_NAMES }
-    ensures small { IfSome result (λ n. n < 32) }
+fn place_among(names: &[&str], word: &[u8]) -> Option<usize>
+    ensures place { result ≡ position (λ name. pointwise nat_eq name.now word.now) names.now }
+    ensures below { IfSome result (λ place. place < length names.now) }
 {
-    NUMBERED_NAMES.iter().position(|name| name.as_bytes() == word)
+    names.iter().position(|name| name.as_bytes() == word)
 }
 
+#[tactic(auto, using(crate::proofs::Searches::same_names))]
 fn numbered_register(word: &[u8]) -> Option<Reg>
     ensures { result ≡ register_among numbered_names word.now }
 {
-    match number_named(word) {
-        Some(number) => Some(Reg(number as u8)),
+    match place_among(&NUMBERED_NAMES, word) {
+        Some(place) => Some(Reg(place as u8)),
         None => None,
     }
 }

@@ -7,3 +7,6 @@ pub mod CodeLines
 pub mod NamesRead
 pub mod LinesRead
 pub mod ScriptLines
+pub mod BodyLines
+pub mod Faults
+pub mod HexWords

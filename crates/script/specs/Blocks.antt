@@ -1,10 +1,11 @@
 -- What a block makes of the lines so far: a program. This project's own.
-use Rattle.std.specs.Prelude.{ℕ, ◌+◌, ◌*◌, ◌==◌, nat_lt, not, is_some, List, [], ◌∷◌, ◌++◌, length, map, Option, Some, None, Result, Ok, Err, if◌then◌else◌}
+use Rattle.std.specs.Prelude.{ℕ, ◌+◌, ◌*◌, ◌==◌, nat_lt, Bool, not, is_some, List, [], ◌∷◌, ◌++◌, length, map, position, Option, Some, None, Result, Ok, Err, if◌then◌else◌}
 use Rattle.plain_text.specs.Words.{is_plain, words_of}
 use Rattle.plain_text.specs.Numbers.{value_in}
-use Rattle.set_model.specs.Sets.{TaskSet}
+use Rattle.rv_asm.specs.Assembly.{assembled}
+use Rattle.rv_asm.specs.declared.cause.AsmError.{AsmError}
 use Rattle.script.specs.declared.refusals.ScriptCause.{ScriptCause}
-use Rattle.script.specs.declared.refusals.ScriptCause.TheVariants.{Byte, Word, Count, Number, Many, End}
+use Rattle.script.specs.declared.refusals.ScriptCause.TheVariants.{Byte, Word, Count, Number, Code, Many, End}
 use Rattle.script.specs.declared.refusals.ScriptError.{ScriptError}
 use Rattle.script.specs.declared.keyword.BlockKind.{BlockKind}
 use Rattle.script.specs.declared.keyword.BlockKind.TheVariants as blocks
@@ -42,14 +43,20 @@ or_number (Some n) = Ok n
 abbrev pub code_word : List ℕ → Result ℕ ScriptCause
 code_word word = or_number (hex_word word)
 
--- the words of a line of a `code` block, behind the code so far
+-- the code so far, with the words of a line behind it
+abbrev pub with_words : List ℕ → List (List ℕ) → Result (List ℕ) ScriptCause
+with_words code words = do
+  more ← each code_word words
+  Ok (code ++ more)
+
+-- a line of a `code` block, behind the code so far
 unfoldable pub code_after : List ℕ → List (List ℕ) → Result (List ℕ) ScriptCause
 code_after code [] = Ok code
 code_after code (first ∷ words) =
     if not (is_some (hex_word first)) then Err Word
     else do
-      more ← each code_word (first ∷ words)
-      if nat_lt 1024 (length code + length more) then Err Many else Ok (code ++ more)
+      all ← with_words code (first ∷ words)
+      if nat_lt 1024 (length all) then Err Many else Ok all
 
 abbrev pub code_line_after : List ℕ → List ℕ → Result (List ℕ) ScriptCause
 code_line_after code line = if is_plain line then code_after code (words_of line) else Err Byte
@@ -61,12 +68,41 @@ code_lines_after n code (line ∷ lines) = do
   more ← at n (code_line_after code line)
   code_lines_after (n + 1) more lines
 
+-- a line with a byte that is not allowed is empty for the assembler
+abbrev pub or_empty : List ℕ → List ℕ
+or_empty line = if is_plain line then line else []
+
+abbrev pub is_bad : List ℕ → Bool
+is_bad line = not (is_plain line)
+
+abbrev pub fault_at : ℕ → AsmError → ScriptError
+fault_at n e = record { line = n + e.line; cause = Code e.cause }
+
+abbrev pub bad_at : ℕ → ℕ → ScriptError
+bad_at n place = record { line = n + 1 + place; cause = Byte }
+
+-- The first line is n, and the assembler counts its lines from 1. Of the first line with a byte that is not allowed
+-- and the assembler's first fault the earlier one counts.
+abbrev pub earlier : ℕ → Option ℕ → Result (List ℕ) AsmError → Result (List ℕ) ScriptError
+earlier n None (Ok code) = Ok code
+earlier n None (Err e) = Err (fault_at n e)
+earlier n (Some place) (Ok code) = Err (bad_at n place)
+earlier n (Some place) (Err e) = if nat_lt e.line (place + 1) then Err (fault_at n e) else Err (bad_at n place)
+
+-- the lines of a `program` block, whose first line is n
+abbrev pub program_code : ℕ → List (List ℕ) → Result (List ℕ) ScriptError
+program_code n body = earlier n (position is_bad body) (assembled (map or_empty body))
+
+abbrev pub code_of : BlockKind → ℕ → List (List ℕ) → Result (List ℕ) ScriptError
+code_of blocks.Program n body = program_code n body
+code_of blocks.Code n body = code_lines_after (n + 1) [] body
+
 -- the `end` line stands, and has no other word
-abbrev pub is_ended : Option (List ℕ) → Result (List (List ℕ)) ScriptCause
+abbrev pub is_ended : Option (List ℕ) → Result (List ℕ) ScriptCause
 is_ended None = Err End
 is_ended (Some line) =
     if not (is_plain line) then Err Byte
-    else if length (words_of line) == 1 then Ok (words_of line)
+    else if length (words_of line) == 1 then Ok line
     else Err Count
 
 abbrev pub with_program : Parts → Header → List ℕ → Parts
@@ -80,3 +116,10 @@ unfoldable pub program_after : Parts → Header → List ℕ → Option (List �
 program_after p header code end = do
   line ← is_ended end
   if nat_lt p.set.memory (4 * length code) then Err Many else Ok (with_program p header code)
+
+-- a block whose first line is n
+unfoldable pub block_after : ℕ → Parts → BlockKind → List (List ℕ) → List (List ℕ) → Option (List ℕ) → Result Parts ScriptError
+block_after n p kind words body end = do
+  header ← at n (header_of p words)
+  code ← code_of kind n body
+  at (n + 1 + length body) (program_after p header code end)

@@ -8,5 +8,8 @@ pub mod ScheduleLines
 pub mod Lines
 pub mod Sections
 pub mod Blocks
-pub mod Answers
+pub mod Reading
 pub mod ScriptText
+-- How the code meets them.
+pub mod Answers
+pub mod Views

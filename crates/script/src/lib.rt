@@ -1,16 +1,21 @@
 //! Scripts as a user writes them.
 #![tactic(auto)]
 
+mod block;
 mod draft;
 mod items;
 mod keyword;
+mod program;
+mod reading;
 mod refusals;
+mod section;
 mod set_lines;
 mod set_text;
 mod timeline;
 mod words;
 
 pub use keyword::{BlockKind, Keyword, Stage};
+pub use reading::Script;
 pub use refusals::{ScriptCause, ScriptError, ScriptRefusal};
 pub use set_text::script_text;
 

@@ -2,10 +2,12 @@
 
 ghost use Rattle.std.specs.Prelude.{◌≡◌};
 ghost use Rattle.script.specs.declared.refusals.LineRefusal.TheVariants.{Memory, Fault};
+ghost use Rattle.script.specs.declared.refusals.ScriptRefusal.TheVariants.{NoMemory as ScriptNoMemory};
 ghost use Rattle.script.specs.Words.{cause_of};
 
 use nv_base::NoMemory;
 use plain_text::NumberFault;
+use rv_asm::AsmCause;
 use std::alloc::{AllocError, AllocFailed};
 
 /// What is wrong with a line. This project's own, in the order of their numbers, from 1.
@@ -29,6 +31,8 @@ pub enum ScriptCause {
     Number,
     /// A number is out of its limit.
     Range,
+    /// The assembler refuses the line.
+    Code(AsmCause),
     /// There is one more of something than there may be.
     Many,
     /// The input ends too early: told of the line behind the last one.
@@ -58,6 +62,20 @@ pub enum ScriptRefusal {
 pub(crate) enum LineRefusal {
     Fault(ScriptCause),
     Memory,
+}
+
+impl LineRefusal {
+    ghost use Rattle.script.specs.Answers.{refusal_at};
+
+    /// The refusal of line `n`.
+    pub(crate) fn at(self, n: u32) -> ScriptRefusal
+        ensures { result ≡ refusal_at n self }
+    {
+        match self {
+            LineRefusal::Fault(cause) => ScriptRefusal::At(ScriptError { line: n, cause }),
+            LineRefusal::Memory => ScriptRefusal::NoMemory,
+        }
+    }
 }
 
 impl From<NumberFault> for LineRefusal {
@@ -92,5 +110,21 @@ impl From<NoMemory> for LineRefusal {
 
     fn from(_error: NoMemory) -> LineRefusal {
         LineRefusal::Memory
+    }
+}
+
+impl From<AllocError> for ScriptRefusal {
+    ghost from_gives = { λ _ e. e ≡ ScriptNoMemory };
+
+    fn from(_error: AllocError) -> ScriptRefusal {
+        ScriptRefusal::NoMemory
+    }
+}
+
+impl From<NoMemory> for ScriptRefusal {
+    ghost from_gives = { λ _ e. e ≡ ScriptNoMemory };
+
+    fn from(_error: NoMemory) -> ScriptRefusal {
+        ScriptRefusal::NoMemory
     }
 }

@@ -26,7 +26,9 @@ fn is_same(name: &[u8], other: &[u8]) -> bool
 fn object_place(objects: &[ObjPart], name: &[u8]) -> Option<usize>
     ensures { result ≡ place_of (λ o. o.name) name.now objects.now }
 {
-    objects.iter().position(|o| is_same(o.name.as_slice(), name))
+    objects
+        .iter()
+        .position(|o| is_same(o.name.as_slice(), name))
 }
 
 /// Where a program of this name stands. None where no program has it.
@@ -35,7 +37,9 @@ fn program_place(programs: &[ProgPart], name: &[u8]) -> Option<usize>
     ensures place { result ≡ place_of (λ p. p.name) name.now programs.now }
     ensures within { IfSome result (λ place. place < length programs.now) }
 {
-    programs.iter().position(|p| is_same(p.name.as_slice(), name))
+    programs
+        .iter()
+        .position(|p| is_same(p.name.as_slice(), name))
 }
 
 /// `nvk 1`.

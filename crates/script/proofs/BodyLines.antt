@@ -1,0 +1,53 @@
+-- The lines of a block, as they are gone over.
+use Rattle.std.proofs.Common.{◌≡◌, ℕ, suc, zero, ◌+◌, ◌<◌, ◌≤◌, Bool, true, false, List, [], ◌∷◌, length, get_or, take, drop, map, not, None, Bor, refl, sym, ap, ◌∙◌, arith, add-one, inl, inr, cond}
+use Rattle.std.specs.List.{position, position_or_len}
+use Rattle.std.proofs.lemmas.Bool.{cases_lt, lt-ltb}
+use Rattle.std.proofs.lemmas.List.{length-map, drop_all}
+use Rattle.plain_text.specs.Words.{is_plain}
+use Rattle.script.specs.Blocks.{is_bad, or_empty}
+
+abbrev now : Bor (List ℕ) → List ℕ
+now line = line.now
+
+next : (xs : List (Bor (List ℕ))) (i : ℕ) (d : Bor (List ℕ)) → i < length xs → map now (drop i xs) ≡ (get_or xs i d).now ∷ map now (drop (suc i) xs)
+next [] i d h = absurd (omega arith)
+next (x ∷ xs) zero d h = refl
+next (x ∷ xs) (suc i) d h = next xs i d (omega arith)
+
+pub lines_next : (xs : List (Bor (List ℕ))) (i : ℕ) (d : Bor (List ℕ)) → i < length xs
+    → map (λ line. line.now) (drop i xs) ≡ (get_or xs i d).now ∷ map (λ line. line.now) (drop (i + 1) xs)
+lines_next xs i d h = rw add-one (next xs i d h)
+
+pub lines_over : (xs : List (Bor (List ℕ))) (i : ℕ) → length xs ≤ i → map (λ line. line.now) (drop i xs) ≡ []
+lines_over xs i h = ap (λ (ys : List (Bor (List ℕ))). map now ys) (drop_all i xs h)
+
+place-map : {X Y : Type 0} (p : Y → Bool) (f : X → Y) (xs : List X) → position_or_len p (map f xs) ≡ position_or_len (λ x. p (f x)) xs
+place-map p f [] = refl
+place-map p f (x ∷ xs) = rw (place-map p f xs) refl
+
+pub position_map : (p : List ℕ → Bool) (xs : List (Bor (List ℕ))) → position p (map (λ line. line.now) xs) ≡ position (λ line. p line.now) xs
+position_map p xs = rw (place-map p now xs, length-map) refl
+
+nowhere : {X : Type 0} (p : X → Bool) (xs : List X) → position p xs ≡ None → length xs ≤ position_or_len p xs
+nowhere p xs e = elim (cases_lt (position_or_len p xs) (length xs)) [
+  | inl lt ↦ absurd (let t = lt-ltb _ _ lt in grind arith)
+  | inr le ↦ le
+]
+
+step : (v : Bool) (n m : ℕ) → suc n ≤ cond (not (not v)) (1 + m) 0 → (v ≡ true) × (n ≤ m)
+step true n m le = (refl, omega arith)
+step false n m le = absurd (omega arith)
+
+each_plain : (xs : List (List ℕ)) → length xs ≤ position_or_len is_bad xs → map or_empty xs ≡ xs
+each_plain [] le = refl
+each_plain (x ∷ xs) le =
+    let s = step (is_plain x) (length xs) (position_or_len is_bad xs) le in
+    rw (s.0, each_plain xs s.1) refl
+
+-- lines without a byte that is not allowed stay as they are
+pub all_plain : (xs : List (List ℕ)) → position is_bad xs ≡ None → map or_empty xs ≡ xs
+all_plain xs e = each_plain xs (nowhere is_bad xs e)
+
+pub or_empty_map : (xs : List (Bor (List ℕ))) → map (λ line. or_empty line.now) xs ≡ map or_empty (map (λ line. line.now) xs)
+or_empty_map [] = refl
+or_empty_map (x ∷ xs) = ap (λ (ys : List (List ℕ)). or_empty x.now ∷ ys) (or_empty_map xs)

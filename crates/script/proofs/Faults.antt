@@ -1,0 +1,25 @@
+-- The assembler's fault is on one of its lines.
+use Rattle.std.proofs.Common.{◌≡◌, ℕ, suc, ◌+◌, ◌<◌, ◌≤◌, List, [], ◌∷◌, length, map, Result, Ok, Err, Bor, refl, sym, ap, ◌∙◌, arith}
+use Rattle.std.proofs.lemmas.List.{length-map}
+use Rattle.rv_asm.specs.declared.cause.AsmCause.{AsmCause}
+use Rattle.rv_asm.specs.declared.cause.AsmError.{AsmError}
+use Rattle.rv_asm.specs.Assembly.{assembled, at, line_after, lines_after, ◌>>=◌}
+use Rattle.rv_asm.specs.Labels.{Found, labels_of}
+use Rattle.rv_asm.specs.Lines.{Line, parsed}
+
+within : (found : Found) (n : ℕ) (words : List ℕ) (ls : List Line) (e : AsmError) → lines_after found n words ls ≡ Err e → e.line < n + length ls
+unfolding lines_after
+within found n words [] e h = absurd cc
+within found n words (l ∷ ls) e h = go (line_after found n words l) h (λ more h. within found (n + 1) more ls e h)
+  where
+    go : (r : Result (List ℕ) AsmCause) → (at n r >>= λ more. lines_after found (n + 1) more ls) ≡ Err e
+        → ((more : List ℕ) → lines_after found (n + 1) more ls ≡ Err e → e.line < n + 1 + length ls) → e.line < n + suc (length ls)
+    go (Ok more) h later = omega (arith, later more h)
+    go (Err cause) h later =
+        let same : record { line = n; cause = cause } ≡ e = cc in
+        omega (arith, ap (λ (e : AsmError). e.line) same)
+
+pub fault_small : (lines : List (Bor (List ℕ))) (e : AsmError) → assembled (map (λ line. line.now) lines) ≡ Err e → e.line ≤ length lines
+fault_small lines e h =
+    let texts : List (List ℕ) = map (λ line. line.now) lines in
+    omega (arith, within (labels_of (map parsed texts)) 1 [] (map parsed texts) e h, length-map texts parsed, length-map lines (λ (line : Bor (List ℕ)). line.now))
