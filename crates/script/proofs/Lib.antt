@@ -10,3 +10,5 @@ pub mod ScriptLines
 pub mod BodyLines
 pub mod Faults
 pub mod HexWords
+pub mod ScriptSections
+pub mod SetRead

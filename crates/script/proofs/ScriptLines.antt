@@ -60,7 +60,7 @@ object_joined o =
           ∙ ap (λ (v : List ℕ). o.name ++ ((32 ∷ decimal o.size) ++ ((32 ∷ decimal o.slots) ++ v))) (values_text o.first) in
     ap (λ (t : List ℕ). codes "object " ++ (t ++ 10 ∷ [])) values
 
-code_joined : (ws : List ℕ) → flat_map code_text ws ≡ joined (map text_of ws)
+pub code_joined : (ws : List ℕ) → flat_map code_text ws ≡ joined (map text_of ws)
 code_joined [] = refl
 code_joined (w ∷ ws) = ap (λ (more : List ℕ). (text_of w ++ 10 ∷ []) ++ more) (code_joined ws)
 

@@ -1,11 +1,12 @@
 -- A task set as a script: its lines in their order, one space between words, numbers in decimal, all first values
 -- written, programs as assembler text, and no schedule. This project's own.
-use Rattle.std.specs.Prelude.{ℕ, List, ◌++◌, codes}
+use Rattle.std.specs.Prelude.{ℕ, List, [], ◌++◌, codes}
 use Rattle.std.specs.List.{flat_map}
 use Rattle.std.specs.Fmt.{decimal}
 use Rattle.kernel_model.specs.Effects.{Spawn}
 use Rattle.set_model.specs.Sets.{ObjectPart, ProgramPart, TaskSet, program_at}
 use Rattle.rv_isa.specs.Texts.{text_of}
+use Rattle.script.specs.Parts.{Script}
 
 -- a number as a word, behind what stands before it
 abbrev pub field : List ℕ → ℕ → List ℕ
@@ -35,3 +36,7 @@ unfoldable pub script_text : TaskSet → List ℕ
 script_text set =
     codes "nvk 1\n" ++ number_text (codes "cores ") set.cores ++ number_text (codes "memory ") set.memory ++ number_text (codes "records ") set.records ++
     flat_map object_text set.objects ++ flat_map program_text set.programs ++ flat_map (task_text set) set.tasks ++ codes "run\n"
+
+-- a set as a script without a schedule, whose `cores` line is the second
+abbrev pub unscheduled : TaskSet → Script
+unscheduled set = record { set = set; schedule = record { cores = set.cores; items = []; on_times = [] }; cores_line = 2 }
