@@ -7,3 +7,8 @@ pub mod Passes
 pub mod Spots
 pub mod Faults
 pub mod LoadFacts
+mod Tokens
+mod WrittenNumbers
+mod WrittenOperands
+mod WrittenForms
+mod WrittenLines

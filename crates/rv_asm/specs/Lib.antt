@@ -11,3 +11,4 @@ pub mod Answers
 pub mod Seen
 pub mod Found
 pub mod Laws
+pub mod Disassembly

@@ -1,8 +1,9 @@
-//! An assembler for RV32I: lines of text as words.
+//! An assembler for RV32I: lines of text as words, and back.
 #![tactic(auto)]
 
 mod assembler;
 mod cause;
+mod disassembler;
 mod fields;
 mod forms;
 mod labels;
@@ -16,9 +17,12 @@ mod words;
 
 pub use assembler::{assemble, assemble_lines};
 pub use cause::{AsmCause, AsmError, AsmRefusal};
+pub use disassembler::{disassemble, disassembled_is_assembled_back};
 pub use laws::{
     load_is_short, load_leaves_value, range_is_what_fits, refusal_is_first, words_are_few,
 };
 
+#[cfg(test)]
+mod disassembler_tests;
 #[cfg(test)]
 mod tests;

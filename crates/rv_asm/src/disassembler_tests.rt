@@ -1,0 +1,39 @@
+// A program as text and as words, both ways. The words are those of the assembler of LLVM 14.
+
+use super::*;
+use std::test::Fail;
+
+const TEXT: &str = "addi s0, a0, 0
+addi a0, zero, 0
+addi a1, zero, 512
+addi a7, zero, 1
+ecall
+lw t0, 512(zero)
+add t0, t0, s0
+sw t0, 512(zero)
+bne t0, zero, -8
+jal zero, 8
+.word 0x00000000
+fence
+.word 0x0000000f
+";
+
+const WORDS: [u32; 13] = [
+    0x00050413, 0x00000513, 0x20000593, 0x00100893, 0x00000073, 0x20002283, 0x008282b3, 0x20502023,
+    0xfe029ce3, 0x0080006f, 0x00000000, 0x0ff0000f, 0x0000000f,
+];
+
+#[test]
+fn program_is_disassembled(rt: HostRuntime) -> Result<(), Fail> {
+    assert_eq!(rt; disassemble(rt.alloc(), &WORDS)?.as_str(), TEXT);
+    assert_eq!(rt; disassemble(rt.alloc(), &[])?.as_str(), "");
+    Ok(())
+}
+
+#[test]
+fn program_is_assembled_back(rt: HostRuntime) -> Result<(), Fail> {
+    let text = disassemble(rt.alloc(), &WORDS)?;
+    let words = assemble(rt.alloc(), text.as_str());
+    assert!(rt; words.is_ok_and(|found| found.as_slice() == WORDS.as_slice()));
+    Ok(())
+}
