@@ -12,3 +12,5 @@ pub mod Faults
 pub mod HexWords
 pub mod ScriptSections
 pub mod SetRead
+pub mod TextLength
+pub mod ReadBack

@@ -11,6 +11,7 @@ mod refusals;
 mod section;
 mod set_lines;
 mod set_text;
+mod text_laws;
 mod timeline;
 mod words;
 
@@ -18,6 +19,7 @@ pub use keyword::{BlockKind, Keyword, Stage};
 pub use reading::Script;
 pub use refusals::{ScriptCause, ScriptError, ScriptRefusal};
 pub use set_text::script_text;
+pub use text_laws::script_text_is_read_back;
 
 #[cfg(test)]
 mod text_tests;
