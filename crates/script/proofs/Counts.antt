@@ -44,7 +44,7 @@ times_more all k d h = rw add-one (times_next all k d h)
 pub times_all : (all : List OnTimes) (k : ℕ) → length all ≤ k → flat_map (λ on. replicate on.times on.time) (take k all) ≡ flat_map (λ on. replicate on.times on.time) all
 times_all all k h = ap (λ (xs : List OnTimes). flat_map comes xs) (take_all k all h)
 
-times_length : (all : List OnTimes) → length (flat_map comes all) ≡ sum_by (λ on. on.times) all
+pub times_length : (all : List OnTimes) → length (flat_map comes all) ≡ sum_by (λ on. on.times) all
 times_length [] = refl
 times_length (on ∷ all) =
     omega (arith, length-append (comes on) (flat_map comes all), length-replicate on.times on.time, sum_by-cons (λ (on : OnTimes). on.times) on all, times_length all)

@@ -14,3 +14,9 @@ pub mod ScriptSections
 pub mod SetRead
 pub mod TextLength
 pub mod ReadBack
+pub mod Inversions
+pub mod Kept
+pub mod KeptLines
+pub mod KeptSections
+pub mod NewNames
+pub mod Whole

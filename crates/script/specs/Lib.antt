@@ -10,6 +10,7 @@ pub mod Sections
 pub mod Blocks
 pub mod Reading
 pub mod ScriptText
+pub mod Laws
 -- How the code meets them.
 pub mod Answers
 pub mod Views

@@ -16,7 +16,7 @@ mod timeline;
 mod words;
 
 pub use keyword::{BlockKind, Keyword, Stage};
-pub use reading::Script;
+pub use reading::{Script, read_script};
 pub use refusals::{ScriptCause, ScriptError, ScriptRefusal};
 pub use set_text::script_text;
 pub use text_laws::script_text_is_read_back;

@@ -1,20 +1,28 @@
 //! A script, from its first line to its last.
 
-ghost use Rattle.std.specs.Prelude.{◌≡◌, ◌≤◌, ◌<◌, ◌+◌, ◌^◌, length};
+ghost use Rattle.std.specs.Prelude.{◌≡◌, ◌≤◌, ◌<◌, ◌+◌, ◌^◌, length, Some, Ok};
 ghost use Rattle.std.specs.Str.Lines.{lines};
 ghost use Rattle.script.specs.Answers.{Reads, Takes};
-ghost use Rattle.script.specs.Parts.{nothing};
-ghost use Rattle.script.specs.Reading.{section_after, sections_after};
+ghost use Rattle.script.specs.declared.keyword.Stage.TheVariants.{Run};
+ghost use Rattle.script.specs.declared.refusals.ScriptRefusal.TheVariants.{At};
+ghost use Rattle.script.specs.Laws.{IsWithinLimits};
+ghost use Rattle.script.specs.Parts.{nothing, script_of};
+ghost use Rattle.script.specs.Reading.{ended, read, section_after, sections_after};
 ghost use Rattle.script.specs.Sections.{line_count, sections};
-ghost use Rattle.script.specs.Views.{section_of};
+ghost use Rattle.script.specs.Views.{script_of as script, section_of};
 
 use crate::draft::Draft;
-use crate::refusals::ScriptRefusal;
+use crate::keyword::Stage;
+use crate::refusals::{ScriptCause, ScriptError, ScriptRefusal};
 use crate::section::{Section, next_section};
 use plain_text::Lines;
 use power_trace::Schedule;
+use rv_asm::words_are_few;
 use std::alloc::Global;
-use task_set::TaskSet;
+use task_set::{SetRefusal, TaskSet};
+
+/// The most bytes that a script may have.
+const LONGEST: usize = 1_048_576;
 
 /// What a script says.
 #[derive(Drop)]
@@ -77,4 +85,58 @@ fn read_sections(alloc: Global, bytes: &[u8]) -> Result<(Draft, u32), ScriptRefu
         draft.take_section(alloc, number, section)?;
         number += count;
     }
+}
+
+/// The script that whole lines give.
+fn whole(alloc: Global, draft: Draft) -> Result<Script, ScriptRefusal>
+    requires { IsWithinLimits (script_of draft) }
+    ensures { Reads script result (Ok (script_of draft)) }
+{
+    let Draft {
+        cores_line,
+        set,
+        timeline,
+        ..
+    } = draft;
+    let schedule = timeline.schedule(alloc, set.cores)?;
+    match TaskSet::build(alloc, set) {
+        Ok(set) => Ok(Script {
+            set,
+            schedule,
+            cores_line,
+        }),
+        Err(SetRefusal::NoMemory) => Err(ScriptRefusal::NoMemory),
+        Err(SetRefusal::Limit(_) | SetRefusal::Name) => unreachable!(),
+    }
+}
+
+fn refused(line: u32, cause: ScriptCause) -> ScriptRefusal
+    ensures { result ≡ At (record { line = line; cause = cause }) }
+{
+    ScriptRefusal::At(ScriptError { line, cause })
+}
+
+/// The script, where its last line is `run`. Line `n` is behind the last one.
+fn finish(alloc: Global, draft: Draft, n: u32) -> Result<Script, ScriptRefusal>
+    requires { draft.last ≡ Some Run → IsWithinLimits (script_of draft) }
+    ensures { Reads script result (ended (n, draft)) }
+{
+    match draft.last {
+        Some(Stage::Run) => whole(alloc, draft),
+        _ => Err(refused(n, ScriptCause::End)),
+    }
+}
+
+/// Reads a script, the whole bytes: its task set, its schedule and the number of its `cores` line. `At` with the
+/// first line that is refused and its first cause, `NoMemory` where there was not memory enough.
+#[tactic(auto, unfolding(crate::specs::Reading::read))]
+pub fn read_script(alloc: Global, bytes: &[u8]) -> Result<Script, ScriptRefusal>
+    ensures { Reads script result (read bytes.now) }
+{
+    if LONGEST < bytes.len() {
+        return Err(refused(0, ScriptCause::Long));
+    }
+    let (draft, number) = read_sections(alloc, bytes)?;
+    words_are_few();
+    finish(alloc, draft, number)
 }

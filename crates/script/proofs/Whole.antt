@@ -1,0 +1,90 @@
+-- A script that is read keeps all limits.
+use Rattle.std.proofs.Common.{◌≡◌, ℕ, ◌*◌, ◌%◌, ◌<◌, ◌≤◌, Bool, true, false, ◌&&◌, List, [], ◌∷◌, length, Option, Some, None, Ok, ltb, leb, eqb, refl, subst, arith, eq-eqb}
+use Rattle.std.specs.Int.{is_in_range}
+use Rattle.std.specs.List.{AllByRecursion, list_all}
+use Rattle.std.proofs.lemmas.Bool.{le-leb, lt-ltb}
+use Rattle.kernel_model.specs.Effects.{Spawn}
+use Rattle.set_model.specs.Limits.{IsWithin}
+use Rattle.set_model.specs.Sets.{ObjectPart, ProgramPart, TaskSet}
+use Rattle.task_set.specs.FirstBroken.{first_broken, cores_hold, memory_holds, records_hold, objects_hold, sizes_hold, slots_hold, firsts_hold, programs_hold, fuels_hold, codes_hold, tasks_hold, task_programs_hold}
+use Rattle.script.specs.declared.keyword.Stage.{Stage}
+use Rattle.script.specs.declared.keyword.Stage.TheVariants.{Run}
+use Rattle.script.specs.Parts.{Parts, Timeline, nothing, script_of}
+use Rattle.script.specs.Sections.{Section}
+use Rattle.script.specs.Reading.{sections_after}
+use Rattle.script.specs.Laws.{IsWithinLimits}
+use Rattle.script.proofs.Kept.{rank, Kept, IsSized, IsFitting, kept_nothing}
+use Rattle.script.proofs.KeptSections.{IsShort, sections_kept}
+
+both : (a b : Bool) → a ≡ true → b ≡ true → (a && b) ≡ true
+both true b e f = f
+both false b e f = absurd cc
+
+in_range : (low high n : ℕ) → IsWithin low high n → is_in_range low high n ≡ true
+in_range low high n w = both (leb low n) (leb n high) (le-leb low n w.0) (le-leb n high w.1)
+
+sizes : (xs : List ObjectPart) → AllByRecursion IsSized xs → list_all (λ o. is_in_range 1 64 o.size) xs ≡ true
+sizes [] h = refl
+sizes (x ∷ xs) h = both (is_in_range 1 64 x.size) (list_all (λ (o : ObjectPart). is_in_range 1 64 o.size) xs) (in_range 1 64 x.size h.0.0) (sizes xs h.1)
+
+slots : (xs : List ObjectPart) → AllByRecursion IsSized xs → list_all (λ o. is_in_range 2 8 o.slots) xs ≡ true
+slots [] h = refl
+slots (x ∷ xs) h = both (is_in_range 2 8 x.slots) (list_all (λ (o : ObjectPart). is_in_range 2 8 o.slots) xs) (in_range 2 8 x.slots h.0.1) (slots xs h.1)
+
+firsts : (xs : List ObjectPart) → AllByRecursion IsSized xs → list_all (λ o. eqb (length o.first) o.size) xs ≡ true
+firsts [] h = refl
+firsts (x ∷ xs) h = both (eqb (length x.first) x.size) (list_all (λ (o : ObjectPart). eqb (length o.first) o.size) xs) (eq-eqb (length x.first) x.size h.0.2) (firsts xs h.1)
+
+fuels : (m : ℕ) (xs : List ProgramPart) → AllByRecursion (IsFitting m) xs → list_all (λ p. is_in_range 1 1000000 p.fuel) xs ≡ true
+fuels m [] h = refl
+fuels m (x ∷ xs) h = both (is_in_range 1 1000000 x.fuel) (list_all (λ (p : ProgramPart). is_in_range 1 1000000 p.fuel) xs) (in_range 1 1000000 x.fuel h.0.0) (fuels m xs h.1)
+
+codes : (m : ℕ) (xs : List ProgramPart) → AllByRecursion (IsFitting m) xs → list_all (λ p. leb (length p.code) 1024 && leb (4 * length p.code) m) xs ≡ true
+codes m [] h = refl
+codes m (x ∷ xs) h =
+    both (leb (length x.code) 1024 && leb (4 * length x.code) m) (list_all (λ (p : ProgramPart). leb (length p.code) 1024 && leb (4 * length p.code) m) xs)
+    (both (leb (length x.code) 1024) (leb (4 * length x.code) m) (le-leb (length x.code) 1024 h.0.1) (le-leb (4 * length x.code) m h.0.2)) (codes m xs h.1)
+
+programs_known : (n : ℕ) (xs : List Spawn) → AllByRecursion (λ t. t.program < n) xs → list_all (λ t. ltb t.program n) xs ≡ true
+programs_known n [] h = refl
+programs_known n (x ∷ xs) h = both (ltb x.program n) (list_all (λ (t : Spawn). ltb t.program n) xs) (lt-ltb x.program n h.0) (programs_known n xs h.1)
+
+none_if : (set : TaskSet) → cores_hold set ≡ true → memory_holds set ≡ true → records_hold set ≡ true → objects_hold set ≡ true → sizes_hold set ≡ true → slots_hold set ≡ true
+    → firsts_hold set ≡ true → programs_hold set ≡ true → fuels_hold set ≡ true → codes_hold set ≡ true → tasks_hold set ≡ true → task_programs_hold set ≡ true → first_broken set ≡ None
+unfolding first_broken
+none_if set a b c d e f g h i j k l = rw (a, b, c, d, e, f, g, h, i, j, k, l) refl
+
+none_broken : (set : TaskSet) (t : Timeline) → Kept 9 set t → first_broken set ≡ None
+unfolding cores_hold memory_holds records_hold objects_hold sizes_hold slots_hold firsts_hold programs_hold fuels_hold codes_hold tasks_hold task_programs_hold
+none_broken set t k =
+    let m = k.memory (omega arith) in
+    let some : 1 ≤ length set.objects = k.objects (omega arith) in
+    let more : 1 ≤ length set.programs = k.programs (omega arith) in
+    none_if set
+    (in_range 1 8 set.cores (k.cores (omega arith)))
+    (both (is_in_range 1024 65536 set.memory) (eqb (set.memory % 4) 0) (in_range 1024 65536 set.memory m.0) (eq-eqb (set.memory % 4) 0 m.1))
+    (in_range 1 256 set.records (k.records (omega arith)))
+    (in_range 1 64 (length set.objects) (some, k.few_objects))
+    (sizes set.objects k.each_object)
+    (slots set.objects k.each_object)
+    (firsts set.objects k.each_object)
+    (in_range 1 16 (length set.programs) (more, k.few_programs))
+    (fuels set.memory set.programs k.each_program)
+    (codes set.memory set.programs k.each_program)
+    (le-leb (length set.tasks) set.records k.few_tasks)
+    (programs_known (length set.programs) set.tasks k.each_task)
+
+within : (p : Parts) → Kept 9 p.set p.timeline → IsWithinLimits (script_of p)
+within p k =
+    let c = k.cores (omega arith) in
+    record {
+      set = none_broken p.set p.timeline k;
+      names = record { objects = k.object_names; programs = k.program_names };
+      schedule = record { some_core = c.0; few_cores = c.1; proper = k.each_item; short = k.short };
+    }
+
+-- lines that are all taken, of which `run` is the last
+pub taken_within : IsShort → (m : ℕ) (p : Parts) (sections : List Section) → sections_after 1 nothing sections ≡ Ok (m, p) → p.last ≡ Some Run → IsWithinLimits (script_of p)
+taken_within short m p sections h last =
+    let k : Kept (rank p.last) p.set p.timeline = sections_kept short 1 m nothing p sections kept_nothing h in
+    within p (subst (λ (o : Option Stage). Kept (rank o) p.set p.timeline) last k)
