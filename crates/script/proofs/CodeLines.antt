@@ -5,7 +5,7 @@ use Rattle.std.specs.Char.{digit_char}
 use Rattle.std.specs.Fmt.{decimal, signed_decimal}
 use Rattle.std.specs.Cmp.Lexicographic.{pointwise}
 use Rattle.std.specs.Int.Signed.{mag}
-use Rattle.std.proofs.lemmas.Bool.{and_parts, and_from, ne_eqb, le-leb, leb-true, cases_Bool}
+use Rattle.std.proofs.lemmas.Bool.{and_parts, and_from, ne_eqb, leb-true, ltb-true, not-true, cases_Bool}
 use Rattle.std.proofs.lemmas.Bool.Decides.{nat_tests}
 use Rattle.std.proofs.lemmas.Fmt.{length_signed_le}
 use Rattle.std.proofs.lemmas.List.{append-nil}
@@ -160,6 +160,20 @@ record IsFirst (word : List ℕ) : Type 0 where
   few : length word ≤ 6
   other : pointwise nat_eq word (codes "end") ≡ false
 
+abbrev is_first : List ℕ → Bool
+is_first word = list_all is_word_byte word && ltb 0 (length word) && leb (length word) 6 && not (pointwise nat_eq word (codes "end"))
+
+first_is : (word : List ℕ) → is_first word ≡ true → IsFirst word
+first_is word h =
+    let outer = and_parts (list_all is_word_byte word && ltb 0 (length word) && leb (length word) 6) (not (pointwise nat_eq word (codes "end"))) h in
+    let middle = and_parts (list_all is_word_byte word && ltb 0 (length word)) (leb (length word) 6) outer.0 in
+    let inner = and_parts (list_all is_word_byte word) (ltb 0 (length word)) middle.0 in
+    record {
+      written = record { bytes = inner.0; some = ltb-true 0 (length word) inner.1 };
+      few = leb-true (length word) 6 middle.1;
+      other = not-true (pointwise nat_eq word (codes "end")) outer.1;
+    }
+
 -- the rest of the line stands behind a space
 code_line : (word rest : List ℕ) (most : ℕ) → IsFirst word → IsPiece most rest → most ≤ 23 → IsCode (word ++ 32 ∷ rest)
 code_line word rest most first piece fits =
@@ -185,61 +199,61 @@ code_word word first =
 -- ---- instructions
 
 branch_first : (op : BranchOp) (a b : Reg) (z : ℤ) → IsFirst (mnemonic_of (Branch op a b z))
-branch_first Beq a b z = record { written = record { bytes = refl; some = omega arith }; few = omega arith; other = refl }
-branch_first Bne a b z = record { written = record { bytes = refl; some = omega arith }; few = omega arith; other = refl }
-branch_first Blt a b z = record { written = record { bytes = refl; some = omega arith }; few = omega arith; other = refl }
-branch_first Bge a b z = record { written = record { bytes = refl; some = omega arith }; few = omega arith; other = refl }
-branch_first Bltu a b z = record { written = record { bytes = refl; some = omega arith }; few = omega arith; other = refl }
-branch_first Bgeu a b z = record { written = record { bytes = refl; some = omega arith }; few = omega arith; other = refl }
+branch_first Beq a b z = first_is (mnemonic_of (Branch Beq a b z)) refl
+branch_first Bne a b z = first_is (mnemonic_of (Branch Bne a b z)) refl
+branch_first Blt a b z = first_is (mnemonic_of (Branch Blt a b z)) refl
+branch_first Bge a b z = first_is (mnemonic_of (Branch Bge a b z)) refl
+branch_first Bltu a b z = first_is (mnemonic_of (Branch Bltu a b z)) refl
+branch_first Bgeu a b z = first_is (mnemonic_of (Branch Bgeu a b z)) refl
 
 load_first : (op : LoadOp) (a b : Reg) (z : ℤ) → IsFirst (mnemonic_of (Load op a b z))
-load_first Lb a b z = record { written = record { bytes = refl; some = omega arith }; few = omega arith; other = refl }
-load_first Lh a b z = record { written = record { bytes = refl; some = omega arith }; few = omega arith; other = refl }
-load_first Lw a b z = record { written = record { bytes = refl; some = omega arith }; few = omega arith; other = refl }
-load_first Lbu a b z = record { written = record { bytes = refl; some = omega arith }; few = omega arith; other = refl }
-load_first Lhu a b z = record { written = record { bytes = refl; some = omega arith }; few = omega arith; other = refl }
+load_first Lb a b z = first_is (mnemonic_of (Load Lb a b z)) refl
+load_first Lh a b z = first_is (mnemonic_of (Load Lh a b z)) refl
+load_first Lw a b z = first_is (mnemonic_of (Load Lw a b z)) refl
+load_first Lbu a b z = first_is (mnemonic_of (Load Lbu a b z)) refl
+load_first Lhu a b z = first_is (mnemonic_of (Load Lhu a b z)) refl
 
 store_first : (op : StoreOp) (a b : Reg) (z : ℤ) → IsFirst (mnemonic_of (Store op a b z))
-store_first Sb a b z = record { written = record { bytes = refl; some = omega arith }; few = omega arith; other = refl }
-store_first Sh a b z = record { written = record { bytes = refl; some = omega arith }; few = omega arith; other = refl }
-store_first Sw a b z = record { written = record { bytes = refl; some = omega arith }; few = omega arith; other = refl }
+store_first Sb a b z = first_is (mnemonic_of (Store Sb a b z)) refl
+store_first Sh a b z = first_is (mnemonic_of (Store Sh a b z)) refl
+store_first Sw a b z = first_is (mnemonic_of (Store Sw a b z)) refl
 
 imm_first : (op : ImmOp) (a b : Reg) (z : ℤ) → IsFirst (mnemonic_of (OpImm op a b z))
-imm_first Addi a b z = record { written = record { bytes = refl; some = omega arith }; few = omega arith; other = refl }
-imm_first Slti a b z = record { written = record { bytes = refl; some = omega arith }; few = omega arith; other = refl }
-imm_first Sltiu a b z = record { written = record { bytes = refl; some = omega arith }; few = omega arith; other = refl }
-imm_first Xori a b z = record { written = record { bytes = refl; some = omega arith }; few = omega arith; other = refl }
-imm_first Ori a b z = record { written = record { bytes = refl; some = omega arith }; few = omega arith; other = refl }
-imm_first Andi a b z = record { written = record { bytes = refl; some = omega arith }; few = omega arith; other = refl }
-imm_first Slli a b z = record { written = record { bytes = refl; some = omega arith }; few = omega arith; other = refl }
-imm_first Srli a b z = record { written = record { bytes = refl; some = omega arith }; few = omega arith; other = refl }
-imm_first Srai a b z = record { written = record { bytes = refl; some = omega arith }; few = omega arith; other = refl }
+imm_first Addi a b z = first_is (mnemonic_of (OpImm Addi a b z)) refl
+imm_first Slti a b z = first_is (mnemonic_of (OpImm Slti a b z)) refl
+imm_first Sltiu a b z = first_is (mnemonic_of (OpImm Sltiu a b z)) refl
+imm_first Xori a b z = first_is (mnemonic_of (OpImm Xori a b z)) refl
+imm_first Ori a b z = first_is (mnemonic_of (OpImm Ori a b z)) refl
+imm_first Andi a b z = first_is (mnemonic_of (OpImm Andi a b z)) refl
+imm_first Slli a b z = first_is (mnemonic_of (OpImm Slli a b z)) refl
+imm_first Srli a b z = first_is (mnemonic_of (OpImm Srli a b z)) refl
+imm_first Srai a b z = first_is (mnemonic_of (OpImm Srai a b z)) refl
 
 op_first : (op : RegOp) (a b c : Reg) → IsFirst (mnemonic_of (Op op a b c))
-op_first Add a b c = record { written = record { bytes = refl; some = omega arith }; few = omega arith; other = refl }
-op_first Sub a b c = record { written = record { bytes = refl; some = omega arith }; few = omega arith; other = refl }
-op_first Sll a b c = record { written = record { bytes = refl; some = omega arith }; few = omega arith; other = refl }
-op_first Slt a b c = record { written = record { bytes = refl; some = omega arith }; few = omega arith; other = refl }
-op_first Sltu a b c = record { written = record { bytes = refl; some = omega arith }; few = omega arith; other = refl }
-op_first Xor a b c = record { written = record { bytes = refl; some = omega arith }; few = omega arith; other = refl }
-op_first Srl a b c = record { written = record { bytes = refl; some = omega arith }; few = omega arith; other = refl }
-op_first Sra a b c = record { written = record { bytes = refl; some = omega arith }; few = omega arith; other = refl }
-op_first Or a b c = record { written = record { bytes = refl; some = omega arith }; few = omega arith; other = refl }
-op_first And a b c = record { written = record { bytes = refl; some = omega arith }; few = omega arith; other = refl }
+op_first Add a b c = first_is (mnemonic_of (Op Add a b c)) refl
+op_first Sub a b c = first_is (mnemonic_of (Op Sub a b c)) refl
+op_first Sll a b c = first_is (mnemonic_of (Op Sll a b c)) refl
+op_first Slt a b c = first_is (mnemonic_of (Op Slt a b c)) refl
+op_first Sltu a b c = first_is (mnemonic_of (Op Sltu a b c)) refl
+op_first Xor a b c = first_is (mnemonic_of (Op Xor a b c)) refl
+op_first Srl a b c = first_is (mnemonic_of (Op Srl a b c)) refl
+op_first Sra a b c = first_is (mnemonic_of (Op Sra a b c)) refl
+op_first Or a b c = first_is (mnemonic_of (Op Or a b c)) refl
+op_first And a b c = first_is (mnemonic_of (Op And a b c)) refl
 
 mnemonic_first : (i : Instr) → IsFirst (mnemonic_of i)
-mnemonic_first (Lui rd imm) = record { written = record { bytes = refl; some = omega arith }; few = omega arith; other = refl }
-mnemonic_first (Auipc rd imm) = record { written = record { bytes = refl; some = omega arith }; few = omega arith; other = refl }
-mnemonic_first (Jal rd offset) = record { written = record { bytes = refl; some = omega arith }; few = omega arith; other = refl }
-mnemonic_first (Jalr rd rs1 imm) = record { written = record { bytes = refl; some = omega arith }; few = omega arith; other = refl }
+mnemonic_first (Lui rd imm) = first_is (mnemonic_of (Lui rd imm)) refl
+mnemonic_first (Auipc rd imm) = first_is (mnemonic_of (Auipc rd imm)) refl
+mnemonic_first (Jal rd offset) = first_is (mnemonic_of (Jal rd offset)) refl
+mnemonic_first (Jalr rd rs1 imm) = first_is (mnemonic_of (Jalr rd rs1 imm)) refl
 mnemonic_first (Branch op rs1 rs2 offset) = branch_first op rs1 rs2 offset
 mnemonic_first (Load op rd rs1 imm) = load_first op rd rs1 imm
 mnemonic_first (Store op rs1 rs2 imm) = store_first op rs1 rs2 imm
 mnemonic_first (OpImm op rd rs1 imm) = imm_first op rd rs1 imm
 mnemonic_first (Op op rd rs1 rs2) = op_first op rd rs1 rs2
-mnemonic_first (Fence rd rs1 bits) = record { written = record { bytes = refl; some = omega arith }; few = omega arith; other = refl }
-mnemonic_first Ecall = record { written = record { bytes = refl; some = omega arith }; few = omega arith; other = refl }
-mnemonic_first Ebreak = record { written = record { bytes = refl; some = omega arith }; few = omega arith; other = refl }
+mnemonic_first (Fence rd rs1 bits) = first_is (mnemonic_of (Fence rd rs1 bits)) refl
+mnemonic_first Ecall = first_is (mnemonic_of Ecall) refl
+mnemonic_first Ebreak = first_is (mnemonic_of Ebreak) refl
 
 row_code : (i : Instr) → IsInstr i → (first : Operand) (others : List Operand) → width first + others_width others ≤ 23 → IsCode (mnemonic_of i ++ operands_text i (first ∷ others))
 row_code i ok first others fits =
@@ -264,7 +278,7 @@ hexadecimal_piece (suc k) n =
 
 raw_code : (w : ℕ) → IsCode (raw_text w)
 raw_code w =
-    code_line (codes ".word") (48 ∷ 120 ∷ hexadecimal 8 w) 10 (record { written = record { bytes = refl; some = omega arith }; few = omega arith; other = refl })
+    code_line (codes ".word") (48 ∷ 120 ∷ hexadecimal 8 w) 10 (first_is (codes ".word") refl)
       (piece-append 2 8 (48 ∷ 120 ∷ []) (hexadecimal 8 w) (record { bytes = refl; few = omega arith }) (hexadecimal_piece 8 w)) (omega arith)
 
 -- ---- all words

@@ -14,7 +14,7 @@ use Rattle.script.specs.Sections.{Section, Single, Block, Open, open_of, opened,
 use Rattle.script.proofs.CodeLines.{IsCode}
 use Rattle.script.proofs.LinesRead.{object_words, program_words, task_words}
 use Rattle.script.proofs.ScriptLines.{number_line, object_line, program_line, program_lines, task_line, script_lines}
-use Rattle.script.proofs.WrittenLines.{IsWritten, IsLine, spaced, spaced_line, spaced_words, line_is_plain}
+use Rattle.script.proofs.WrittenLines.{IsWritten, literal, IsLine, spaced, spaced_line, spaced_words, line_is_plain}
 
 -- ---- what is known of the words of a set
 
@@ -38,7 +38,7 @@ all-append P (x ∷ xs) ys a b = (a.0, all-append P xs ys a.1 b)
 
 object_lines_are : (objects : List ObjectPart) → AllByRecursion (λ o. AllByRecursion IsWritten (object_words o)) objects → AllByRecursion IsLine (map object_line objects)
 object_lines_are [] all = tt
-object_lines_are (o ∷ objects) all = (spaced_line (codes "object") (object_words o) (record { bytes = refl; some = omega arith }) all.0, object_lines_are objects all.1)
+object_lines_are (o ∷ objects) all = (spaced_line (codes "object") (object_words o) (literal (codes "object") refl) all.0, object_lines_are objects all.1)
 
 pub code_lines_are : (ls : List (List ℕ)) → AllByRecursion IsCode ls → AllByRecursion IsLine ls
 code_lines_are [] all = tt
@@ -48,20 +48,20 @@ program_lines_are : (programs : List ProgramPart) → AllByRecursion IsWrittenPr
 program_lines_are [] all = tt
 program_lines_are (p ∷ programs) all =
     all-append IsLine (program_lines p) (flat_map program_lines programs)
-      (spaced_line (codes "program") (program_words p) (record { bytes = refl; some = omega arith }) all.0.words,
+      (spaced_line (codes "program") (program_words p) (literal (codes "program") refl) all.0.words,
        all-append IsLine (map text_of p.code) (codes "end" ∷ []) (code_lines_are (map text_of p.code) all.0.code) (record { bytes = refl; some = omega arith }, tt))
       (program_lines_are programs all.1)
 
 task_lines_are : (set : TaskSet) (tasks : List Spawn) → AllByRecursion (λ t. AllByRecursion IsWritten (task_words set t)) tasks → AllByRecursion IsLine (map (task_line set) tasks)
 task_lines_are set [] all = tt
-task_lines_are set (t ∷ tasks) all = (spaced_line (codes "task") (task_words set t) (record { bytes = refl; some = omega arith }) all.0, task_lines_are set tasks all.1)
+task_lines_are set (t ∷ tasks) all = (spaced_line (codes "task") (task_words set t) (literal (codes "task") refl) all.0, task_lines_are set tasks all.1)
 
 pub script_lines_are : (set : TaskSet) → IsWrittenSet set → AllByRecursion IsLine (script_lines set)
 script_lines_are set h =
     (record { bytes = refl; some = omega arith },
-     (spaced_line (codes "cores") (decimal set.cores ∷ []) (record { bytes = refl; some = omega arith }) (h.cores, tt),
-      (spaced_line (codes "memory") (decimal set.memory ∷ []) (record { bytes = refl; some = omega arith }) (h.memory, tt),
-       (spaced_line (codes "records") (decimal set.records ∷ []) (record { bytes = refl; some = omega arith }) (h.records, tt),
+     (spaced_line (codes "cores") (decimal set.cores ∷ []) (literal (codes "cores") refl) (h.cores, tt),
+      (spaced_line (codes "memory") (decimal set.memory ∷ []) (literal (codes "memory") refl) (h.memory, tt),
+       (spaced_line (codes "records") (decimal set.records ∷ []) (literal (codes "records") refl) (h.records, tt),
         all-append IsLine (map object_line set.objects) (flat_map program_lines set.programs ++ (map (task_line set) set.tasks ++ codes "run" ∷ []))
           (object_lines_are set.objects h.objects)
           (all-append IsLine (flat_map program_lines set.programs) (map (task_line set) set.tasks ++ codes "run" ∷ [])
@@ -121,14 +121,14 @@ objects_cut : (objects : List ObjectPart) (rest : List (List ℕ)) → AllByRecu
     → sections_from None (map object_line objects ++ rest) ≡ map object_section objects ++ sections_from None rest
 objects_cut [] rest all = refl
 objects_cut (o ∷ objects) rest all =
-    single_first (object_line o) (map object_line objects ++ rest) (spaced_opens (codes "object") (object_words o) (record { bytes = refl; some = omega arith }) all.0)
+    single_first (object_line o) (map object_line objects ++ rest) (spaced_opens (codes "object") (object_words o) (literal (codes "object") refl) all.0)
     ∙ ap (λ (more : List Section). object_section o ∷ more) (objects_cut objects rest all.1)
 
 tasks_cut : (set : TaskSet) (tasks : List Spawn) (rest : List (List ℕ)) → AllByRecursion (λ t. AllByRecursion IsWritten (task_words set t)) tasks
     → sections_from None (map (task_line set) tasks ++ rest) ≡ map (task_section set) tasks ++ sections_from None rest
 tasks_cut set [] rest all = refl
 tasks_cut set (t ∷ tasks) rest all =
-    single_first (task_line set t) (map (task_line set) tasks ++ rest) (spaced_opens (codes "task") (task_words set t) (record { bytes = refl; some = omega arith }) all.0)
+    single_first (task_line set t) (map (task_line set) tasks ++ rest) (spaced_opens (codes "task") (task_words set t) (literal (codes "task") refl) all.0)
     ∙ ap (λ (more : List Section). task_section set t ∷ more) (tasks_cut set tasks rest all.1)
 
 regroup : (code : List (List ℕ)) (end : List ℕ) (more rest : List (List ℕ)) → ((code ++ end ∷ []) ++ more) ++ rest ≡ code ++ end ∷ (more ++ rest)
@@ -140,7 +140,7 @@ programs_cut [] rest all = refl
 programs_cut (p ∷ programs) rest all =
     ap (λ (ls : List (List ℕ)). sections_from None (program_line p ∷ ls)) (regroup (map text_of p.code) (codes "end") (flat_map program_lines programs) rest)
     ∙ open_first (program_line p) (record { kind = blocks.Program; words = program_words p; body = [] }) (map text_of p.code ++ codes "end" ∷ (flat_map program_lines programs ++ rest))
-        (spaced_opens (codes "program") (program_words p) (record { bytes = refl; some = omega arith }) all.0.words)
+        (spaced_opens (codes "program") (program_words p) (literal (codes "program") refl) all.0.words)
     ∙ block_goes blocks.Program (program_words p) [] (map text_of p.code) (codes "end") (flat_map program_lines programs ++ rest) all.0.code refl
     ∙ ap (λ (more : List Section). program_section p ∷ more) (programs_cut programs rest all.1)
 
@@ -167,8 +167,8 @@ number_cut word n rest one number plain =
 pub script_cut : (set : TaskSet) → IsWrittenSet set → sections (script_lines set) ≡ script_sections set
 script_cut set h =
     let body = map object_line set.objects ++ (flat_map program_lines set.programs ++ (map (task_line set) set.tasks ++ codes "run" ∷ [])) in
-    let third = number_cut (codes "records") set.records body (record { bytes = refl; some = omega arith }) h.records refl ∙ ap (λ (more : List Section). Single (number_line (codes "records") set.records) ∷ more) (body_cut set h) in
-    let second = number_cut (codes "memory") set.memory (number_line (codes "records") set.records ∷ body) (record { bytes = refl; some = omega arith }) h.memory refl ∙ ap (λ (more : List Section). Single (number_line (codes "memory") set.memory) ∷ more) third in
-    let first = number_cut (codes "cores") set.cores (number_line (codes "memory") set.memory ∷ number_line (codes "records") set.records ∷ body) (record { bytes = refl; some = omega arith }) h.cores refl ∙ ap (λ (more : List Section). Single (number_line (codes "cores") set.cores) ∷ more) second in
+    let third = number_cut (codes "records") set.records body (literal (codes "records") refl) h.records refl ∙ ap (λ (more : List Section). Single (number_line (codes "records") set.records) ∷ more) (body_cut set h) in
+    let second = number_cut (codes "memory") set.memory (number_line (codes "records") set.records ∷ body) (literal (codes "memory") refl) h.memory refl ∙ ap (λ (more : List Section). Single (number_line (codes "memory") set.memory) ∷ more) third in
+    let first = number_cut (codes "cores") set.cores (number_line (codes "memory") set.memory ∷ number_line (codes "records") set.records ∷ body) (literal (codes "cores") refl) h.cores refl ∙ ap (λ (more : List Section). Single (number_line (codes "cores") set.cores) ∷ more) second in
     single_first (codes "nvk 1") (number_line (codes "cores") set.cores ∷ number_line (codes "memory") set.memory ∷ number_line (codes "records") set.records ∷ body) refl
     ∙ ap (λ (more : List Section). Single (codes "nvk 1") ∷ more) first

@@ -24,7 +24,7 @@ use Rattle.script.specs.Parts.{Parts, nothing, no_set, no_events}
 use Rattle.script.specs.Lines.{words_after, line_after}
 use Rattle.script.specs.Sections.{Section, Single, Block, line_count}
 use Rattle.script.specs.Reading.{section_after, sections_after}
-use Rattle.script.proofs.WrittenLines.{IsWritten, line_is_plain}
+use Rattle.script.proofs.WrittenLines.{IsWritten, literal, line_is_plain}
 use Rattle.script.proofs.WrittenWords.{number_back}
 use Rattle.script.proofs.CodeLines.{IsCode}
 use Rattle.script.proofs.NamesRead.{is_known}
@@ -74,7 +74,7 @@ objects_read set last done (o ∷ todo) n rest e may each names words once few =
     let room : length done < 64 = let total : length set.objects ≡ length done + length (o ∷ todo) = ap length e ∙ length-append done (o ∷ todo) in omega arith in
     let q = after set (Some stages.Object) (done ++ o ∷ []) [] [] in
     let line : line_after n (after set (Some last) done [] []) (object_line o) ≡ Ok q =
-          line_is n (after set (Some last) done [] []) q (codes "object") (object_words o) (record { bytes = refl; some = omega arith }) words.0
+          line_is n (after set (Some last) done [] []) q (codes "object") (object_words o) (literal (codes "object") refl) words.0
             (object_words_after set n last done o (map (λ o. o.name) todo) may each.0 names.0 distinct room) in
     let one = single_taken n (after set (Some last) done [] []) q (object_line o) (map object_section todo ++ rest) line in
     let more = objects_read set stages.Object (done ++ o ∷ []) todo (n + 1) rest (e ∙ sym (append_assoc done (o ∷ []) todo)) refl each.1 names.1 words.1 once few in
@@ -148,7 +148,7 @@ tasks_read set last done (t ∷ todo) n rest e may named each words few =
     let room : length done < set.records = let total : length set.tasks ≡ length done + length (t ∷ todo) = ap length e ∙ length-append done (t ∷ todo) in omega arith in
     let q = after set (Some stages.Task) set.objects set.programs (done ++ t ∷ []) in
     let line : line_after n (after set (Some last) set.objects set.programs done) (task_line set t) ≡ Ok q =
-          line_is n (after set (Some last) set.objects set.programs done) q (codes "task") (task_words set t) (record { bytes = refl; some = omega arith }) words.0
+          line_is n (after set (Some last) set.objects set.programs done) q (codes "task") (task_words set t) (literal (codes "task") refl) words.0
             (task_words_after set n last done t may named each.0 room) in
     let one = single_taken n (after set (Some last) set.objects set.programs done) q (task_line set t) (map (task_section set) todo ++ rest) line in
     let more = tasks_read set stages.Task (done ++ t ∷ []) todo (n + 1) rest (e ∙ sym (append_assoc done (t ∷ []) todo)) refl named each.1 words.1 few in
@@ -188,9 +188,9 @@ first_lines : (set : TaskSet) (rest : List Section) → IsTaskSet set → IsWrit
     → sections_after 1 nothing (Single (codes "nvk 1") ∷ Single (number_line (codes "cores") set.cores) ∷ Single (number_line (codes "memory") set.memory) ∷ Single (number_line (codes "records") set.records) ∷ rest)
     ≡ sections_after 5 (after set (Some stages.Records) [] [] []) rest
 first_lines set rest h written =
-    let cores = line_is 2 version_read (cores_read set) (codes "cores") (decimal set.cores ∷ []) (record { bytes = refl; some = omega arith }) (written.cores, tt) (cores_is set h) in
-    let memory = line_is 3 (cores_read set) (memory_read set) (codes "memory") (decimal set.memory ∷ []) (record { bytes = refl; some = omega arith }) (written.memory, tt) (memory_is set h) in
-    let records = line_is 4 (memory_read set) (after set (Some stages.Records) [] [] []) (codes "records") (decimal set.records ∷ []) (record { bytes = refl; some = omega arith }) (written.records, tt) (records_is set h) in
+    let cores = line_is 2 version_read (cores_read set) (codes "cores") (decimal set.cores ∷ []) (literal (codes "cores") refl) (written.cores, tt) (cores_is set h) in
+    let memory = line_is 3 (cores_read set) (memory_read set) (codes "memory") (decimal set.memory ∷ []) (literal (codes "memory") refl) (written.memory, tt) (memory_is set h) in
+    let records = line_is 4 (memory_read set) (after set (Some stages.Records) [] [] []) (codes "records") (decimal set.records ∷ []) (literal (codes "records") refl) (written.records, tt) (records_is set h) in
     let fourth = single_taken 4 (memory_read set) (after set (Some stages.Records) [] [] []) (number_line (codes "records") set.records) rest records in
     let third = single_taken 3 (cores_read set) (memory_read set) (number_line (codes "memory") set.memory) (Single (number_line (codes "records") set.records) ∷ rest) memory in
     let second = single_taken 2 version_read (cores_read set) (number_line (codes "cores") set.cores) (Single (number_line (codes "memory") set.memory) ∷ Single (number_line (codes "records") set.records) ∷ rest) cores in

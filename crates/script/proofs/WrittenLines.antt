@@ -57,6 +57,13 @@ pub record IsLine (l : List ℕ) : Type 0 where
   pub bytes : list_all is_line_byte l ≡ true
   pub some : 0 < length l
 
+-- what a word that is written out computes
+abbrev pub is_written : List ℕ → Bool
+is_written word = list_all is_word_byte word && ltb 0 (length word)
+
+pub literal : (word : List ℕ) → is_written word ≡ true → IsWritten word
+literal word h = let p = and_parts (list_all is_word_byte word) (ltb 0 (length word)) h in record { bytes = p.0; some = ltb-true 0 (length word) p.1 }
+
 -- words with one space between them
 abbrev pub spaced : List ℕ → List (List ℕ) → List ℕ
 spaced first others = first ++ flat_map (λ word. 32 ∷ word) others
