@@ -1,0 +1,9 @@
+use Rattle.std.proofs.Common.{◌≡◌, ◌++◌, take, map, codes}
+use Rattle.std.specs.List.{flat_map}
+use Rattle.std.specs.String.{string_bytes}
+use Rattle.script.specs.ScriptText.{field}
+use Rattle.script.proofs.set_text.push_words.Given as goal
+
+-- the words so far are written
+abbrev pub invariant-loop-word : goal.invariant-loop-word
+invariant-loop-word l = string_bytes l.out ≡ string_bytes l.initial.out ++ flat_map (field (codes " ")) (take l.word-index l.words)

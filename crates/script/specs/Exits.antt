@@ -1,0 +1,52 @@
+-- The exit number of each answer, and the line that names it on the output. This project's own.
+use Rattle.std.specs.Prelude.{ℕ, List, [], ◌++◌, codes}
+use Rattle.std.specs.Fmt.{decimal}
+use Rattle.rv_asm.specs.declared.cause.AsmCause.{AsmCause}
+use Rattle.rv_asm.specs.declared.cause.AsmCause.TheVariants as code
+use Rattle.script.specs.declared.refusals.ScriptCause.{ScriptCause}
+use Rattle.script.specs.declared.refusals.ScriptCause.TheVariants as cause
+use Rattle.script.specs.declared.status.Status.{Status}
+use Rattle.script.specs.declared.status.Status.TheVariants.{Done, Usage, Script, Packed, ReadFault, WriteFault, NoMemory, NotBuilt}
+
+abbrev pub exit_of : Status → ℕ
+exit_of Done = 0
+exit_of Usage = 2
+exit_of (Script e) = 3
+exit_of (Packed place) = 3
+exit_of ReadFault = 4
+exit_of WriteFault = 5
+exit_of NoMemory = 6
+exit_of NotBuilt = 11
+
+abbrev pub code_word_of : AsmCause → List ℕ
+code_word_of code.Mnemonic = codes "code mnemonic"
+code_word_of code.Operand = codes "code operand"
+code_word_of code.Range = codes "code range"
+code_word_of code.Label = codes "code label"
+code_word_of code.Twice = codes "code twice"
+code_word_of code.TooLong = codes "code toolong"
+
+abbrev pub word_of : ScriptCause → List ℕ
+word_of cause.Long = codes "long"
+word_of cause.Byte = codes "byte"
+word_of cause.Word = codes "word"
+word_of cause.Count = codes "count"
+word_of cause.Name = codes "name"
+word_of cause.Twice = codes "twice"
+word_of cause.Unknown = codes "unknown"
+word_of cause.Number = codes "number"
+word_of cause.Range = codes "range"
+word_of (cause.Code c) = code_word_of c
+word_of cause.Many = codes "many"
+word_of cause.End = codes "end"
+
+-- with its line feed
+abbrev pub line_for : Status → List ℕ
+line_for Done = []
+line_for WriteFault = []
+line_for Usage = codes "error usage\n"
+line_for (Script e) = codes "error script " ++ decimal e.line ++ codes " " ++ word_of e.cause ++ codes "\n"
+line_for (Packed place) = codes "error packed " ++ decimal place ++ codes "\n"
+line_for ReadFault = codes "error read\n"
+line_for NoMemory = codes "error memory\n"
+line_for NotBuilt = codes "error notbuilt\n"

@@ -1,0 +1,84 @@
+//! How a command ended.
+
+ghost use Rattle.std.specs.Prelude.{◌≡◌};
+ghost use Rattle.script.specs.Exits.{exit_of, word_of};
+
+use crate::refusals::{ScriptCause, ScriptError};
+use rv_asm::AsmCause;
+
+/// How `simulate` ended. Beside each: its exit number, and the line that names it on the output, if there is one.
+#[derive(Clone, Copy, PartialEq, Eq, Debug)]
+pub enum Status {
+    /// 0: the defined answer was put.
+    Done,
+    /// 2, `error usage`: the words are no command.
+    Usage,
+    /// 3, `error script LINE CAUSE`: the input's first line that is refused, and its first cause.
+    Script(ScriptError),
+    /// 3, `error packed PLACE`: the bytes are no packed set, first at this offset.
+    Packed(u32),
+    /// 4, `error read`: the source failed.
+    ReadFault,
+    /// 5, with no line: the sink failed.
+    WriteFault,
+    /// 6, `error memory`: memory ran out, before anything was put.
+    NoMemory,
+    /// 11, `error notbuilt`: the input is accepted, and asks for what is not built yet.
+    NotBuilt,
+}
+
+/// Why the words of a device hold no state to go on from. No command reads a device yet: the answer that holds this
+/// comes with the first that does.
+#[derive(Clone, Copy, PartialEq, Eq, Debug)]
+pub enum ImageFault {
+    /// Nothing was formatted.
+    Blank,
+    /// The first faulty word is at this place.
+    Damaged(u32),
+    /// The state's numbers have come too near the end of their type.
+    Worn,
+}
+
+impl Status {
+    /// The exit number of a program that ends so.
+    pub fn code(self) -> u8
+        ensures { result ≡ exit_of self }
+    {
+        match self {
+            Status::Done => 0,
+            Status::Usage => 2,
+            Status::Script(_) | Status::Packed(_) => 3,
+            Status::ReadFault => 4,
+            Status::WriteFault => 5,
+            Status::NoMemory => 6,
+            Status::NotBuilt => 11,
+        }
+    }
+}
+
+impl ScriptCause {
+    /// The words that name the cause in the line of an answer.
+    pub fn words(self) -> &'static str
+        ensures { result.now ≡ word_of self }
+    {
+        match self {
+            ScriptCause::Long => "long",
+            ScriptCause::Byte => "byte",
+            ScriptCause::Word => "word",
+            ScriptCause::Count => "count",
+            ScriptCause::Name => "name",
+            ScriptCause::Twice => "twice",
+            ScriptCause::Unknown => "unknown",
+            ScriptCause::Number => "number",
+            ScriptCause::Range => "range",
+            ScriptCause::Code(AsmCause::Mnemonic) => "code mnemonic",
+            ScriptCause::Code(AsmCause::Operand) => "code operand",
+            ScriptCause::Code(AsmCause::Range) => "code range",
+            ScriptCause::Code(AsmCause::Label) => "code label",
+            ScriptCause::Code(AsmCause::Twice) => "code twice",
+            ScriptCause::Code(AsmCause::TooLong) => "code toolong",
+            ScriptCause::Many => "many",
+            ScriptCause::End => "end",
+        }
+    }
+}
