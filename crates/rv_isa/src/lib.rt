@@ -19,4 +19,4 @@ pub use encoding::encode;
 pub use instruction::{BranchOp, ImmOp, Instr, LoadOp, Reg, RegOp, StoreOp};
 pub use names::{mnemonic, register_name};
 pub use syntax::{Operand, operands};
-pub use texts::{push_text, text};
+pub use texts::{push_hexadecimal, push_text, text};

@@ -62,8 +62,9 @@ fn push_row(out: &mut String, i: Instr) -> Result<(), AllocError>
     Ok(())
 }
 
+/// So many hexadecimal digits of a number, in lower case, behind what is there. An error where they found no memory.
 #[tactic(auto, unfolding(crate::specs::Texts::hexadecimal))]
-fn push_hexadecimal(out: &mut String, digits: u32, n: u32) -> Result<(), AllocError>
+pub fn push_hexadecimal(out: &mut String, digits: u32, n: u32) -> Result<(), AllocError>
     ensures { OnOk result (string_bytes out.new ≡ string_bytes out.old ++ hexadecimal digits n) }
 {
     if digits == 0 {

@@ -3,12 +3,12 @@ use Rattle.std.proofs.Common.{◌≡◌, ℕ, zero, suc, ◌≤◌, ◌⊎◌, L
 use Rattle.std.proofs.lemmas.Bool.{cases_lt}
 use Rattle.nv_base.specs.Streams.{PutFront, Rose, grown}
 use Rattle.sim_run.specs.Replies.{Refuses, reply, status_of}
-use Rattle.sim_run.specs.Exits.{line_for}
+use Rattle.script.specs.Exits.{line_for}
 use Rattle.sim_run.specs.Answers.{Answered, AnsweredTo, Exchange, HasReadEnough, IsComplete, IsCutOff, IsDone, NoFault, OfInput, PutsNamed}
 use Rattle.sim_run.specs.Carried.{CarriedOut, CarriedOutTo, PutsName}
 use Rattle.sim_run.specs.declared.command.Command.{Command}
-use Rattle.sim_run.specs.declared.status.Status.{Status}
-use Rattle.sim_run.specs.declared.status.Status.TheVariants.{Done, Usage, ReadFault, WriteFault, NoMemory, NotBuilt, Script, Packed}
+use Rattle.script.specs.declared.status.Status.{Status}
+use Rattle.script.specs.declared.status.Status.TheVariants.{Done, Usage, ReadFault, WriteFault, NoMemory, NotBuilt, Script, Packed}
 use Rattle.sim_run.proofs.Fronts.{grown_nothing, rose_later}
 
 rose_sooner : (a b c : ℕ) → Rose a b → b ≤ c → Rose a c

@@ -6,8 +6,8 @@ use Rattle.sim_run.specs.Replies.{Reply, Puts, Refuses, reply, reply_within, too
 use Rattle.sim_run.specs.Answers.{Exchange, HasReadAll, IsCutOff, IsDone, OfInput, ReadFailed, WriteFailed}
 use Rattle.sim_run.specs.Carried.{CarriedOutTo, Replied, Unread}
 use Rattle.sim_run.specs.declared.command.Command.{Command}
-use Rattle.sim_run.specs.declared.status.Status.{Status}
-use Rattle.sim_run.specs.declared.status.Status.TheVariants.{Done, Usage, ReadFault, WriteFault, NoMemory, NotBuilt, Script, Packed}
+use Rattle.script.specs.declared.status.Status.{Status}
+use Rattle.script.specs.declared.status.Status.TheVariants.{Done, Usage, ReadFault, WriteFault, NoMemory, NotBuilt, Script, Packed}
 
 -- more bytes than a call reads
 refuses_long : (c : Command) (input : List ℕ) → most_input + 1 ≤ length input → reply c input ≡ Refuses (Script too_long)

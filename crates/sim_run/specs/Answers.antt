@@ -2,10 +2,10 @@
 use Rattle.std.specs.Prelude.{◌≡◌, ℕ, ◌+◌, ◌⊎◌, List, [], length, Option, Some, None}
 use Rattle.nv_base.specs.Streams.{AreGone, PutFront, Rose, grown}
 use Rattle.sim_run.specs.Replies.{Reply, Puts, Refuses, reply, status_of, most_input}
-use Rattle.sim_run.specs.Exits.{line_for}
+use Rattle.script.specs.Exits.{line_for}
 use Rattle.sim_run.specs.declared.command.Command.{Command}
-use Rattle.sim_run.specs.declared.status.Status.{Status}
-use Rattle.sim_run.specs.declared.status.Status.TheVariants.{Done, Usage, ReadFault, WriteFault, NoMemory}
+use Rattle.script.specs.declared.status.Status.{Status}
+use Rattle.script.specs.declared.status.Status.TheVariants.{Done, Usage, ReadFault, WriteFault, NoMemory}
 
 -- a source and a sink at the call and at the return: the bytes left, the bytes taken, where they are told, and the counts of faults
 pub record Exchange : Type 0 where

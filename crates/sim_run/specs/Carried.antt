@@ -5,8 +5,8 @@ use Rattle.sim_run.specs.Replies.{Reply, Puts, Refuses, reply, too_long, most_in
 use Rattle.sim_run.specs.Answers.{Exchange, HasReadAll, HasReadEnough, IsCutOff, IsDone, OfInput, ReadFailed, WriteFailed}
 use Rattle.std.specs.Prelude.{◌+◌}
 use Rattle.sim_run.specs.declared.command.Command.{Command}
-use Rattle.sim_run.specs.declared.status.Status.{Status}
-use Rattle.sim_run.specs.declared.status.Status.TheVariants.{Done, Usage, ReadFault, WriteFault, NoMemory, Script}
+use Rattle.script.specs.declared.status.Status.{Status}
+use Rattle.script.specs.declared.status.Status.TheVariants.{Done, Usage, ReadFault, WriteFault, NoMemory, Script}
 
 -- whole, unless the sink failed
 abbrev pub PutsName : Option (List ℕ) → Option (List ℕ) → Type 0 → List ℕ → Type 0

@@ -2,11 +2,16 @@
 use Rattle.std.specs.Prelude.{ℕ, List, [], ◌∷◌, Option, Some, None, if◌then◌else◌, nat_eq, codes}
 use Rattle.std.specs.Cmp.Lexicographic.{pointwise}
 use Rattle.sim_run.specs.declared.command.Command.{Command}
-use Rattle.sim_run.specs.declared.command.Command.TheVariants.{Run}
+use Rattle.sim_run.specs.declared.command.Command.TheVariants.{Run, Asm, Dis, Pack}
 
 -- the command with this name
 abbrev pub named : List ℕ → Option Command
-named word = if pointwise nat_eq word (codes "run") then Some Run else None
+named word =
+    if pointwise nat_eq word (codes "run") then Some Run
+    else if pointwise nat_eq word (codes "asm") then Some Asm
+    else if pointwise nat_eq word (codes "dis") then Some Dis
+    else if pointwise nat_eq word (codes "pack") then Some Pack
+    else None
 
 -- a command is one word alone
 abbrev pub command_of : List (List ℕ) → Option Command

@@ -1,6 +1,5 @@
 pub mod Commands
 pub mod Replies
-pub mod Exits
 pub mod Answers
 pub mod Carried
 pub mod Runs

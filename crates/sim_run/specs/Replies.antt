@@ -1,9 +1,26 @@
--- What each command answers to an input, where nothing fails and memory is found. This project's own.
-use Rattle.std.specs.Prelude.{ℕ, nat_lt, List, length, if◌then◌else◌}
+-- What each command replies to an input, where nothing fails and memory is found. This project's own.
+use Rattle.std.specs.Prelude.{ℕ, ◌+◌, ◌==◌, ◌&&◌, nat_lt, Bool, List, [], ◌∷◌, ◌++◌, length, Option, Some, None, Result, Ok, Err, if◌then◌else◌}
+use Rattle.std.specs.List.{flat_map}
+use Rattle.std.specs.Str.Lines.{lines}
+use Rattle.plain_text.specs.Words.{is_plain}
+use Rattle.rv_isa.specs.Texts.{hexadecimal}
+use Rattle.rv_asm.specs.Assembly.{assembled}
+use Rattle.rv_asm.specs.declared.cause.AsmError.{AsmError}
+use Rattle.set_model.specs.Sets.{TaskSet}
+use Rattle.schedule_model.specs.Failures.{events_of}
+use Rattle.schedule_model.specs.Parts.{failure_count}
+use Rattle.headline.specs.Run.{report_text}
+use Rattle.task_image.specs.Packed.{packed}
+use Rattle.task_image.specs.Unpacked.{unpacked}
+use Rattle.script.specs.Parts as scripts
+use Rattle.script.specs.Reading.{read}
+use Rattle.script.specs.ScriptText.{script_text}
+use Rattle.script.specs.declared.refusals.ScriptCause.TheVariants.{Long, Byte, Code}
+use Rattle.script.specs.declared.refusals.ScriptError.{ScriptError}
+use Rattle.script.specs.declared.status.Status.{Status}
+use Rattle.script.specs.declared.status.Status.TheVariants.{Done, Script, Packed, NotBuilt}
 use Rattle.sim_run.specs.declared.command.Command.{Command}
-use Rattle.sim_run.specs.declared.status.Status.{Status}
-use Rattle.sim_run.specs.declared.status.Status.TheVariants.{Done, Script, NotBuilt}
-use Rattle.sim_run.specs.declared.status.ScriptError.{ScriptError}
+use Rattle.sim_run.specs.declared.command.Command.TheVariants.{Run, Asm, Dis, Pack}
 
 -- a text, or the answer that refuses the input
 pub data Reply : Type 0 where
@@ -20,10 +37,59 @@ most_input = 1048576
 
 -- more bytes than that, told of line 0
 abbrev pub too_long : ScriptError
-too_long = record { line = 0; cause = 1 }
+too_long = record { line = 0; cause = Long }
+
+-- one core, and no failure of power among the events
+abbrev pub is_built : scripts.Script → Bool
+is_built s = s.set.cores == 1 && failure_count (events_of s.schedule) == 0
+
+-- ---- `run`: the event machine's report
+
+abbrev pub run_reply : Result scripts.Script ScriptError → Reply
+run_reply (Err e) = Refuses (Script e)
+run_reply (Ok s) = if is_built s then Puts (report_text s.set (events_of s.schedule)) else Refuses NotBuilt
+
+-- ---- `asm`: the words of a text, each a line of 8 hexadecimal digits
+
+abbrev pub words_text : List ℕ → List ℕ
+words_text words = flat_map (λ word. hexadecimal 8 word ++ 10 ∷ []) words
+
+-- the first line, from line n on, with a byte that is not allowed
+abbrev pub bad_line : ℕ → List (List ℕ) → Option ℕ
+bad_line n [] = None
+bad_line n (line ∷ others) = if is_plain line then bad_line (n + 1) others else Some n
+
+abbrev pub assembly_reply : Result (List ℕ) AsmError → Reply
+assembly_reply (Ok words) = Puts (words_text words)
+assembly_reply (Err e) = Refuses (Script (record { line = e.line; cause = Code e.cause }))
+
+-- a bad byte is told before each other fault
+abbrev pub asm_reply_by : Option ℕ → List (List ℕ) → Reply
+asm_reply_by (Some n) text = Refuses (Script (record { line = n; cause = Byte }))
+asm_reply_by None text = assembly_reply (assembled text)
+
+abbrev pub asm_reply : List (List ℕ) → Reply
+asm_reply text = asm_reply_by (bad_line 1 text) text
+
+-- ---- `dis`: a packed set as a script
+
+abbrev pub dis_reply : Result TaskSet ℕ → Reply
+dis_reply (Ok set) = Puts (script_text set)
+dis_reply (Err place) = Refuses (Packed place)
+
+-- ---- `pack`: the set of a script, packed
+
+abbrev pub pack_reply : Result scripts.Script ScriptError → Reply
+pack_reply (Ok s) = Puts (packed s.set)
+pack_reply (Err e) = Refuses (Script e)
+
+-- ---- all of them
 
 abbrev pub reply_within : Command → List ℕ → Reply
-reply_within c input = Refuses NotBuilt
+reply_within Run input = run_reply (read input)
+reply_within Asm input = asm_reply (lines input)
+reply_within Dis input = dis_reply (unpacked input)
+reply_within Pack input = pack_reply (read input)
 
 unfoldable pub reply : Command → List ℕ → Reply
 reply c input = if nat_lt most_input (length input) then Refuses (Script too_long) else reply_within c input

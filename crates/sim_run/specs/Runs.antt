@@ -13,8 +13,8 @@ use Rattle.headline.specs.Run.{after, event_lines, report_text}
 use Rattle.kernel_core.specs.Kept.{IsKept, finishes}
 use Rattle.kernel_core.specs.Stands.{Stands, durable_of}
 use Rattle.kernel_core.specs.declared.kernel.Kernel.{Kernel}
-use Rattle.sim_run.specs.declared.status.Status.{Status}
-use Rattle.sim_run.specs.declared.status.Status.TheVariants.{Done, WriteFault, NoMemory}
+use Rattle.script.specs.declared.status.Status.{Status}
+use Rattle.script.specs.declared.status.Status.TheVariants.{Done, WriteFault, NoMemory}
 use Rattle.std.specs.Prelude.{◌≤◌}
 
 -- the lines of the first n events

@@ -8,11 +8,14 @@ ghost use Rattle.sim_run.specs.Replies.{reply};
 ghost use Rattle.sim_run.specs.Answers.{Answered, IsComplete};
 ghost use Rattle.sim_run.specs.Carried.{CarriedOut, Replied};
 
+use crate::assembly::asm;
 use crate::command::{Command, words_of};
 use crate::input::read_input;
 use crate::names::put_name;
-use crate::status::Status;
+use crate::packing::{dis, pack};
+use crate::run::run;
 use nv_base::{Sink, Source};
+use script::Status;
 use std::alloc::Global;
 use std::rc::RcStr;
 
@@ -23,9 +26,11 @@ fn answer<K: Sink>(alloc: Global, command: Command, input: &[u8], out: &mut K) -
     ensures replied { Replied (reply command input.now) (Rose (K.faults out.old) (K.faults out.new)) (K.taken out.old) (K.taken out.new) result }
     ensures never_falls { K.faults out.old ≤ K.faults out.new }
 {
-    let _ = alloc;
     match command {
-        Command::Run => Status::NotBuilt,
+        Command::Run => run(alloc, input, out),
+        Command::Asm => asm(alloc, input, out),
+        Command::Dis => dis(alloc, input, out),
+        Command::Pack => pack(alloc, input, out),
     }
 }
 

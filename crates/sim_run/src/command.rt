@@ -2,7 +2,7 @@
 
 ghost use Rattle.std.specs.Prelude.{◌≡◌, map, Some, None, MatchResult};
 ghost use Rattle.std.specs.Rc.{rc_str_bytes};
-ghost use Rattle.sim_run.specs.Commands.{command_of};
+ghost use Rattle.sim_run.specs.Commands.{command_of, named};
 
 use std::rc::RcStr;
 
@@ -11,6 +11,12 @@ use std::rc::RcStr;
 pub enum Command {
     /// `run`: a script in, the event machine's report out.
     Run,
+    /// `asm`: assembler text in, its words out, one a line.
+    Asm,
+    /// `dis`: a packed set in, its script text out.
+    Dis,
+    /// `pack`: a script in, its packed set out.
+    Pack,
 }
 
 /// Why words are no command.
@@ -20,6 +26,22 @@ pub enum WordsRefusal {
     Usage,
 }
 
+fn named(word: &str) -> Option<Command>
+    ensures { result ≡ named word.now }
+{
+    if word == "run" {
+        Some(Command::Run)
+    } else if word == "asm" {
+        Some(Command::Asm)
+    } else if word == "dis" {
+        Some(Command::Dis)
+    } else if word == "pack" {
+        Some(Command::Pack)
+    } else {
+        None
+    }
+}
+
 /// The command that these words name. `Usage` exactly where they name none. Takes no memory.
 pub fn words_of(words: &[RcStr]) -> Result<Command, WordsRefusal>
     ensures { MatchResult result (λ c. command_of (map rc_str_bytes words.now) ≡ Some c) (λ e. command_of (map rc_str_bytes words.now) ≡ None) }
@@ -27,9 +49,8 @@ pub fn words_of(words: &[RcStr]) -> Result<Command, WordsRefusal>
     let [word] = words else {
         return Err(WordsRefusal::Usage);
     };
-    if word.as_str() == "run" {
-        Ok(Command::Run)
-    } else {
-        Err(WordsRefusal::Usage)
+    match named(word.as_str()) {
+        Some(command) => Ok(command),
+        None => Err(WordsRefusal::Usage),
     }
 }

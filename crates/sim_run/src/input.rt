@@ -4,8 +4,8 @@ ghost use Rattle.std.specs.Prelude.{◌≡◌, ◌≤◌, length, IfOk, IfErr};
 ghost use Rattle.nv_base.specs.Streams.{GaveAll, Rose};
 ghost use Rattle.sim_run.specs.Carried.{Unread};
 
-use crate::status::{ScriptError, Status};
 use nv_base::{ReadRefusal, Source, read_all};
+use script::{ScriptCause, ScriptError, Status};
 use std::alloc::Global;
 
 /// The most bytes of an input.
@@ -22,7 +22,10 @@ pub(crate) fn read_input<S: Source>(alloc: Global, src: &mut S) -> Result<Vec<u8
     match read_all(alloc, src, MOST_INPUT) {
         Ok(bytes) => Ok(bytes),
         Err(ReadRefusal::ReadFault) => Err(Status::ReadFault),
-        Err(ReadRefusal::TooLong) => Err(Status::Script(ScriptError { line: 0, cause: 1 })),
+        Err(ReadRefusal::TooLong) => Err(Status::Script(ScriptError {
+            line: 0,
+            cause: ScriptCause::Long,
+        })),
         Err(ReadRefusal::NoMemory) => Err(Status::NoMemory),
     }
 }

@@ -1,14 +1,16 @@
 //! The simulator: from bytes in to bytes out.
 #![tactic(auto)]
 
+mod assembly;
 mod call;
 mod command;
 mod input;
 mod names;
+mod packing;
 mod read_back;
 mod run;
-mod status;
+mod texts;
 
 pub use call::simulate;
 pub use command::{Command, WordsRefusal, words_of};
-pub use status::Status;
+pub use script::Status;

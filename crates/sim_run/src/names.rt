@@ -5,11 +5,11 @@ ghost use Rattle.std.specs.Fmt.{decimal};
 ghost use Rattle.arrayvec.specs.ArrayString.{array_string_len};
 ghost use Rattle.nv_base.specs.Streams.{PutFront, Rose, grown};
 ghost use Rattle.sim_run.specs.Carried.{PutsName};
-ghost use Rattle.sim_run.specs.Exits.{line_for};
+ghost use Rattle.script.specs.Exits.{line_for};
 
-use crate::status::Status;
 use arrayvec::ArrayString;
 use nv_base::{Sink, put_all};
+use script::Status;
 
 /// Room for the longest such line, which has 38 bytes.
 const ROOM: usize = 64;
@@ -46,7 +46,7 @@ fn line_for(status: Status) -> ArrayString<ROOM>
             push(&mut line, "error script ");
             push_number(&mut line, error.line);
             push(&mut line, " ");
-            push(&mut line, "x");
+            push(&mut line, error.cause.words());
             push(&mut line, "\n");
         }
         Status::Packed(place) => {

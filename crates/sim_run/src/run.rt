@@ -1,19 +1,23 @@
 //! A run of a script: its events, one after another, and then what is read back.
 
-ghost use Rattle.std.specs.Prelude.{◌≡◌, ◌≤◌};
+ghost use Rattle.std.specs.Prelude.{◌≡◌, ◌≤◌, Ok};
 ghost use Rattle.nv_base.specs.Streams.{Rose};
 ghost use Rattle.schedule_model.specs.Failures.{events_of};
 ghost use Rattle.schedule_model.specs.Parts.{failure_count};
+ghost use Rattle.script.specs.Reading.{read};
+ghost use Rattle.script.specs.Views.{script_of};
+ghost use Rattle.sim_run.specs.Carried.{Replied};
+ghost use Rattle.sim_run.specs.Replies.{run_reply};
 ghost use Rattle.sim_run.specs.Runs.{RunAnswers};
 
 use crate::read_back::{put_line, put_tail};
-use crate::status::Status;
 use kernel_core::Kernel;
 use kernel_core::laws::durable_is_left;
 use nv_base::Sink;
 use power_trace::Schedule;
 use report::LineBuf;
 use schedule_model::laws::events_are_within_limits;
+use script::{Script, ScriptRefusal, Status, read_script};
 use std::alloc::Global;
 use task_set::TaskSet;
 
@@ -50,5 +54,29 @@ pub(crate) fn run_events<K: Sink>(
     match put_tail(out, &mut text, &kernel) {
         Ok(()) => Status::Done,
         Err(_) => Status::WriteFault,
+    }
+}
+
+/// What a script is answered with: `NotBuilt` before any line where it has more than one core or a failure of power.
+fn run_script<K: Sink>(alloc: Global, script: Script, out: &mut K) -> Status
+    requires { script.schedule.cores ≡ script.set.cores }
+    ensures replied { Replied (run_reply (Ok (script_of script))) (Rose (K.faults out.old) (K.faults out.new)) (K.taken out.old) (K.taken out.new) result }
+    ensures never_falls { K.faults out.old ≤ K.faults out.new }
+{
+    if script.set.cores() != 1 || script.schedule.failures() != 0 {
+        return Status::NotBuilt;
+    }
+    run_events(alloc, script.set, &script.schedule, out)
+}
+
+/// Runs the script that an input is, or answers with the first line that is refused.
+pub(crate) fn run<K: Sink>(alloc: Global, input: &[u8], out: &mut K) -> Status
+    ensures replied { Replied (run_reply (read input.now)) (Rose (K.faults out.old) (K.faults out.new)) (K.taken out.old) (K.taken out.new) result }
+    ensures never_falls { K.faults out.old ≤ K.faults out.new }
+{
+    match read_script(alloc, input) {
+        Ok(script) => run_script(alloc, script, out),
+        Err(ScriptRefusal::NoMemory) => Status::NoMemory,
+        Err(ScriptRefusal::At(error)) => Status::Script(error),
     }
 }

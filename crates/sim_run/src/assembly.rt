@@ -1,0 +1,97 @@
+//! The command `asm`: assembler text in, its words out.
+
+ghost use Rattle.std.specs.Prelude.{◌≡◌, ◌≤◌, IfOk, length, map, string_bytes};
+ghost use Rattle.std.specs.Str.Lines.{lines};
+ghost use Rattle.nv_base.specs.Streams.{Rose};
+ghost use Rattle.rv_asm.specs.Assembly.{assembled};
+ghost use Rattle.sim_run.specs.Carried.{Replied};
+ghost use Rattle.sim_run.specs.Replies.{Puts, asm_reply, assembly_reply, bad_line, words_text};
+
+use crate::texts::put_text;
+use nv_base::{NoMemory, Sink};
+use plain_text::{Lines, is_plain};
+use rv_asm::{AsmRefusal, assemble_lines};
+use rv_isa::push_hexadecimal;
+use script::{ScriptCause, ScriptError, Status};
+use std::alloc::{AllocError, Global};
+
+/// The lines of an input.
+fn lines_of(alloc: Global, input: &[u8]) -> Result<Vec<&[u8]>, AllocError>
+    ensures exact { IfOk result (λ ls. map (λ line. line.now) ls.items ≡ lines input.entry.now) }
+    ensures few { IfOk result (λ ls. length ls.items ≤ length input.entry.now) }
+{
+    Lines::new(input).collect(alloc)
+}
+
+/// The number of the first line, from 1, with a byte that is not allowed.
+fn first_bad(lines: &[&[u8]]) -> Option<u32>
+    requires { length lines.now ≤ 1048576 }
+    ensures { result ≡ bad_line 1 (map (λ line. line.now) lines.now) }
+{
+    let mut number = 1;
+    for line in lines {
+        if !is_plain(line) {
+            return Some(number);
+        }
+        number += 1;
+    }
+    None
+}
+
+/// Words as text: each a line of 8 hexadecimal digits.
+fn text_of(alloc: Global, words: &[u32]) -> Result<String, NoMemory>
+    ensures { IfOk result (λ text. string_bytes text ≡ words_text words.now) }
+{
+    let mut text = String::new(alloc);
+    for word in words {
+        push_hexadecimal(&mut text, 8, *word)?;
+        text.push_str("\n")?;
+    }
+    Ok(text)
+}
+
+/// Puts words, each on a line.
+fn put_words<K: Sink>(alloc: Global, words: &[u32], out: &mut K) -> Status
+    ensures replied { Replied (Puts (words_text words.now)) (Rose (K.faults out.old) (K.faults out.new)) (K.taken out.old) (K.taken out.new) result }
+    ensures never_falls { K.faults out.old ≤ K.faults out.new }
+{
+    let Ok(text) = text_of(alloc, words) else {
+        return Status::NoMemory;
+    };
+    put_text(out, text.as_bytes())
+}
+
+/// Puts the words of lines none of which has a bad byte, or answers with the first faulty line.
+fn assemble<K: Sink>(alloc: Global, lines: &[&[u8]], out: &mut K) -> Status
+    requires { length lines.now ≤ 1048576 }
+    ensures replied { Replied (assembly_reply (assembled (map (λ line. line.now) lines.now))) (Rose (K.faults out.old) (K.faults out.new)) (K.taken out.old) (K.taken out.new) result }
+    ensures never_falls { K.faults out.old ≤ K.faults out.new }
+{
+    match assemble_lines(alloc, lines) {
+        Ok(words) => put_words(alloc, words.as_slice(), out),
+        Err(AsmRefusal::NoMemory) => Status::NoMemory,
+        Err(AsmRefusal::At(error)) => Status::Script(ScriptError {
+            line: error.line,
+            cause: ScriptCause::Code(error.cause),
+        }),
+    }
+}
+
+/// Puts the words of a text, each on a line, or answers with the first line that is refused: for a byte that is not
+/// allowed, before each fault of an instruction.
+pub(crate) fn asm<K: Sink>(alloc: Global, input: &[u8], out: &mut K) -> Status
+    requires { length input.now ≤ 1048576 }
+    ensures replied { Replied (asm_reply (lines input.now)) (Rose (K.faults out.old) (K.faults out.new)) (K.taken out.old) (K.taken out.new) result }
+    ensures never_falls { K.faults out.old ≤ K.faults out.new }
+{
+    let Ok(lines) = lines_of(alloc, input) else {
+        return Status::NoMemory;
+    };
+    match first_bad(lines.as_slice()) {
+        Some(line) => Status::Script(ScriptError {
+            line,
+            cause: ScriptCause::Byte,
+        }),
+        None => assemble(alloc, lines.as_slice(), out),
+    }
+}
