@@ -22,7 +22,7 @@ use Rattle.set_model.specs.Numbers.{sizes_of}
 use Rattle.set_model.specs.Formatted.{formatted}
 use Rattle.set_model.specs.Views.{spawn_of, task_of}
 use Rattle.set_model.proofs.AtFacts.{all_at}
-use Rattle.task_model.specs.Progress.{HasShape}
+use Rattle.task_model.specs.Shape.{HasShape}
 use Rattle.task_model.proofs.MachineFacts.{length-words_at}
 use Rattle.task_model.proofs.Shapes.{shape-set}
 use Rattle.task_model.proofs.WriteFacts.{length-put_from, seen}

@@ -10,7 +10,7 @@ use Rattle.kernel_model.specs.Replay.{Base, TaskRec}
 use Rattle.set_model.specs.Sets.{TaskSet, object_at}
 use Rattle.set_model.specs.Limits.{IsTaskSet}
 use Rattle.task_model.specs.TaskSteps.{address_of}
-use Rattle.task_model.specs.Progress.{HasShape}
+use Rattle.task_model.specs.Shape.{HasShape}
 use Rattle.kernel_core.specs.Shapes.{behind}
 use Rattle.kernel_core.specs.declared.kernel.Kernel.{Kernel}
 use Rattle.kernel_core.specs.declared.kernel.Phase.{Phase}

@@ -4,7 +4,7 @@
 
 ghost use Rattle.std.specs.Prelude.{◌≡◌};
 ghost use Rattle.std.specs.Process.{exit_status};
-ghost use Rattle.sim_run.specs.Exits.{exit_of};
+ghost use Rattle.script.specs.Exits.{exit_of};
 
 use nv_base::{NoMemory, StdSink, StdSource};
 use sim_run::{Status, simulate};

@@ -47,3 +47,7 @@ replied c x bytes NoMemory g h = h
 replied c x bytes NotBuilt g h = (inl (all_read _ _ _ g), of_given x.left x.left_now bytes (λ input. reply c input ≡ Refuses NotBuilt) g h.0, h.1)
 replied c x bytes (Script s) g h = (inl (all_read _ _ _ g), of_given x.left x.left_now bytes (λ input. reply c input ≡ Refuses (Script s)) g h.0, h.1)
 replied c x bytes (Packed p) g h = (inl (all_read _ _ _ g), of_given x.left x.left_now bytes (λ input. reply c input ≡ Refuses (Packed p)) g h.0, h.1)
+
+-- what is promised of the input
+pub promised : (P : List ℕ → Type 0) (left now : Option (List ℕ)) (bytes : List ℕ) → GaveAll left now bytes → P bytes → OfInput left P
+promised P left now bytes g p = of_given left now bytes P g p

@@ -1,11 +1,14 @@
 //! The call that a program makes.
 
-ghost use Rattle.std.specs.Prelude.{◌≡◌, ◌≤◌, length, map};
+ghost use Rattle.std.specs.Prelude.{◌≡◌, ◌≤◌, Some, length, map};
 ghost use Rattle.std.specs.Rc.{rc_str_bytes};
 ghost use Rattle.nv_base.specs.Streams.{Rose};
 ghost use Rattle.sim_run.specs.Commands.{command_of};
 ghost use Rattle.sim_run.specs.Replies.{reply};
-ghost use Rattle.sim_run.specs.Answers.{Answered, IsComplete};
+ghost use Rattle.sim_run.specs.Answers.{Answered, IsComplete, OfInput};
+ghost use Rattle.script.specs.declared.status.Status.TheVariants as Status;
+ghost use Rattle.sim_run.specs.declared.command.Command.TheVariants as Command;
+ghost use Rattle.sim_run.specs.Promises.{IsPromised, KeepsHeadline};
 ghost use Rattle.sim_run.specs.Carried.{CarriedOut, Replied};
 
 use crate::assembly::asm;
@@ -24,6 +27,7 @@ use std::rc::RcStr;
 fn answer<K: Sink>(alloc: Global, command: Command, input: &[u8], out: &mut K) -> Status
     requires { length input.now ≤ 1048576 }
     ensures replied { Replied (reply command input.now) (Rose (K.faults out.old) (K.faults out.new)) (K.taken out.old) (K.taken out.new) result }
+    ensures headline { command ≡ Command.Run → result ≡ Status.Done → IsPromised input.now }
     ensures never_falls { K.faults out.old ≤ K.faults out.new }
 {
     match command {
@@ -37,6 +41,7 @@ fn answer<K: Sink>(alloc: Global, command: Command, input: &[u8], out: &mut K) -
 /// All of a call but the line that names its answer.
 fn carry_out<S: Source, K: Sink>(alloc: Global, words: &[RcStr], src: &mut S, out: &mut K) -> Status
     ensures answer { CarriedOut (command_of (map rc_str_bytes words.now)) (record { left = S.left src.old; left_now = S.left src.new; read_faults = S.faults src.old; read_faults_now = S.faults src.new; taken = K.taken out.old; taken_now = K.taken out.new; write_faults = K.faults out.old; write_faults_now = K.faults out.new }) result }
+    ensures headline { command_of (map rc_str_bytes words.now) ≡ Some Command.Run → result ≡ Status.Done → OfInput (S.left src.old) IsPromised }
     ensures source_never_falls { S.faults src.old ≤ S.faults src.new }
     ensures sink_never_falls { K.faults out.old ≤ K.faults out.new }
 {
@@ -49,7 +54,10 @@ fn carry_out<S: Source, K: Sink>(alloc: Global, words: &[RcStr], src: &mut S, ou
     }
 }
 
-/// Carries out a command.
+/// Carries out a command: reads the source to its end, and puts what the command replies to the input. Every other
+/// answer is named by a line, and then nothing else was put, but for a sink that failed on the way. `run` puts the
+/// event machine's report, of which the headline holds. It waits for nobody, and takes all its memory before
+/// anything is put.
 pub fn simulate<S: Source, K: Sink>(
     alloc: Global,
     words: &[RcStr],
@@ -57,6 +65,7 @@ pub fn simulate<S: Source, K: Sink>(
     out: &mut K,
 ) -> Status
     ensures answer { Answered (command_of (map rc_str_bytes words.now)) (record { left = S.left src.old; left_now = S.left src.new; read_faults = S.faults src.old; read_faults_now = S.faults src.new; taken = K.taken out.old; taken_now = K.taken out.new; write_faults = K.faults out.old; write_faults_now = K.faults out.new }) result }
+    ensures headline { KeepsHeadline (command_of (map rc_str_bytes words.now)) (record { left = S.left src.old; left_now = S.left src.new; read_faults = S.faults src.old; read_faults_now = S.faults src.new; taken = K.taken out.old; taken_now = K.taken out.new; write_faults = K.faults out.old; write_faults_now = K.faults out.new }) result }
     ensures complete { IsComplete (command_of (map rc_str_bytes words.now)) (record { left = S.left src.old; left_now = S.left src.new; read_faults = S.faults src.old; read_faults_now = S.faults src.new; taken = K.taken out.old; taken_now = K.taken out.new; write_faults = K.faults out.old; write_faults_now = K.faults out.new }) result }
     ensures source_never_falls { S.faults src.old ≤ S.faults src.new }
     ensures sink_never_falls { K.faults out.old ≤ K.faults out.new }

@@ -4,13 +4,17 @@ ghost use Rattle.std.specs.Prelude.{◌≡◌, ◌≤◌, Ok};
 ghost use Rattle.nv_base.specs.Streams.{Rose};
 ghost use Rattle.schedule_model.specs.Failures.{events_of};
 ghost use Rattle.schedule_model.specs.Parts.{failure_count};
+ghost use Rattle.headline.specs.Headline.{Headline, report_text};
 ghost use Rattle.script.specs.Reading.{read};
+ghost use Rattle.script.specs.declared.status.Status.TheVariants as Status;
 ghost use Rattle.script.specs.Views.{script_of};
 ghost use Rattle.sim_run.specs.Carried.{Replied};
 ghost use Rattle.sim_run.specs.Replies.{run_reply};
+ghost use Rattle.sim_run.specs.Promises.{IsPromised};
 ghost use Rattle.sim_run.specs.Runs.{RunAnswers};
 
 use crate::read_back::{put_line, put_tail};
+use headline::laws::report_keeps_headline;
 use kernel_core::Kernel;
 use kernel_core::laws::durable_is_left;
 use nv_base::Sink;
@@ -61,8 +65,13 @@ pub(crate) fn run_events<K: Sink>(
 fn run_script<K: Sink>(alloc: Global, script: Script, out: &mut K) -> Status
     requires { script.schedule.cores ≡ script.set.cores }
     ensures replied { Replied (run_reply (Ok (script_of script))) (Rose (K.faults out.old) (K.faults out.new)) (K.taken out.old) (K.taken out.new) result }
+    ensures headline { Headline script.set (events_of script.schedule) (report_text script.set (events_of script.schedule)) }
     ensures never_falls { K.faults out.old ≤ K.faults out.new }
 {
+    // what the headline promises of each report
+    report_keeps_headline();
+    events_are_within_limits();
+    let _events = script.schedule.len();
     if script.set.cores() != 1 || script.schedule.failures() != 0 {
         return Status::NotBuilt;
     }
@@ -72,6 +81,7 @@ fn run_script<K: Sink>(alloc: Global, script: Script, out: &mut K) -> Status
 /// Runs the script that an input is, or answers with the first line that is refused.
 pub(crate) fn run<K: Sink>(alloc: Global, input: &[u8], out: &mut K) -> Status
     ensures replied { Replied (run_reply (read input.now)) (Rose (K.faults out.old) (K.faults out.new)) (K.taken out.old) (K.taken out.new) result }
+    ensures headline { result ≡ Status.Done → IsPromised input.now }
     ensures never_falls { K.faults out.old ≤ K.faults out.new }
 {
     match read_script(alloc, input) {

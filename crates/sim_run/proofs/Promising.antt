@@ -1,0 +1,47 @@
+-- The report that was put is the one of which the headline holds.
+use Rattle.std.proofs.Common.{◌≡◌, ℕ, Bool, true, false, cond, List, length, Option, Some, None, Ok, subst, sym, ap, ◌∙◌, ltb, refl}
+use Rattle.nv_base.specs.Streams.{grown}
+use Rattle.schedule_model.specs.Failures.{events_of}
+use Rattle.headline.specs.Headline.{Headline, report_text}
+use Rattle.script.specs.Parts as scripts
+use Rattle.script.specs.Reading.{read}
+use Rattle.script.specs.declared.status.Status.{Status}
+use Rattle.script.specs.declared.status.Status.TheVariants.{Done, NotBuilt, Script}
+use Rattle.sim_run.specs.declared.command.Command.{Command}
+use Rattle.sim_run.specs.declared.command.Command.TheVariants.{Run}
+use Rattle.sim_run.specs.Replies.{Reply, Puts, Refuses, is_built, most_input, reply, run_reply, too_long}
+use Rattle.sim_run.specs.Answers.{Answered, Exchange, IsDone, OfInput}
+use Rattle.sim_run.specs.Promises.{IsHeadlined, IsPromised, KeepsHeadline}
+
+by_built : (b : Bool) (report text : List ℕ) → cond b (Puts report) (Refuses NotBuilt) ≡ Puts text → report ≡ text
+by_built true report text e = cc
+by_built false report text e = absurd cc
+
+by_length : (long b : Bool) (report text : List ℕ) → cond long (Refuses (Script too_long)) (cond b (Puts report) (Refuses NotBuilt)) ≡ Puts text → report ≡ text
+by_length true b report text e = absurd cc
+by_length false b report text e = by_built b report text e
+
+-- what `run` puts is the report
+same_report : (input text : List ℕ) (s : scripts.Script) → read input ≡ Ok s → reply Run input ≡ Puts text → report_text s.set (events_of s.schedule) ≡ text
+unfolding reply
+same_report input text s e r =
+    by_length (ltb most_input (length input)) (is_built s) (report_text s.set (events_of s.schedule)) text
+    (ap (λ x. cond (ltb most_input (length input)) (Refuses (Script too_long)) (run_reply x)) (sym e) ∙ r)
+
+headlined : (x : Exchange) (input : List ℕ) → IsPromised input → IsDone Run x input → IsHeadlined x input
+headlined x input p d = record {
+  script = p.script;
+  reads = p.reads;
+  text = d.text;
+  promise = subst (Headline p.script.set (events_of p.script.schedule)) (same_report input d.text p.script p.reads d.replies) p.promise;
+  put = d.put;
+}
+
+both : (x : Exchange) (left : Option (List ℕ)) → OfInput left IsPromised → OfInput left (IsDone Run x) → OfInput left (IsHeadlined x)
+both x None p d = tt
+both x (Some input) p d = headlined x input p d
+
+pub keeps_headline : (command : Option Command) (x : Exchange) (status : Status) → (command ≡ Some Run → status ≡ Done → OfInput x.left IsPromised) → Answered command x status → KeepsHeadline command x status
+keeps_headline command x status p h = λ run done.
+    let at : Answered (Some Run) x Done = subst (λ s. Answered (Some Run) x s) done (subst (λ c. Answered c x status) run h) in
+    both x x.left (p run done) at.1

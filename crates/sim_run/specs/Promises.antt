@@ -1,0 +1,30 @@
+-- What the headline promises of the answer to a run. This project's own.
+use Rattle.std.specs.Prelude.{◌≡◌, ℕ, List, Option, Some, Ok}
+use Rattle.nv_base.specs.Streams.{grown}
+use Rattle.schedule_model.specs.Failures.{events_of}
+use Rattle.headline.specs.Headline.{Headline, report_text}
+use Rattle.script.specs.Parts.{Script}
+use Rattle.script.specs.Reading.{read}
+use Rattle.script.specs.declared.status.Status.{Status}
+use Rattle.script.specs.declared.status.Status.TheVariants.{Done}
+use Rattle.sim_run.specs.declared.command.Command.{Command}
+use Rattle.sim_run.specs.declared.command.Command.TheVariants.{Run}
+use Rattle.sim_run.specs.Answers.{Exchange, OfInput}
+
+-- the input is a script, of whose report the headline holds
+pub record IsPromised (input : List ℕ) : Type 0 where
+  pub script : Script
+  pub reads : read input ≡ Ok script
+  pub promise : Headline script.set (events_of script.schedule) (report_text script.set (events_of script.schedule))
+
+-- and that report was put, whole
+pub record IsHeadlined (x : Exchange) (input : List ℕ) : Type 0 where
+  pub script : Script
+  pub reads : read input ≡ Ok script
+  pub text : List ℕ
+  pub promise : Headline script.set (events_of script.schedule) text
+  pub put : x.taken_now ≡ grown x.taken text
+
+-- `run` that is answered by Done
+abbrev pub KeepsHeadline : Option Command → Exchange → Status → Type 0
+KeepsHeadline command x status = command ≡ Some Run → status ≡ Done → OfInput x.left (IsHeadlined x)
