@@ -19,7 +19,8 @@ within found n words (l ∷ ls) e h = go (line_after found n words l) h (λ more
         let same : record { line = n; cause = cause } ≡ e = cc in
         omega (arith, ap (λ (e : AsmError). e.line) same)
 
+pub fault_in : (lines : List (List ℕ)) (e : AsmError) → assembled lines ≡ Err e → e.line ≤ length lines
+fault_in lines e h = omega (arith, within (labels_of (map parsed lines)) 1 [] (map parsed lines) e h, length-map lines parsed)
+
 pub fault_small : (lines : List (Bor (List ℕ))) (e : AsmError) → assembled (map (λ line. line.now) lines) ≡ Err e → e.line ≤ length lines
-fault_small lines e h =
-    let texts : List (List ℕ) = map (λ line. line.now) lines in
-    omega (arith, within (labels_of (map parsed texts)) 1 [] (map parsed texts) e h, length-map texts parsed, length-map lines (λ (line : Bor (List ℕ)). line.now))
+fault_small lines e h = omega (arith, fault_in (map (λ line. line.now) lines) e h, length-map lines (λ (line : Bor (List ℕ)). line.now))

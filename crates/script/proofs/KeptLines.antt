@@ -212,35 +212,35 @@ keyword_kept Nvk n p q words k f h =
 keyword_kept Cores n p q words k f h =
     set_kept Cores (record p { cores_line = n }) q (cores_after p.set words)
     (λ new e.
-      let a = cores_ok p.set new words e in
-      subst (λ (s : TaskSet). Kept 2 s p.timeline) a.2 (kept_cores (rank p.last) p.set p.timeline k a.0 a.1 (follows p.last stages.Cores f)))
+    let a = cores_ok p.set new words e in
+    subst (λ (s : TaskSet). Kept 2 s p.timeline) a.2 (kept_cores (rank p.last) p.set p.timeline k a.0 a.1 (follows p.last stages.Cores f)))
     h
 keyword_kept Memory n p q words k f h =
     set_kept Memory p q (memory_after p.set words)
     (λ new e.
-      let a = memory_ok p.set new words e in
-      subst (λ (s : TaskSet). Kept 3 s p.timeline) a.3 (kept_memory (rank p.last) p.set p.timeline k a.0 a.1 a.2 (follows p.last stages.Memory f)))
+    let a = memory_ok p.set new words e in
+    subst (λ (s : TaskSet). Kept 3 s p.timeline) a.3 (kept_memory (rank p.last) p.set p.timeline k a.0 a.1 a.2 (follows p.last stages.Memory f)))
     h
 keyword_kept Records n p q words k f h =
     set_kept Records p q (records_after p.set words)
     (λ new e.
-      let a = records_ok p.set new words e in
-      subst (λ (s : TaskSet). Kept 4 s p.timeline) a.2 (kept_records (rank p.last) p.set p.timeline k a.0 a.1 (follows p.last stages.Records f)))
+    let a = records_ok p.set new words e in
+    subst (λ (s : TaskSet). Kept 4 s p.timeline) a.2 (kept_records (rank p.last) p.set p.timeline k a.0 a.1 (follows p.last stages.Records f)))
     h
 keyword_kept Object n p q words k f h =
     set_kept Object p q (object_after p.set words)
     (λ new e.
-      let a = object_ok p.set new words e in
-      let names = named_with (λ (o : ObjectPart). o.name) p.set.objects a.object a.word a.object.name k.object_names a.named refl in
-      subst (λ (s : TaskSet). Kept 5 s p.timeline) a.same
-      (kept_object (rank p.last) p.set p.timeline k a.object (a.size, a.slots, a.first) names (eqb-false (length p.set.objects) 64 a.room) (follows p.last stages.Object f)))
+    let a = object_ok p.set new words e in
+    let names = named_with (λ (o : ObjectPart). o.name) p.set.objects a.object a.word a.object.name k.object_names a.named refl in
+    subst (λ (s : TaskSet). Kept 5 s p.timeline) a.same
+    (kept_object (rank p.last) p.set p.timeline k a.object (a.size, a.slots, a.first) names (eqb-false (length p.set.objects) 64 a.room) (follows p.last stages.Object f)))
     h
 keyword_kept Task n p q words k f h =
     set_kept Task p q (task_after p.set words)
     (λ new e.
-      let a = task_ok p.set new words e in
-      subst (λ (s : TaskSet). Kept 7 s p.timeline) a.same
-      (kept_task (rank p.last) p.set p.timeline k a.task a.known (eqb-false (length p.set.tasks) p.set.records a.room) (follows p.last stages.Task f)))
+    let a = task_ok p.set new words e in
+    subst (λ (s : TaskSet). Kept 7 s p.timeline) a.same
+    (kept_task (rank p.last) p.set p.timeline k a.task a.known (eqb-false (length p.set.tasks) p.set.records a.room) (follows p.last stages.Task f)))
     h
 keyword_kept Power n p q words k f h =
     events_kept Power p q (power_after p.timeline words)

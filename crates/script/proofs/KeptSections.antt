@@ -28,14 +28,14 @@ use Rattle.script.proofs.KeptLines.{KeptParts, line_kept}
 abbrev pub IsShort : Type 0
 IsShort = (lines : List (List ℕ)) → (words : List ℕ) → assembled lines ≡ Ok words → length words ≤ 1024
 
-record Says (p : Parts) (header : Header) : Type 0 where
-  stage : may_follow p.last stages.Program ≡ true
-  word : List ℕ
-  named : new_name (λ program. program.name) p.set.programs word ≡ Ok header.name
-  fuel : IsWithin 1 1000000 header.fuel
-  room : eqb (length p.set.programs) 16 ≡ false
+pub record Says (p : Parts) (header : Header) : Type 0 where
+  pub stage : may_follow p.last stages.Program ≡ true
+  pub word : List ℕ
+  pub named : new_name (λ program. program.name) p.set.programs word ≡ Ok header.name
+  pub fuel : IsWithin 1 1000000 header.fuel
+  pub room : eqb (length p.set.programs) 16 ≡ false
 
-header_ok : (p : Parts) (words : List (List ℕ)) (header : Header) → header_of p words ≡ Ok header → Says p header
+pub header_ok : (p : Parts) (words : List (List ℕ)) (header : Header) → header_of p words ≡ Ok header → Says p header
 unfolding header_of
 header_ok p words header h =
     let last = λ (name : List ℕ) (fuel : ℕ). let r : Result Header ScriptCause = cond (eqb (length p.set.programs) 16) (Err causes.Many) (Ok (record { name = name; fuel = fuel })) in r in
@@ -85,7 +85,7 @@ code_short : IsShort → (kind : BlockKind) (n : ℕ) (body : List (List ℕ)) (
 code_short short blocks.Program n body code h = short (map or_empty body) code (earlier_ok n (position is_bad body) (assembled (map or_empty body)) code h)
 code_short short blocks.Code n body code h = lines_short (n + 1) [] code body (omega arith) h
 
-program_ok : (p q : Parts) (header : Header) (code : List ℕ) (end : Option (List ℕ)) → program_after p header code end ≡ Ok q → (4 * length code ≤ p.set.memory) × (with_program p header code ≡ q)
+pub program_ok : (p q : Parts) (header : Header) (code : List ℕ) (end : Option (List ℕ)) → program_after p header code end ≡ Ok q → (4 * length code ≤ p.set.memory) × (with_program p header code ≡ q)
 unfolding program_after
 program_ok p q header code end h =
     let a = bind_ok (is_ended end) (λ line. cond (ltb p.set.memory (4 * length code)) (Err causes.Many) (Ok (with_program p header code))) q h in

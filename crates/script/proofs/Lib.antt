@@ -9,6 +9,7 @@ pub mod LinesRead
 pub mod ScriptLines
 pub mod BodyLines
 pub mod Faults
+pub mod Firsts
 pub mod HexWords
 pub mod ScriptSections
 pub mod SetRead
@@ -19,4 +20,5 @@ pub mod Kept
 pub mod KeptLines
 pub mod KeptSections
 pub mod NewNames
+pub mod Order
 pub mod Whole

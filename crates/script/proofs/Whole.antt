@@ -1,6 +1,7 @@
 -- A script that is read keeps all limits.
-use Rattle.std.proofs.Common.{◌≡◌, ℕ, ◌*◌, ◌%◌, ◌<◌, ◌≤◌, Bool, true, false, ◌&&◌, List, [], ◌∷◌, length, Option, Some, None, Ok, ltb, leb, eqb, refl, subst, arith, eq-eqb}
+use Rattle.std.proofs.Common.{◌≡◌, ℕ, ◌*◌, ◌%◌, ◌<◌, ◌≤◌, Bool, true, false, ◌&&◌, List, [], ◌∷◌, length, Option, Some, None, Ok, Err, cond, ltb, leb, eqb, refl, ap, subst, ◌∙◌, arith, eq-eqb}
 use Rattle.std.specs.Int.{is_in_range}
+use Rattle.std.specs.Str.Lines.{lines}
 use Rattle.std.specs.List.{AllByRecursion, list_all}
 use Rattle.std.proofs.lemmas.Bool.{le-leb, lt-ltb}
 use Rattle.kernel_model.specs.Effects.{Spawn}
@@ -8,11 +9,16 @@ use Rattle.set_model.specs.Limits.{IsWithin}
 use Rattle.set_model.specs.Sets.{ObjectPart, ProgramPart, TaskSet}
 use Rattle.task_set.specs.FirstBroken.{first_broken, cores_hold, memory_holds, records_hold, objects_hold, sizes_hold, slots_hold, firsts_hold, programs_hold, fuels_hold, codes_hold, tasks_hold, task_programs_hold}
 use Rattle.script.specs.declared.keyword.Stage.{Stage}
-use Rattle.script.specs.declared.keyword.Stage.TheVariants.{Run}
-use Rattle.script.specs.Parts.{Parts, Timeline, nothing, script_of}
-use Rattle.script.specs.Sections.{Section}
-use Rattle.script.specs.Reading.{sections_after}
-use Rattle.script.specs.Laws.{IsWithinLimits}
+use Rattle.script.specs.declared.keyword.Stage.TheVariants.{Nvk, Cores, Memory, Records, Object, Program, Task, Schedule, Run}
+use Rattle.script.specs.declared.refusals.ScriptCause.TheVariants.{Long}
+use Rattle.script.specs.Results.{◌>>=◌}
+use Rattle.script.specs.Parts.{Parts, Script, Timeline, nothing, script_of}
+use Rattle.script.specs.Sections.{Section, sections}
+use Rattle.script.specs.Reading.{ended, is_whole, read, sections_after}
+use Rattle.script.specs.Laws.{IsLaidOut, IsWithinLimits, stages_of}
+use Rattle.script.specs.Blocks.{at}
+use Rattle.script.proofs.Inversions.{bind_ok, at_ok}
+use Rattle.script.proofs.Order.{laid_out, taken_in_order}
 use Rattle.script.proofs.Kept.{rank, Kept, IsSized, IsFitting, kept_nothing}
 use Rattle.script.proofs.KeptSections.{IsShort, sections_kept}
 
@@ -88,3 +94,47 @@ pub taken_within : IsShort → (m : ℕ) (p : Parts) (sections : List Section) �
 taken_within short m p sections h last =
     let k : Kept (rank p.last) p.set p.timeline = sections_kept short 1 m nothing p sections kept_nothing h in
     within p (subst (λ (o : Option Stage). Kept (rank o) p.set p.timeline) last k)
+
+-- what bytes that are read as a script are
+record Comes (bytes : List ℕ) (script : Script) : Type 0 where
+  pub number : ℕ
+  pub parts : Parts
+  pub taken : sections_after 1 nothing (sections (lines bytes)) ≡ Ok (number, parts)
+  pub last : parts.last ≡ Some Run
+  pub same : script_of parts ≡ script
+
+whole_ok : (p q : Parts) (o : Option Stage) → is_whole p o ≡ Ok q → (o ≡ Some Run) × (p ≡ q)
+whole_ok p q None h = absurd cc
+whole_ok p q (Some Nvk) h = absurd cc
+whole_ok p q (Some Cores) h = absurd cc
+whole_ok p q (Some Memory) h = absurd cc
+whole_ok p q (Some Records) h = absurd cc
+whole_ok p q (Some Object) h = absurd cc
+whole_ok p q (Some Program) h = absurd cc
+whole_ok p q (Some Task) h = absurd cc
+whole_ok p q (Some Schedule) h = absurd cc
+whole_ok p q (Some Run) h = (refl, cc)
+
+comes : (bytes : List ℕ) (script : Script) → read bytes ≡ Ok script → Comes bytes script
+unfolding read
+comes bytes script h = go (ltb 1048576 (length bytes)) h
+  where
+    go : (b : Bool) → cond b (at 0 (Err Long)) (sections_after 1 nothing (sections (lines bytes)) >>= ended) ≡ Ok script → Comes bytes script
+    go true h = absurd cc
+    go false h =
+        let a = bind_ok (sections_after 1 nothing (sections (lines bytes))) ended script h in
+        let p : Parts = a.0.1 in
+        let b = bind_ok (at a.0.0 (is_whole p p.last)) (λ q. Ok (script_of q)) script a.2 in
+        let w = whole_ok p b.0 p.last (at_ok a.0.0 (is_whole p p.last) b.0 b.1) in
+        let same : script_of b.0 ≡ script = cc b.2 in
+        record { number = a.0.0; parts = p; taken = a.1; last = w.0; same = ap script_of w.1 ∙ same }
+
+pub read_within : IsShort → (bytes : List ℕ) (script : Script) → read bytes ≡ Ok script → IsWithinLimits script
+read_within short bytes script h =
+    let c = comes bytes script h in
+    subst IsWithinLimits c.same (taken_within short c.number c.parts (sections (lines bytes)) c.taken c.last)
+
+pub read_in_order : (bytes : List ℕ) (script : Script) → read bytes ≡ Ok script → IsLaidOut (stages_of (sections (lines bytes)))
+read_in_order bytes script h =
+    let c = comes bytes script h in
+    laid_out (stages_of (sections (lines bytes))) (taken_in_order 1 c.number nothing c.parts (sections (lines bytes)) c.taken c.last)

@@ -1,4 +1,4 @@
--- What the functions of this crate answer, beside the definitions: the same, unless memory ran out.
+-- What the functions of this crate answer, beside the definitions: the same, unless memory ran out. This project's own.
 use Rattle.std.specs.Prelude.{◌≡◌, ℕ, Result, Ok, Err}
 use Rattle.script.specs.declared.refusals.ScriptCause.{ScriptCause}
 use Rattle.script.specs.declared.refusals.ScriptError.{ScriptError}

@@ -12,5 +12,6 @@ pub mod Reading
 pub mod ScriptText
 pub mod Laws
 -- How the code meets them.
+pub mod Causes
 pub mod Answers
 pub mod Views

@@ -1,4 +1,4 @@
--- Answers that may be a refusal, one after another: the first refusal is the answer.
+-- Answers that may be a refusal, one after another: the first refusal is the answer. This project's own.
 use Rattle.std.specs.Prelude.{ℕ, List, [], ◌∷◌, Result, Ok, Err}
 
 infixl 10 ◌>>=◌

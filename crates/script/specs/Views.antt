@@ -1,4 +1,4 @@
--- What the code's own types are in the definitions.
+-- What the code's own types are in the definitions. This project's own.
 use Rattle.std.specs.Prelude.{map, option_map, []}
 use Rattle.plain_text.specs.Left.{words_left}
 use Rattle.script.specs.declared.section.Section as code

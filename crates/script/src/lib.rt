@@ -5,6 +5,7 @@ mod block;
 mod draft;
 mod items;
 mod keyword;
+pub mod laws;
 mod program;
 mod reading;
 mod refusals;
@@ -21,5 +22,7 @@ pub use refusals::{ScriptCause, ScriptError, ScriptRefusal};
 pub use set_text::script_text;
 pub use text_laws::script_text_is_read_back;
 
+#[cfg(test)]
+mod tests;
 #[cfg(test)]
 mod text_tests;

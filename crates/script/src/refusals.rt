@@ -39,6 +39,30 @@ pub enum ScriptCause {
     End,
 }
 
+impl ScriptCause {
+    ghost use Rattle.script.specs.Causes.{cause_number};
+
+    /// The number of the cause, from 1 to 12.
+    pub fn number(self) -> u32
+        ensures { result ≡ cause_number self }
+    {
+        match self {
+            ScriptCause::Long => 1,
+            ScriptCause::Byte => 2,
+            ScriptCause::Word => 3,
+            ScriptCause::Count => 4,
+            ScriptCause::Name => 5,
+            ScriptCause::Twice => 6,
+            ScriptCause::Unknown => 7,
+            ScriptCause::Number => 8,
+            ScriptCause::Range => 9,
+            ScriptCause::Code(_) => 10,
+            ScriptCause::Many => 11,
+            ScriptCause::End => 12,
+        }
+    }
+}
+
 /// The first line that is refused, from 1, and its first cause.
 #[derive(Clone, Copy, PartialEq, Eq, Debug)]
 pub struct ScriptError {
