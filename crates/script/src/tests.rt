@@ -6,52 +6,560 @@ use rv_asm::AsmCause;
 use std::alloc::Global;
 use std::test::Fail;
 
-/// Five lines.
+/// What stands before a text.
+#[derive(Clone, Copy)]
+enum Front {
+    Nothing,
+    Numbers,
+    Objects,
+    Code,
+}
+
+/// Four lines.
+const NUMBERS: &[u8] = b"nvk 1\ncores 1\nmemory 1024\nrecords 1\n";
+
+/// Five lines, with an object.
 const OBJECTS: &[u8] = b"nvk 1\ncores 1\nmemory 1024\nrecords 1\nobject x 1 2 5\n";
 
-/// Five lines behind these.
+/// Ten lines, with an object and a program.
 const CODE: &[u8] =
-    b"code add 100\n00050413 00000513 20000593 00100893\n00000073 20002283 008282B3 20502023\n00200893 00000073 00400893 00000073\nend\n";
+    b"nvk 1\ncores 1\nmemory 1024\nrecords 1\nobject x 1 2 5\ncode add 100\n00050413 00000513 20000593 00100893\n00000073 20002283 008282B3 20502023\n00200893 00000073 00400893 00000073\nend\n";
 
-/// The refusal of two pieces of text. None where they are a script.
-fn refusal(alloc: Global, head: &[u8], tail: &[u8]) -> Result<Option<ScriptError>, Fail> {
-    let mut text = Vec::from_slice(alloc, head)?;
-    text.extend_from_slice(tail)?;
-    match read_script(alloc, &text) {
+/// A text, and the line and the cause of its refusal.
+struct Row {
+    front: Front,
+    text: &'static [u8],
+    line: u32,
+    cause: ScriptCause,
+}
+
+static REFUSED: [Row; 79] = [
+    Row {
+        front: Front::Code,
+        text: b"task add 7 # \xc3\xa9\nrun\n",
+        line: 11,
+        cause: ScriptCause::Byte,
+    },
+    Row {
+        front: Front::Code,
+        text: b"run\r",
+        line: 11,
+        cause: ScriptCause::Byte,
+    },
+    Row {
+        front: Front::Code,
+        text: b"run\n\x7f\n",
+        line: 12,
+        cause: ScriptCause::Byte,
+    },
+    Row {
+        front: Front::Code,
+        text: b"end\nrun\n",
+        line: 11,
+        cause: ScriptCause::Word,
+    },
+    Row {
+        front: Front::Code,
+        text: b"run\nmore\n",
+        line: 12,
+        cause: ScriptCause::Word,
+    },
+    Row {
+        front: Front::Code,
+        text: b"power 1\ntask add 7\n",
+        line: 12,
+        cause: ScriptCause::Word,
+    },
+    Row {
+        front: Front::Code,
+        text: b"object y 1 2\n",
+        line: 11,
+        cause: ScriptCause::Word,
+    },
+    Row {
+        front: Front::Nothing,
+        text: b"\n# x\ncores 1\n",
+        line: 3,
+        cause: ScriptCause::Word,
+    },
+    Row {
+        front: Front::Nothing,
+        text: b"Nvk 1\n",
+        line: 1,
+        cause: ScriptCause::Word,
+    },
+    Row {
+        front: Front::Numbers,
+        text: b"program p 1\n",
+        line: 5,
+        cause: ScriptCause::Word,
+    },
+    Row {
+        front: Front::Code,
+        text: b"run now\n",
+        line: 11,
+        cause: ScriptCause::Count,
+    },
+    Row {
+        front: Front::Code,
+        text: b"task add\nrun\n",
+        line: 11,
+        cause: ScriptCause::Count,
+    },
+    Row {
+        front: Front::Code,
+        text: b"task add 1 2\nrun\n",
+        line: 11,
+        cause: ScriptCause::Count,
+    },
+    Row {
+        front: Front::Code,
+        text: b"steps # 0\nrun\n",
+        line: 11,
+        cause: ScriptCause::Count,
+    },
+    Row {
+        front: Front::Code,
+        text: b"power\nrun\n",
+        line: 11,
+        cause: ScriptCause::Count,
+    },
+    Row {
+        front: Front::Code,
+        text: b"mix 1\nrun\n",
+        line: 11,
+        cause: ScriptCause::Count,
+    },
+    Row {
+        front: Front::Numbers,
+        text: b"object x 2\n",
+        line: 5,
+        cause: ScriptCause::Count,
+    },
+    Row {
+        front: Front::Numbers,
+        text: b"object x 2 2 5\n",
+        line: 5,
+        cause: ScriptCause::Count,
+    },
+    Row {
+        front: Front::Numbers,
+        text: b"object x 2 2 5 6 seven\n",
+        line: 5,
+        cause: ScriptCause::Count,
+    },
+    Row {
+        front: Front::Numbers,
+        text: b"object 9x 0 2\n",
+        line: 5,
+        cause: ScriptCause::Name,
+    },
+    Row {
+        front: Front::Numbers,
+        text: b"object abcdefghijklmnopq 1 2\n",
+        line: 5,
+        cause: ScriptCause::Name,
+    },
+    Row {
+        front: Front::Numbers,
+        text: b"object x 0 2\n",
+        line: 5,
+        cause: ScriptCause::Range,
+    },
+    Row {
+        front: Front::Numbers,
+        text: b"object x 65 two\n",
+        line: 5,
+        cause: ScriptCause::Range,
+    },
+    Row {
+        front: Front::Numbers,
+        text: b"object x 1 9 7 8\n",
+        line: 5,
+        cause: ScriptCause::Range,
+    },
+    Row {
+        front: Front::Numbers,
+        text: b"object x 1 2 4294967296\n",
+        line: 5,
+        cause: ScriptCause::Range,
+    },
+    Row {
+        front: Front::Numbers,
+        text: b"object x 1 2 +1\n",
+        line: 5,
+        cause: ScriptCause::Number,
+    },
+    Row {
+        front: Front::Objects,
+        text: b"object x 0 2\n",
+        line: 6,
+        cause: ScriptCause::Twice,
+    },
+    Row {
+        front: Front::Code,
+        text: b"program add 0\n",
+        line: 11,
+        cause: ScriptCause::Twice,
+    },
+    Row {
+        front: Front::Code,
+        text: b"task sub 7\n",
+        line: 11,
+        cause: ScriptCause::Unknown,
+    },
+    Row {
+        front: Front::Code,
+        text: b"task x 7\n",
+        line: 11,
+        cause: ScriptCause::Unknown,
+    },
+    Row {
+        front: Front::Code,
+        text: b"task a-d x\n",
+        line: 11,
+        cause: ScriptCause::Name,
+    },
+    Row {
+        front: Front::Nothing,
+        text: b"nvk one\n",
+        line: 1,
+        cause: ScriptCause::Number,
+    },
+    Row {
+        front: Front::Nothing,
+        text: b"nvk 00000000001\n",
+        line: 1,
+        cause: ScriptCause::Number,
+    },
+    Row {
+        front: Front::Nothing,
+        text: b"nvk 2\n",
+        line: 1,
+        cause: ScriptCause::Range,
+    },
+    Row {
+        front: Front::Nothing,
+        text: b"nvk 1\ncores 9999999999\n",
+        line: 2,
+        cause: ScriptCause::Range,
+    },
+    Row {
+        front: Front::Nothing,
+        text: b"nvk 1\ncores 0x1\n",
+        line: 2,
+        cause: ScriptCause::Number,
+    },
+    Row {
+        front: Front::Nothing,
+        text: b"nvk 1\ncores 8\nmemory 1026\n",
+        line: 3,
+        cause: ScriptCause::Range,
+    },
+    Row {
+        front: Front::Nothing,
+        text: b"nvk 1\ncores 8\nmemory 65540\n",
+        line: 3,
+        cause: ScriptCause::Range,
+    },
+    Row {
+        front: Front::Nothing,
+        text: b"nvk 1\ncores 8\nmemory 65536\nrecords 257\n",
+        line: 4,
+        cause: ScriptCause::Range,
+    },
+    Row {
+        front: Front::Code,
+        text: b"task add -2147483649\n",
+        line: 11,
+        cause: ScriptCause::Range,
+    },
+    Row {
+        front: Front::Code,
+        text: b"task add 0x123456789\n",
+        line: 11,
+        cause: ScriptCause::Number,
+    },
+    Row {
+        front: Front::Code,
+        text: b"steps 1*3\n",
+        line: 11,
+        cause: ScriptCause::Range,
+    },
+    Row {
+        front: Front::Code,
+        text: b"steps 0*0\n",
+        line: 11,
+        cause: ScriptCause::Range,
+    },
+    Row {
+        front: Front::Code,
+        text: b"steps 1*x\n",
+        line: 11,
+        cause: ScriptCause::Number,
+    },
+    Row {
+        front: Front::Code,
+        text: b"steps 0*1*1\n",
+        line: 11,
+        cause: ScriptCause::Number,
+    },
+    Row {
+        front: Front::Code,
+        text: b"steps *3\n",
+        line: 11,
+        cause: ScriptCause::Number,
+    },
+    Row {
+        front: Front::Code,
+        text: b"steps 000000000000000000000000000000000\n",
+        line: 11,
+        cause: ScriptCause::Number,
+    },
+    Row {
+        front: Front::Code,
+        text: b"steps 1 x\n",
+        line: 11,
+        cause: ScriptCause::Range,
+    },
+    Row {
+        front: Front::Code,
+        text: b"power 1000001\n",
+        line: 11,
+        cause: ScriptCause::Range,
+    },
+    Row {
+        front: Front::Code,
+        text: b"power 1000001*\n",
+        line: 11,
+        cause: ScriptCause::Number,
+    },
+    Row {
+        front: Front::Code,
+        text: b"power 5*1000001\n",
+        line: 11,
+        cause: ScriptCause::Range,
+    },
+    Row {
+        front: Front::Code,
+        text: b"mix 4294967296 0\n",
+        line: 11,
+        cause: ScriptCause::Range,
+    },
+    Row {
+        front: Front::Code,
+        text: b"mix 1 0\n",
+        line: 11,
+        cause: ScriptCause::Range,
+    },
+    Row {
+        front: Front::Objects,
+        text: b"program add 100\naddi a0, a0, 4096\nend\nrun\n",
+        line: 7,
+        cause: ScriptCause::Code(AsmCause::Range),
+    },
+    Row {
+        front: Front::Objects,
+        text: b"program p 1\na: nop\na: nop\nend\n",
+        line: 8,
+        cause: ScriptCause::Code(AsmCause::Twice),
+    },
+    Row {
+        front: Front::Objects,
+        text: b"program p 1\nfoo\n\x80\nend\n",
+        line: 7,
+        cause: ScriptCause::Code(AsmCause::Mnemonic),
+    },
+    Row {
+        front: Front::Objects,
+        text: b"program p 1\n\x80\nfoo\nend\n",
+        line: 7,
+        cause: ScriptCause::Byte,
+    },
+    Row {
+        front: Front::Objects,
+        text: b"program p 1\nj there\nthere: nop # \x80\nend\n",
+        line: 7,
+        cause: ScriptCause::Code(AsmCause::Label),
+    },
+    Row {
+        front: Front::Objects,
+        text: b"program p 1\nnop\nend # \x80\nfoo\n",
+        line: 8,
+        cause: ScriptCause::Byte,
+    },
+    Row {
+        front: Front::Objects,
+        text: b"program p 1\nend x\n",
+        line: 7,
+        cause: ScriptCause::Count,
+    },
+    Row {
+        front: Front::Objects,
+        text: b"program p 1\nnop\n",
+        line: 8,
+        cause: ScriptCause::End,
+    },
+    Row {
+        front: Front::Objects,
+        text: b"program p 1\nadd a0, a1",
+        line: 7,
+        cause: ScriptCause::Code(AsmCause::Operand),
+    },
+    Row {
+        front: Front::Objects,
+        text: b"program p\nfoo\n",
+        line: 6,
+        cause: ScriptCause::Count,
+    },
+    Row {
+        front: Front::Objects,
+        text: b"program p 1000001\nfoo\n",
+        line: 6,
+        cause: ScriptCause::Range,
+    },
+    Row {
+        front: Front::Objects,
+        text: b"code p 1 # \x80\n00000073\nend\n",
+        line: 6,
+        cause: ScriptCause::Byte,
+    },
+    Row {
+        front: Front::Objects,
+        text: b"code p 1\n00000073\n\x80\nend\n",
+        line: 8,
+        cause: ScriptCause::Byte,
+    },
+    Row {
+        front: Front::Objects,
+        text: b"code p 1\n0000073\nend\n",
+        line: 7,
+        cause: ScriptCause::Word,
+    },
+    Row {
+        front: Front::Objects,
+        text: b"code p 1\n00000073 0000007g\nend\n",
+        line: 7,
+        cause: ScriptCause::Number,
+    },
+    Row {
+        front: Front::Objects,
+        text: b"code p 1\n00000073",
+        line: 8,
+        cause: ScriptCause::End,
+    },
+    Row {
+        front: Front::Objects,
+        text: b"code p 1\nnop\nend\n",
+        line: 7,
+        cause: ScriptCause::Word,
+    },
+    Row {
+        front: Front::Code,
+        text: b"task add 1\ntask add 1\n",
+        line: 12,
+        cause: ScriptCause::Many,
+    },
+    Row {
+        front: Front::Code,
+        text: b"steps 0*1000000\nsteps 0\n",
+        line: 12,
+        cause: ScriptCause::Many,
+    },
+    Row {
+        front: Front::Code,
+        text: b"power 0*1000000 0\n",
+        line: 11,
+        cause: ScriptCause::Many,
+    },
+    Row {
+        front: Front::Code,
+        text: b"mix 1 1000000\npower 1\n",
+        line: 12,
+        cause: ScriptCause::Many,
+    },
+    Row {
+        front: Front::Code,
+        text: b"power 1\nmix 1 1000000\n",
+        line: 12,
+        cause: ScriptCause::Many,
+    },
+    Row {
+        front: Front::Nothing,
+        text: b"",
+        line: 1,
+        cause: ScriptCause::End,
+    },
+    Row {
+        front: Front::Nothing,
+        text: b"\n\n",
+        line: 3,
+        cause: ScriptCause::End,
+    },
+    Row {
+        front: Front::Code,
+        text: b"task add 7\nsteps 0*40\n",
+        line: 13,
+        cause: ScriptCause::End,
+    },
+    Row {
+        front: Front::Objects,
+        text: b"",
+        line: 6,
+        cause: ScriptCause::End,
+    },
+];
+
+/// Texts behind ten lines.
+static ACCEPTED: [&[u8]; 7] = [
+    b"task add 7\nsteps 0*40\nrun\n",
+    b"run # last\n\n \t# end\r\n",
+    b"task add 0xffffffff\nmix 4294967295 1000000\nrun",
+    b"steps 00000000000000000000000000000000*0000031250\nrun",
+    b"program x 1\nend\ncode abcdefghijklmnop 1\nend\nrun\n",
+    b"program there 1\nj there\nthere: nop\nend\nrun\n",
+    b"power 1000000 0*2\nsteps 0\npower 7\nrun\n",
+];
+
+fn front_of(front: Front) -> &'static [u8] {
+    match front {
+        Front::Nothing => b"",
+        Front::Numbers => NUMBERS,
+        Front::Objects => OBJECTS,
+        Front::Code => CODE,
+    }
+}
+
+/// The refusal of a text. None where it is a script.
+fn refusal(alloc: Global, front: Front, text: &[u8]) -> Result<Option<ScriptError>, Fail> {
+    let mut bytes = Vec::from_slice(alloc, front_of(front))?;
+    bytes.extend_from_slice(text)?;
+    match read_script(alloc, &bytes) {
         Ok(_) => Ok(None),
         Err(ScriptRefusal::At(error)) => Ok(Some(error)),
         Err(ScriptRefusal::NoMemory) => Err("no memory")?,
     }
 }
 
-/// The refusal of a text behind ten lines with an object and a program.
-fn behind_code(alloc: Global, tail: &[u8]) -> Result<Option<ScriptError>, Fail> {
-    let mut text = Vec::from_slice(alloc, CODE)?;
-    text.extend_from_slice(tail)?;
-    refusal(alloc, OBJECTS, &text)
-}
-
-/// The refusal of a text behind five lines with an object.
-fn behind_objects(alloc: Global, tail: &[u8]) -> Result<Option<ScriptError>, Fail> {
-    refusal(alloc, OBJECTS, tail)
-}
-
-/// The refusal of a text behind four lines.
-fn behind_numbers(alloc: Global, tail: &[u8]) -> Result<Option<ScriptError>, Fail> {
-    refusal(alloc, b"nvk 1\ncores 1\nmemory 1024\nrecords 1\n", tail)
-}
-
 fn at(line: u32, cause: ScriptCause) -> Option<ScriptError> {
     Some(ScriptError { line, cause })
 }
 
-/// A line so many times.
-fn times(alloc: Global, line: &[u8], count: u32) -> Result<Vec<u8>, Fail> {
-    let mut text = Vec::new(alloc);
-    for _ in 0..count {
-        text.extend_from_slice(line)?;
+#[test]
+fn texts_are_refused(rt: HostRuntime) -> Result<(), Fail> {
+    for row in &REFUSED {
+        let refused = refusal(rt.alloc(), row.front, row.text)?;
+        assert_eq!(rt; refused, at(row.line, row.cause));
     }
-    Ok(text)
+    Ok(())
+}
+
+#[test]
+fn texts_are_accepted(rt: HostRuntime) -> Result<(), Fail> {
+    for text in &ACCEPTED {
+        assert_eq!(rt; refusal(rt.alloc(), Front::Code, text)?, None);
+    }
+    Ok(())
 }
 
 #[test]
@@ -90,379 +598,48 @@ fn a_script_is_read(rt: HostRuntime) -> Result<(), Fail> {
     Ok(())
 }
 
-#[test]
-fn scripts_are_accepted(rt: HostRuntime) -> Result<(), Fail> {
-    let alloc = rt.alloc();
-    assert_eq!(rt; behind_code(alloc, b"task add 7\nsteps 0*40\nrun\n")?, None);
-    assert_eq!(rt; behind_code(alloc, b"run # last\n\n \t# end\r\n")?, None);
-    assert_eq!(rt;
-        behind_code(alloc, b"task add 0xffffffff\nmix 4294967295 1000000\nrun")?,
-        None
-    );
-    assert_eq!(rt;
-        behind_code(
-            alloc,
-            b"steps 00000000000000000000000000000000*0000031250\nrun"
-        )?,
-        None
-    );
-    assert_eq!(rt;
-        behind_code(
-            alloc,
-            b"program x 1\nend\ncode abcdefghijklmnop 1\nend\nrun\n"
-        )?,
-        None
-    );
-    assert_eq!(rt;
-        behind_code(alloc, b"program there 1\nj there\nthere: nop\nend\nrun\n")?,
-        None
-    );
-    assert_eq!(rt;
-        behind_code(alloc, b"power 1000000 0*2\nsteps 0\npower 7\nrun\n")?,
-        None
-    );
-    Ok(())
+/// A line so many times, between two others.
+fn repeated(
+    alloc: Global,
+    first: &[u8],
+    line: &[u8],
+    count: u32,
+    last: &[u8],
+) -> Result<Vec<u8>, Fail> {
+    let mut text = Vec::from_slice(alloc, first)?;
+    for _ in 0..count {
+        text.extend_from_slice(line)?;
+    }
+    text.extend_from_slice(last)?;
+    Ok(text)
 }
 
-#[test]
-fn lines_are_refused_by_bytes_and_words(rt: HostRuntime) -> Result<(), Fail> {
-    let alloc = rt.alloc();
-    assert_eq!(rt;
-        behind_code(alloc, b"task add 7 # \xc3\xa9\nrun\n")?,
-        at(11, ScriptCause::Byte)
-    );
-    assert_eq!(rt; behind_code(alloc, b"run\r")?, at(11, ScriptCause::Byte));
-    assert_eq!(rt;
-        behind_code(alloc, b"run\n\x7f\n")?,
-        at(12, ScriptCause::Byte)
-    );
-    assert_eq!(rt;
-        behind_code(alloc, b"end\nrun\n")?,
-        at(11, ScriptCause::Word)
-    );
-    assert_eq!(rt;
-        behind_code(alloc, b"run\nmore\n")?,
-        at(12, ScriptCause::Word)
-    );
-    assert_eq!(rt;
-        behind_code(alloc, b"power 1\ntask add 7\n")?,
-        at(12, ScriptCause::Word)
-    );
-    assert_eq!(rt;
-        behind_code(alloc, b"object y 1 2\n")?,
-        at(11, ScriptCause::Word)
-    );
-    assert_eq!(rt;
-        refusal(alloc, b"\n# x\ncores 1\n", b"")?,
-        at(3, ScriptCause::Word)
-    );
-    assert_eq!(rt; refusal(alloc, b"Nvk 1\n", b"")?, at(1, ScriptCause::Word));
-    assert_eq!(rt;
-        behind_numbers(alloc, b"program p 1\n")?,
-        at(5, ScriptCause::Word)
-    );
-    assert_eq!(rt;
-        behind_code(alloc, b"run now\n")?,
-        at(11, ScriptCause::Count)
-    );
-    assert_eq!(rt;
-        behind_code(alloc, b"task add\nrun\n")?,
-        at(11, ScriptCause::Count)
-    );
-    assert_eq!(rt;
-        behind_code(alloc, b"task add 1 2\nrun\n")?,
-        at(11, ScriptCause::Count)
-    );
-    assert_eq!(rt;
-        behind_code(alloc, b"steps # 0\nrun\n")?,
-        at(11, ScriptCause::Count)
-    );
-    assert_eq!(rt;
-        behind_code(alloc, b"power\nrun\n")?,
-        at(11, ScriptCause::Count)
-    );
-    assert_eq!(rt;
-        behind_code(alloc, b"mix 1\nrun\n")?,
-        at(11, ScriptCause::Count)
-    );
-    Ok(())
-}
+/// Eight words.
+const WORDS: &[u8] = b"00000073 00000073 00000073 00000073 00000073 00000073 00000073 00000073\n";
 
 #[test]
-fn objects_and_names_are_refused(rt: HostRuntime) -> Result<(), Fail> {
+fn programs_may_be_too_large(rt: HostRuntime) -> Result<(), Fail> {
     let alloc = rt.alloc();
-    assert_eq!(rt;
-        behind_numbers(alloc, b"object x 2\n")?,
-        at(5, ScriptCause::Count)
-    );
-    assert_eq!(rt;
-        behind_numbers(alloc, b"object x 2 2 5\n")?,
-        at(5, ScriptCause::Count)
-    );
-    assert_eq!(rt;
-        behind_numbers(alloc, b"object x 2 2 5 6 seven\n")?,
-        at(5, ScriptCause::Count)
-    );
-    assert_eq!(rt;
-        behind_numbers(alloc, b"object 9x 0 2\n")?,
-        at(5, ScriptCause::Name)
-    );
-    assert_eq!(rt;
-        behind_numbers(alloc, b"object abcdefghijklmnopq 1 2\n")?,
-        at(5, ScriptCause::Name)
-    );
-    assert_eq!(rt;
-        behind_numbers(alloc, b"object x 0 2\n")?,
-        at(5, ScriptCause::Range)
-    );
-    assert_eq!(rt;
-        behind_numbers(alloc, b"object x 65 two\n")?,
-        at(5, ScriptCause::Range)
-    );
-    assert_eq!(rt;
-        behind_numbers(alloc, b"object x 1 9 7 8\n")?,
-        at(5, ScriptCause::Range)
-    );
-    assert_eq!(rt;
-        behind_numbers(alloc, b"object x 1 2 4294967296\n")?,
-        at(5, ScriptCause::Range)
-    );
-    assert_eq!(rt;
-        behind_numbers(alloc, b"object x 1 2 +1\n")?,
-        at(5, ScriptCause::Number)
-    );
-    assert_eq!(rt;
-        behind_objects(alloc, b"object x 0 2\n")?,
-        at(6, ScriptCause::Twice)
-    );
-    assert_eq!(rt;
-        behind_code(alloc, b"program add 0\n")?,
-        at(11, ScriptCause::Twice)
-    );
-    assert_eq!(rt;
-        behind_code(alloc, b"task sub 7\n")?,
-        at(11, ScriptCause::Unknown)
-    );
-    assert_eq!(rt;
-        behind_code(alloc, b"task x 7\n")?,
-        at(11, ScriptCause::Unknown)
-    );
-    assert_eq!(rt;
-        behind_code(alloc, b"task a-d x\n")?,
-        at(11, ScriptCause::Name)
-    );
-    Ok(())
-}
-
-#[test]
-fn numbers_are_refused(rt: HostRuntime) -> Result<(), Fail> {
-    let alloc = rt.alloc();
-    assert_eq!(rt;
-        refusal(alloc, b"nvk one\n", b"")?,
-        at(1, ScriptCause::Number)
-    );
-    assert_eq!(rt;
-        refusal(alloc, b"nvk 00000000001\n", b"")?,
-        at(1, ScriptCause::Number)
-    );
-    assert_eq!(rt; refusal(alloc, b"nvk 2\n", b"")?, at(1, ScriptCause::Range));
-    assert_eq!(rt;
-        refusal(alloc, b"nvk 1\ncores 9999999999\n", b"")?,
-        at(2, ScriptCause::Range)
-    );
-    assert_eq!(rt;
-        refusal(alloc, b"nvk 1\ncores 0x1\n", b"")?,
-        at(2, ScriptCause::Number)
-    );
-    assert_eq!(rt;
-        refusal(alloc, b"nvk 1\ncores 8\nmemory 1026\n", b"")?,
-        at(3, ScriptCause::Range)
-    );
-    assert_eq!(rt;
-        refusal(alloc, b"nvk 1\ncores 8\nmemory 65540\n", b"")?,
-        at(3, ScriptCause::Range)
-    );
-    assert_eq!(rt;
-        refusal(alloc, b"nvk 1\ncores 8\nmemory 65536\nrecords 257\n", b"")?,
-        at(4, ScriptCause::Range)
-    );
-    assert_eq!(rt;
-        behind_code(alloc, b"task add -2147483649\n")?,
-        at(11, ScriptCause::Range)
-    );
-    assert_eq!(rt;
-        behind_code(alloc, b"task add 0x123456789\n")?,
-        at(11, ScriptCause::Number)
-    );
-    assert_eq!(rt;
-        behind_code(alloc, b"steps 1*3\n")?,
-        at(11, ScriptCause::Range)
-    );
-    assert_eq!(rt;
-        behind_code(alloc, b"steps 0*0\n")?,
-        at(11, ScriptCause::Range)
-    );
-    assert_eq!(rt;
-        behind_code(alloc, b"steps 1*x\n")?,
-        at(11, ScriptCause::Number)
-    );
-    assert_eq!(rt;
-        behind_code(alloc, b"steps 0*1*1\n")?,
-        at(11, ScriptCause::Number)
-    );
-    assert_eq!(rt;
-        behind_code(alloc, b"steps *3\n")?,
-        at(11, ScriptCause::Number)
-    );
-    assert_eq!(rt;
-        behind_code(alloc, b"steps 000000000000000000000000000000000\n")?,
-        at(11, ScriptCause::Number)
-    );
-    assert_eq!(rt;
-        behind_code(alloc, b"steps 1 x\n")?,
-        at(11, ScriptCause::Range)
-    );
-    assert_eq!(rt;
-        behind_code(alloc, b"power 1000001\n")?,
-        at(11, ScriptCause::Range)
-    );
-    assert_eq!(rt;
-        behind_code(alloc, b"power 1000001*\n")?,
-        at(11, ScriptCause::Number)
-    );
-    assert_eq!(rt;
-        behind_code(alloc, b"power 5*1000001\n")?,
-        at(11, ScriptCause::Range)
-    );
-    assert_eq!(rt;
-        behind_code(alloc, b"mix 4294967296 0\n")?,
-        at(11, ScriptCause::Range)
-    );
-    assert_eq!(rt;
-        behind_code(alloc, b"mix 1 0\n")?,
-        at(11, ScriptCause::Range)
-    );
-    Ok(())
-}
-
-#[test]
-fn blocks_are_refused(rt: HostRuntime) -> Result<(), Fail> {
-    let alloc = rt.alloc();
-    assert_eq!(rt;
-        behind_objects(alloc, b"program add 100\naddi a0, a0, 4096\nend\nrun\n")?,
-        at(7, ScriptCause::Code(AsmCause::Range))
-    );
-    assert_eq!(rt;
-        behind_objects(alloc, b"program p 1\na: nop\na: nop\nend\n")?,
-        at(8, ScriptCause::Code(AsmCause::Twice))
-    );
-    assert_eq!(rt;
-        behind_objects(alloc, b"program p 1\nfoo\n\x80\nend\n")?,
-        at(7, ScriptCause::Code(AsmCause::Mnemonic))
-    );
-    assert_eq!(rt;
-        behind_objects(alloc, b"program p 1\n\x80\nfoo\nend\n")?,
-        at(7, ScriptCause::Byte)
-    );
-    assert_eq!(rt;
-        behind_objects(alloc, b"program p 1\nj there\nthere: nop # \x80\nend\n")?,
-        at(7, ScriptCause::Code(AsmCause::Label))
-    );
-    assert_eq!(rt;
-        behind_objects(alloc, b"program p 1\nnop\nend # \x80\nfoo\n")?,
-        at(8, ScriptCause::Byte)
-    );
-    assert_eq!(rt;
-        behind_objects(alloc, b"program p 1\nend x\n")?,
-        at(7, ScriptCause::Count)
-    );
-    assert_eq!(rt;
-        behind_objects(alloc, b"program p 1\nnop\n")?,
-        at(8, ScriptCause::End)
-    );
-    assert_eq!(rt;
-        behind_objects(alloc, b"program p 1\nadd a0, a1")?,
-        at(7, ScriptCause::Code(AsmCause::Operand))
-    );
-    assert_eq!(rt;
-        behind_objects(alloc, b"program p\nfoo\n")?,
-        at(6, ScriptCause::Count)
-    );
-    assert_eq!(rt;
-        behind_objects(alloc, b"program p 1000001\nfoo\n")?,
-        at(6, ScriptCause::Range)
-    );
-    assert_eq!(rt;
-        behind_objects(alloc, b"code p 1 # \x80\n00000073\nend\n")?,
-        at(6, ScriptCause::Byte)
-    );
-    assert_eq!(rt;
-        behind_objects(alloc, b"code p 1\n00000073\n\x80\nend\n")?,
-        at(8, ScriptCause::Byte)
-    );
-    assert_eq!(rt;
-        behind_objects(alloc, b"code p 1\n0000073\nend\n")?,
-        at(7, ScriptCause::Word)
-    );
-    assert_eq!(rt;
-        behind_objects(alloc, b"code p 1\n00000073 0000007g\nend\n")?,
-        at(7, ScriptCause::Number)
-    );
-    assert_eq!(rt;
-        behind_objects(alloc, b"code p 1\n00000073")?,
-        at(8, ScriptCause::End)
-    );
-    assert_eq!(rt;
-        behind_objects(alloc, b"code p 1\nnop\nend\n")?,
-        at(7, ScriptCause::Word)
-    );
-    Ok(())
-}
-
-#[test]
-fn there_may_be_too_many(rt: HostRuntime) -> Result<(), Fail> {
-    let alloc = rt.alloc();
-    assert_eq!(rt;
-        behind_code(alloc, b"task add 1\ntask add 1\n")?,
-        at(12, ScriptCause::Many)
-    );
-    assert_eq!(rt;
-        behind_code(alloc, b"steps 0*1000000\nsteps 0\n")?,
-        at(12, ScriptCause::Many)
-    );
-    assert_eq!(rt;
-        behind_code(alloc, b"power 0*1000000 0\n")?,
-        at(11, ScriptCause::Many)
-    );
-    assert_eq!(rt;
-        behind_code(alloc, b"mix 1 1000000\npower 1\n")?,
-        at(12, ScriptCause::Many)
-    );
-    assert_eq!(rt;
-        behind_code(alloc, b"power 1\nmix 1 1000000\n")?,
-        at(12, ScriptCause::Many)
-    );
     // 256 words fit 1,024 bytes
-    let line = b"00000073 00000073 00000073 00000073 00000073 00000073 00000073 00000073\n";
-    let mut text = Vec::from_slice(alloc, b"code p 1\n")?;
-    text.append(&mut times(alloc, line, 32)?)?;
-    text.extend_from_slice(b"end\n")?;
-    assert_eq!(rt; behind_objects(alloc, &text)?, at(40, ScriptCause::End));
-    let mut text = Vec::from_slice(alloc, b"code p 1\n00000073\n")?;
-    text.append(&mut times(alloc, line, 32)?)?;
-    text.extend_from_slice(b"end\nrun\n")?;
-    assert_eq!(rt; behind_objects(alloc, &text)?, at(40, ScriptCause::Many));
-    // the 1,025th word
-    let mut text = Vec::from_slice(alloc, b"code p 1\n")?;
-    text.append(&mut times(alloc, line, 128)?)?;
-    text.extend_from_slice(b"00000073\nend\n")?;
-    assert_eq!(rt; behind_objects(alloc, &text)?, at(135, ScriptCause::Many));
-    let mut text = Vec::from_slice(alloc, b"program p 1\n")?;
-    text.append(&mut times(alloc, b"nop\n", 1025)?)?;
+    let text = repeated(alloc, b"code p 1\n", WORDS, 32, b"end\n")?;
     assert_eq!(rt;
-        behind_objects(alloc, &text)?,
-        at(1031, ScriptCause::Code(AsmCause::TooLong))
+        refusal(alloc, Front::Objects, &text)?,
+        at(40, ScriptCause::End)
     );
+    let text = repeated(alloc, b"code p 1\n00000073\n", WORDS, 32, b"end\nrun\n")?;
+    assert_eq!(rt;
+        refusal(alloc, Front::Objects, &text)?,
+        at(40, ScriptCause::Many)
+    );
+    // the 1,025th word
+    let text = repeated(alloc, b"code p 1\n", WORDS, 128, b"00000073\nend\n")?;
+    assert_eq!(rt;
+        refusal(alloc, Front::Objects, &text)?,
+        at(135, ScriptCause::Many)
+    );
+    let text = repeated(alloc, b"program p 1\n", b"nop\n", 1025, b"")?;
+    let cause = ScriptCause::Code(AsmCause::TooLong);
+    assert_eq!(rt; refusal(alloc, Front::Objects, &text)?, at(1031, cause));
     Ok(())
 }
 
@@ -482,38 +659,38 @@ fn named(alloc: Global, front: &[u8], back: &[u8], count: u8) -> Result<Vec<u8>,
 fn there_may_be_64_objects_and_16_programs(rt: HostRuntime) -> Result<(), Fail> {
     let alloc = rt.alloc();
     let objects = named(alloc, b"object ", b" 1 2\n", 64)?;
-    assert_eq!(rt; behind_numbers(alloc, &objects)?, at(69, ScriptCause::End));
-    assert_eq!(rt; behind_objects(alloc, &objects)?, at(69, ScriptCause::Many));
+    assert_eq!(rt;
+        refusal(alloc, Front::Numbers, &objects)?,
+        at(69, ScriptCause::End)
+    );
+    assert_eq!(rt;
+        refusal(alloc, Front::Objects, &objects)?,
+        at(69, ScriptCause::Many)
+    );
     let programs = named(alloc, b"code ", b" 1\nend\n", 16)?;
-    assert_eq!(rt; behind_objects(alloc, &programs)?, at(38, ScriptCause::End));
-    assert_eq!(rt; behind_code(alloc, &programs)?, at(41, ScriptCause::Many));
+    assert_eq!(rt;
+        refusal(alloc, Front::Objects, &programs)?,
+        at(38, ScriptCause::End)
+    );
+    assert_eq!(rt;
+        refusal(alloc, Front::Code, &programs)?,
+        at(41, ScriptCause::Many)
+    );
     Ok(())
 }
 
 #[test]
-fn the_input_may_end_too_early_or_be_too_long(rt: HostRuntime) -> Result<(), Fail> {
+fn the_input_may_be_too_long(rt: HostRuntime) -> Result<(), Fail> {
     let alloc = rt.alloc();
-    assert_eq!(rt; refusal(alloc, b"", b"")?, at(1, ScriptCause::End));
-    assert_eq!(rt; refusal(alloc, b"\n\n", b"")?, at(3, ScriptCause::End));
-    assert_eq!(rt;
-        behind_code(alloc, b"task add 7\nsteps 0*40\n")?,
-        at(13, ScriptCause::End)
-    );
-    assert_eq!(rt; behind_objects(alloc, b"")?, at(6, ScriptCause::End));
-    // 4 bytes of a last line behind empty lines
-    let mut text = times(alloc, b"\n", 1_048_572)?;
-    text.extend_from_slice(b"run\n")?;
-    assert_eq!(rt;
-        refusal(alloc, b"", &text)?,
-        at(1_048_573, ScriptCause::Word)
-    );
-    text.push(b'\n')?;
-    assert_eq!(rt; refusal(alloc, b"", &text)?, at(0, ScriptCause::Long));
-    let mut text = Vec::from_slice(alloc, OBJECTS)?;
-    text.extend_from_slice(CODE)?;
+    let mut text = Vec::from_slice(alloc, CODE)?;
     text.extend_from_slice(b"run")?;
     text.resize(1_048_576, b'\n')?;
-    assert_eq!(rt; refusal(alloc, b"", &text)?, None);
+    assert_eq!(rt; refusal(alloc, Front::Nothing, &text)?, None);
+    text.push(b'\n')?;
+    assert_eq!(rt;
+        refusal(alloc, Front::Nothing, &text)?,
+        at(0, ScriptCause::Long)
+    );
     Ok(())
 }
 

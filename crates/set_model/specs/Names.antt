@@ -2,7 +2,6 @@
 use Rattle.std.specs.Prelude.{◌≢◌, ℕ, List, [], ◌∷◌, map}
 use Rattle.std.specs.List.{AllByRecursion}
 use Rattle.set_model.specs.Sets.{TaskSet}
-
 -- what a name is
 pub use Rattle.plain_text.specs.Names.{IsName, is_name_byte}
 
