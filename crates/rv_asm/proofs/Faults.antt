@@ -1,8 +1,7 @@
 -- The first faulty line, and how many words there are.
-use Rattle.std.proofs.Common.{◌≡◌, ℕ, ◌+◌, ◌≤◌, Bool, true, false, cond, List, [], ◌∷◌, ◌++◌, length, map, Result, Ok, Err, refl, sym, ap, ◌∙◌, subst, arith, ltb, inl, inr, length-append}
+use Rattle.std.proofs.Common.{◌≡◌, ℕ, ◌+◌, ◌≤◌, List, [], ◌∷◌, ◌++◌, length, map, Result, Ok, Err, refl, ap, subst, arith, ltb, inl, inr, length-append}
 use Rattle.std.proofs.lemmas.Bool.{cases_Bool, ltb-false}
 use Rattle.rv_asm.specs.declared.cause.AsmCause.{AsmCause}
-use Rattle.rv_asm.specs.declared.cause.AsmCause.TheVariants.{TooLong}
 use Rattle.rv_asm.specs.declared.cause.AsmError.{AsmError}
 use Rattle.rv_asm.specs.Assembly.{◌>>=◌, at, assembled, fitting, label_taken, line_after, lines_after, words_of}
 use Rattle.rv_asm.specs.Labels.{Found, labels_of}

@@ -1,16 +1,11 @@
 -- `li` leaves its value, in one instruction where one is enough.
-use Rattle.std.proofs.Common.{◌≡◌, ◌≢◌, ℕ, ◌+◌, ◌-◌, ◌*◌, ◌/◌, ◌%◌, ◌^◌, ◌<◌, ◌≤◌, Bool, true, false, cond, List, [], ◌∷◌, length, refl, ◌∙◌, ap, arith, ltb, leb, eqb, inl, inr, ℤ, pos, negsuc}
-use Rattle.std.proofs.lemmas.Bool.{cases_Bool, cases_lt, lt-ltb, le-ltb, le-leb, leb-true, ltb-true, ltb-false, eqb-true, eqb-false, ne_eqb, eq-eqb}
+use Rattle.std.proofs.Common.{◌≡◌, ◌≢◌, ℕ, ◌+◌, ◌-◌, ◌*◌, ◌/◌, ◌%◌, ◌<◌, ◌≤◌, length, refl, arith, eqb, inl, inr, ℤ, pos, negsuc}
+use Rattle.std.proofs.lemmas.Bool.{cases_Bool, cases_lt, lt-ltb, le-ltb, le-leb, eqb-true, ne_eqb, eq-eqb}
 use Rattle.rv_isa.specs.Fields.{signed, unsigned, IsSigned}
 use Rattle.rv_isa.specs.declared.instruction.Reg.{Reg}
-use Rattle.rv_isa.specs.declared.instruction.ImmOp.{ImmOp}
-use Rattle.rv_isa.specs.declared.instruction.ImmOp.TheVariants.{Addi}
-use Rattle.rv_isa.specs.declared.instruction.Instr.{Instr}
-use Rattle.rv_isa.specs.declared.instruction.Instr.TheVariants.{Lui, OpImm}
 use Rattle.rv_asm.specs.Numbers.{is_within}
-use Rattle.rv_asm.specs.Forms.{x0}
 use Rattle.rv_asm.specs.Laws.{values_after}
-use Rattle.rv_asm.specs.Loads.{high_part, loads}
+use Rattle.rv_asm.specs.Loads.{loads}
 
 -- a number with its sign, and back
 there_and_back : (v : ℕ) → v < 4294967296 → unsigned 32 (signed 32 v) ≡ v

@@ -1,7 +1,5 @@
 -- The two passes over lines.
-use Rattle.std.proofs.Common.{◌≡◌, ℕ, ◌+◌, ◌<◌, List, [], ◌∷◌, length, get_or, map, drop, drop-cons, add-one, Bor, Result, Ok, Err, refl, sym, ap, ◌∙◌}
-use Rattle.rv_asm.specs.declared.cause.AsmCause.{AsmCause}
-use Rattle.rv_asm.specs.declared.cause.AsmError.{AsmError}
+use Rattle.std.proofs.Common.{◌≡◌, ℕ, ◌+◌, ◌<◌, List, ◌∷◌, length, get_or, map, drop, drop-cons, add-one, Bor, refl}
 use Rattle.rv_asm.specs.declared.cause.LineRefusal.{LineRefusal}
 use Rattle.rv_asm.specs.declared.cause.LineRefusal.TheVariants as lines
 use Rattle.rv_asm.specs.Answers.{Fails, LineFails, refusal_at}

@@ -1,5 +1,5 @@
 -- The range of a value is what its instruction has room for.
-use Rattle.std.proofs.Common.{◌≡◌, ℕ, ◌<◌, ◌≤◌, ◌%◌, ◌-◌, ◌&&◌, Bool, true, false, refl, arith, pos, negsuc, ℤ, ltb, leb, eqb}
+use Rattle.std.proofs.Common.{◌≡◌, ◌<◌, ◌%◌, ◌&&◌, Bool, true, false, refl, arith, pos, negsuc, ℤ, ltb, leb, eqb}
 use Rattle.std.proofs.lemmas.Bool.{ltb-true, leb-true, eqb-true, lt-ltb, le-leb, eq-eqb}
 use Rattle.rv_isa.specs.Fields.{unsigned, IsSigned}
 use Rattle.rv_isa.specs.Ranges.{IsInstr, IsOffset, IsAmount, IsImmediate}

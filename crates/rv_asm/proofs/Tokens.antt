@@ -1,11 +1,10 @@
 -- Words, pieces and lines as they are cut from text that was written.
-use Rattle.std.proofs.Common.{◌≡◌, ℕ, zero, suc, ◌+◌, ◌-◌, ◌<◌, ◌≤◌, ◌&&◌, Bool, true, false, cond, not, List, [], ◌∷◌, ◌++◌, length, map, filter, get_or, Some, refl, sym, ap, ◌∙◌, ltb, eqb, arith, All, append_assoc, length-append, codes}
+use Rattle.std.proofs.Common.{◌≡◌, ℕ, zero, suc, ◌+◌, ◌-◌, ◌<◌, ◌&&◌, Bool, true, false, not, List, [], ◌∷◌, ◌++◌, length, map, filter, get_or, Some, refl, ap, ◌∙◌, ltb, eqb, arith, All, codes}
 use Rattle.std.specs.List.{list_all, slice_split, onto_first, flat_map, position_or_len, AllByRecursion}
 use Rattle.std.specs.Str.Lines.{lines, lines_of_parts, strip_carriage_return}
-use Rattle.std.proofs.lemmas.Bool.{ltb-true, lt-ltb, ne_eqb, le-ltb}
+use Rattle.std.proofs.lemmas.Bool.{ltb-true, lt-ltb, ne_eqb}
 use Rattle.std.proofs.lemmas.List.{take_at, drop_at, append-nil}
 use Rattle.std.proofs.lemmas.List.Elements.{All-from_recursion}
-use Rattle.std.proofs.lemmas.List.Folds.{list_all-append}
 use Rattle.std.proofs.lemmas.List.Splits.{slice_split_at, slice_split_none, length-slice_split}
 use Rattle.plain_text.specs.Words.{is_blank, words_in, word_and_rest}
 use Rattle.rv_isa.specs.declared.syntax.Operand.{Operand}

@@ -1,5 +1,5 @@
 -- What a line says has registers and fields within their ranges, but for its value.
-use Rattle.std.proofs.Common.{◌≡◌, ℕ, ◌<◌, Bool, true, false, cond, List, [], ◌∷◌, ◌++◌, length, find, map, option_map, position, Option, Some, None, Result, Ok, Err, IfSome, refl, ◌∙◌, subst, ltb, inl, inr, lit<, arith, nat_eq, codes, ℤ, pos}
+use Rattle.std.proofs.Common.{◌≡◌, ℕ, Bool, true, false, cond, List, [], ◌∷◌, ◌++◌, length, find, map, option_map, position, Option, Some, None, Result, Ok, Err, IfSome, refl, inl, inr, lit<, arith, nat_eq, codes, pos}
 use Rattle.std.specs.Cmp.Lexicographic.{pointwise}
 use Rattle.std.specs.List.{AllByRecursion, position_or_len, before_first, after_first}
 use Rattle.std.specs.Option.{option_or, ok_or}
@@ -29,8 +29,8 @@ use Rattle.rv_asm.specs.Numbers.{number_of}
 use Rattle.rv_asm.specs.Registers.{register_of, register_among, numbered, numbered_names}
 use Rattle.rv_asm.specs.Fields.{with_rd, with_rs1, with_rs2}
 use Rattle.rv_asm.specs.Forms.{Form, forms, form_among, form_named, form_parts, instruction_form, templates, single_templates, branch_templates, load_templates, store_templates, imm_templates, op_templates, pseudo_forms, branch_template, load_template, store_template, imm_template, op_template}
-use Rattle.rv_asm.specs.Operands.{◌>>=◌, Open, Absent, Number, opened, before_end, parenthesis, address_of, target_of, fill, filled, operand_in, pieces_of, two_from}
-use Rattle.rv_asm.specs.Lines.{Body, Load, Instruction, Line, line, instruction_in, load_in, word_in, by_form, by_words, by_label, by_first_word, body_of, body_in, labelled, parsed}
+use Rattle.rv_asm.specs.Operands.{◌>>=◌, Open, Absent, opened, before_end, parenthesis, address_of, target_of, fill, filled, operand_in, pieces_of, two_from}
+use Rattle.rv_asm.specs.Lines.{Body, Load, Line, line, instruction_in, load_in, word_in, by_form, by_words, by_label, by_first_word, body_of, body_in, labelled, parsed}
 use Rattle.rv_asm.specs.Seen.{IsWhole}
 
 -- ---- options

@@ -1,14 +1,10 @@
 -- Each instruction's mnemonic has its form, and its operands filled in give its word.
-use Rattle.std.proofs.Common.{◌≡◌, ℕ, ◌+◌, ◌-◌, ◌*◌, ◌%◌, ◌<◌, ◌≤◌, ◌^◌, ◌&&◌, Bool, true, false, ℤ, pos, negsuc, List, [], ◌∷◌, Option, Some, None, Result, Ok, refl, sym, ap, ◌∙◌, ltb, leb, eqb, arith, codes, nat_eq}
+use Rattle.std.proofs.Common.{◌≡◌, ℕ, true, false, pos, [], ◌∷◌, Some, None, Ok, refl, codes, nat_eq}
 use Rattle.std.specs.Cmp.Lexicographic.{pointwise}
-use Rattle.std.specs.Option.{ok_or}
-use Rattle.std.proofs.lemmas.Bool.{lt-ltb, le-leb, eq-eqb}
-use Rattle.rv_isa.specs.Fields.{IsSigned, unsigned}
 use Rattle.rv_isa.specs.Names.{mnemonic_of}
-use Rattle.rv_isa.specs.Ranges.{IsInstr, IsImmediate, IsOffset, IsAmount}
+use Rattle.rv_isa.specs.Ranges.{IsInstr}
 use Rattle.rv_isa.specs.Texts.{operands_of}
 use Rattle.rv_isa.specs.Words.{word_of}
-use Rattle.rv_isa.specs.declared.instruction.ImmOp.{ImmOp}
 use Rattle.rv_isa.specs.declared.instruction.ImmOp.TheVariants.{Addi, Slti, Sltiu, Xori, Ori, Andi, Slli, Srli, Srai}
 use Rattle.rv_isa.specs.declared.instruction.BranchOp.TheVariants.{Beq, Bne, Blt, Bge, Bltu, Bgeu}
 use Rattle.rv_isa.specs.declared.instruction.LoadOp.TheVariants.{Lb, Lh, Lw, Lbu, Lhu}
@@ -16,7 +12,6 @@ use Rattle.rv_isa.specs.declared.instruction.StoreOp.TheVariants.{Sb, Sh, Sw}
 use Rattle.rv_isa.specs.declared.instruction.RegOp.TheVariants.{Add, Sub, Sll, Slt, Sltu, Xor, Srl, Sra, Or, And}
 use Rattle.rv_isa.specs.declared.instruction.Instr.{Instr}
 use Rattle.rv_isa.specs.declared.instruction.Instr.TheVariants.{Lui, Auipc, Jal, Jalr, Branch, Load, Store, OpImm, Op, Fence, Ecall, Ebreak}
-use Rattle.rv_asm.specs.declared.cause.AsmCause.{AsmCause}
 use Rattle.rv_asm.specs.Forms.{x0, branch_template, load_template, store_template, imm_template, op_template, single_templates, branch_templates, load_templates, store_templates, imm_templates, op_templates, templates, pseudo_forms, form_named}
 use Rattle.rv_asm.specs.Labels.{Found}
 use Rattle.rv_asm.specs.Assembly.{instruction_words}

@@ -1,32 +1,30 @@
 -- Lines that were written are assembled to the words from which they were written.
-use Rattle.std.proofs.Common.{◌≡◌, ℕ, ◌+◌, ◌-◌, ◌≤◌, ◌<◌, ◌^◌, ◌&&◌, Bool, true, false, cond, not, ℤ, pos, List, [], ◌∷◌, ◌++◌, length, map, Option, Some, None, Result, Ok, refl, sym, ap, ◌∙◌, ltb, leb, eqb, inl, inr, arith, append_assoc, length-append, codes}
+use Rattle.std.proofs.Common.{◌≡◌, ℕ, ◌+◌, ◌-◌, ◌≤◌, ◌<◌, ◌^◌, true, false, pos, List, [], ◌∷◌, ◌++◌, length, map, Option, Some, None, Result, Ok, refl, sym, ap, ◌∙◌, ltb, leb, eqb, inl, inr, arith, append_assoc, length-append, codes}
 use Rattle.std.specs.List.{list_all, before_first, flat_map, AllByRecursion}
 use Rattle.std.specs.Str.Lines.{lines}
-use Rattle.std.specs.Option.{ok_or}
 use Rattle.std.proofs.lemmas.Bool.{eqb-true, le-ltb, le-leb, ne_eqb, cases_Bool}
 use Rattle.std.proofs.lemmas.List.{take_all, append-nil}
 use Rattle.std.proofs.lemmas.List.Folds.{list_all-append}
 use Rattle.rv_isa.specs.Names.{mnemonic_of}
 use Rattle.rv_isa.specs.Ranges.{IsInstr}
 use Rattle.rv_isa.specs.Table.{instruction_of}
-use Rattle.rv_isa.specs.Texts.{operands_of, operand_text, operands_text, row_text, raw_text, hexadecimal, line_text, text_of}
+use Rattle.rv_isa.specs.Texts.{operands_of, operand_text, operands_text, raw_text, hexadecimal, line_text, text_of}
 use Rattle.rv_isa.specs.Words.{word_of}
 use Rattle.rv_isa.specs.declared.syntax.Operand.{Operand}
 use Rattle.rv_isa.specs.declared.syntax.Operand.TheVariants.{Rd, Rs1, Rs2, Immediate, Target, Memory}
 use Rattle.rv_isa.specs.declared.instruction.Instr.{Instr}
 use Rattle.rv_isa.specs.declared.instruction.Instr.TheVariants.{Lui, Auipc, Jal, Jalr, Branch, Load, Store, OpImm, Op, Fence, Ecall, Ebreak}
 use Rattle.rv_asm.specs.declared.cause.AsmCause.{AsmCause}
-use Rattle.rv_asm.specs.declared.cause.AsmCause.TheVariants.{Operand as BadOperand}
 use Rattle.rv_asm.specs.Assembly.{words_of, line_after, lines_after, assembled}
 use Rattle.rv_asm.specs.Disassembly.{disassembled}
 use Rattle.rv_asm.specs.Forms.{x0, single_templates, branch_templates, load_templates, store_templates, imm_templates, op_templates, templates, pseudo_forms, form_named}
 use Rattle.rv_asm.specs.Labels.{Found, labels_of}
-use Rattle.rv_asm.specs.Lines.{Body, Instruction, Word, Line, line, parsed, body_of, instruction_in}
+use Rattle.rv_asm.specs.Lines.{Body, Instruction, Word, line, parsed, body_of}
 use Rattle.rv_asm.specs.Operands.{opened, Absent, before_end, filled}
-use Rattle.rv_asm.proofs.Tokens.{is_inner, is_token, token_inner, is_text_byte, token_text, word_first, operand_is, pieces_are, no_comment, line_first}
+use Rattle.rv_asm.proofs.Tokens.{is_token, token_inner, is_text_byte, token_text, word_first, operand_is, pieces_are, no_comment, line_first}
 use Rattle.rv_asm.proofs.WrittenNumbers.{hexadecimal_back, hexadecimal_inner}
 use Rattle.rv_asm.proofs.WrittenOperands.{IsPlain, plain, operand_token, put_all, filled_back}
-use Rattle.rv_asm.proofs.WrittenForms.{template, IsFormed, formed, IsNoFence, filled_in, words_back}
+use Rattle.rv_asm.proofs.WrittenForms.{template, IsFormed, formed, IsNoFence, words_back}
 
 -- a line whose first word is no label
 line_is : (name rest : List ℕ) → is_token name ≡ true → before_end 58 name ≡ None → list_all is_text_byte (name ++ 32 ∷ rest) ≡ true → parsed (name ++ 32 ∷ rest) ≡ line None (body_of name (32 ∷ rest))

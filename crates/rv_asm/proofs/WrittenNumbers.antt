@@ -1,18 +1,17 @@
 -- Numbers that were written are read back.
-use Rattle.std.proofs.Common.{◌≡◌, ℕ, zero, suc, ◌+◌, ◌-◌, ◌*◌, ◌<◌, ◌≤◌, ◌%◌, ◌^◌, ◌/◌, ◌&&◌, Bool, true, false, cond, not, ℤ, pos, negsuc, List, [], ◌∷◌, ◌++◌, length, Option, Some, option_map, min, refl, sym, ap, ◌∙◌, ltb, leb, eqb, inl, inr, arith, length-append, lit<}
-use Rattle.std.specs.List.{list_all, AllByRecursion}
+use Rattle.std.proofs.Common.{◌≡◌, ℕ, zero, suc, ◌+◌, ◌*◌, ◌<◌, ◌%◌, ◌^◌, ◌/◌, ◌&&◌, Bool, true, false, ℤ, pos, negsuc, List, [], ◌∷◌, length, Some, option_map, min, refl, sym, ap, ◌∙◌, ltb, leb, eqb, inl, inr, arith, length-append, lit<}
+use Rattle.std.specs.List.{list_all}
 use Rattle.std.specs.Char.{digit_value, digit_char}
 use Rattle.std.specs.Fmt.{decimal, signed_decimal}
 use Rattle.std.specs.Str.Parse.{digits_value, AllDigits}
 use Rattle.std.proofs.Math.Arith.{mod-mul}
 use Rattle.std.proofs.Math.Nat.{one-le-pow, pow-suc}
-use Rattle.std.proofs.lemmas.Bool.{ltb-true, lt-ltb, le-leb, le-ltb, ne_eqb, cases_Bool}
+use Rattle.std.proofs.lemmas.Bool.{ltb-true, lt-ltb, le-leb, ne_eqb, cases_Bool}
 use Rattle.std.proofs.lemmas.Fmt.{decimal_is_IsNumeral}
 use Rattle.std.proofs.lemmas.Int.Digits.{digits_value_push}
 use Rattle.std.proofs.lemmas.List.Folds.{list_all-append}
 use Rattle.std.proofs.lemmas.Str.{digit_value-digit_char}
 use Rattle.std.proofs.lemmas.Str.Parse.{digit_from_value}
-use Rattle.plain_text.specs.Numbers.{is_numeral}
 use Rattle.std.specs.Int.{is_in_range}
 use Rattle.plain_text.specs.Names.{is_name, is_name_byte}
 use Rattle.rv_isa.specs.Texts.{hexadecimal}

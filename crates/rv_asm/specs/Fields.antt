@@ -1,11 +1,11 @@
 -- The fields of an instruction that the operands of a line fill, and the range of its value. This project's own.
-use Rattle.std.specs.Prelude.{ℕ, ℤ, ◌&&◌, Bool, true}
+use Rattle.std.specs.Prelude.{ℤ, ◌&&◌, Bool, true}
 use Rattle.rv_isa.specs.Fields.{unsigned}
 use Rattle.rv_isa.specs.declared.instruction.Reg.{Reg}
 use Rattle.rv_isa.specs.declared.instruction.ImmOp.{ImmOp}
 use Rattle.rv_isa.specs.declared.instruction.ImmOp.TheVariants.{Slli, Srli, Srai}
 use Rattle.rv_isa.specs.declared.instruction.Instr.{Instr}
-use Rattle.rv_isa.specs.declared.instruction.Instr.TheVariants.{Lui, Auipc, Jal, Jalr, Branch, Load, Store, OpImm, Op, Fence, Ecall, Ebreak}
+use Rattle.rv_isa.specs.declared.instruction.Instr.TheVariants.{Lui, Auipc, Jal, Jalr, Branch, Load, Store, OpImm, Op, Fence}
 use Rattle.rv_asm.specs.Numbers.{is_within, is_even}
 
 abbrev pub with_rd : Reg → Instr → Instr

@@ -1,6 +1,6 @@
 -- The forms of a line: a mnemonic, its operands in order, and the instruction that they fill. This project's own;
 -- the pseudo forms after the RISC-V unprivileged ISA manual, chapter "RISC-V Assembly Programmer's Handbook".
-use Rattle.std.specs.Prelude.{ℕ, ℤ, pos, negsuc, List, [], ◌∷◌, ◌++◌, Option, find, map, option_map, nat_eq, codes}
+use Rattle.std.specs.Prelude.{ℕ, pos, negsuc, List, [], ◌∷◌, ◌++◌, Option, find, map, option_map, nat_eq, codes}
 use Rattle.std.specs.Cmp.Lexicographic.{pointwise}
 use Rattle.rv_isa.specs.Names.{mnemonic_of}
 use Rattle.rv_isa.specs.Texts.{operands_of}

@@ -1,4 +1,4 @@
--- The labels that the code keeps, as a function from their names.
+-- The labels that the code keeps, as a function from their names. This project's own.
 use Rattle.std.specs.Prelude.{nat_eq}
 use Rattle.std.specs.Cmp.Lexicographic.{pointwise}
 use Rattle.indexmap.specs.IndexMap.{get_by}

@@ -1,6 +1,6 @@
 -- What the laws of the assembler say. This project's own; what `lui` and `addi` do after the RISC-V unprivileged ISA
 -- manual, section 2.4 "Integer Computational Instructions".
-use Rattle.std.specs.Prelude.{◌≡◌, ℕ, ◌==◌, ◌+◌, ◌*◌, ◌%◌, ◌^◌, List, [], ◌∷◌, ◌++◌, length, map, Result, Ok, Err, if◌then◌else◌}
+use Rattle.std.specs.Prelude.{◌≡◌, ℕ, ◌==◌, ◌+◌, ◌*◌, ◌%◌, ◌^◌, List, [], ◌∷◌, ◌++◌, length, map, Ok, Err, if◌then◌else◌}
 use Rattle.rv_isa.specs.Fields.{unsigned}
 use Rattle.rv_isa.specs.declared.instruction.Instr.{Instr}
 use Rattle.rv_isa.specs.declared.instruction.Instr.TheVariants.{Lui, OpImm}

@@ -1,8 +1,7 @@
 -- `li`: one or two instructions that load a value of 32 bits. This project's own.
-use Rattle.std.specs.Prelude.{ℕ, ◌==◌, ◌+◌, ◌*◌, ◌/◌, ◌%◌, ◌^◌, List, [], ◌∷◌, if◌then◌else◌}
-use Rattle.rv_isa.specs.Fields.{signed, unsigned}
+use Rattle.std.specs.Prelude.{ℕ, ◌==◌, ◌+◌, ◌/◌, ◌%◌, ◌^◌, List, [], ◌∷◌, if◌then◌else◌}
+use Rattle.rv_isa.specs.Fields.{signed}
 use Rattle.rv_isa.specs.declared.instruction.Reg.{Reg}
-use Rattle.rv_isa.specs.declared.instruction.ImmOp.{ImmOp}
 use Rattle.rv_isa.specs.declared.instruction.ImmOp.TheVariants.{Addi}
 use Rattle.rv_isa.specs.declared.instruction.Instr.{Instr}
 use Rattle.rv_isa.specs.declared.instruction.Instr.TheVariants.{Lui, OpImm}

@@ -1,6 +1,6 @@
 -- Registers by their names in a text: those of the ABI, `fp`, and `x0` to `x31` (the RISC-V unprivileged ISA
 -- manual, chapter "RISC-V Assembly Programmer's Handbook").
-use Rattle.std.specs.Prelude.{ℕ, List, [], ◌∷◌, Option, Some, None, position, option_map, nat_eq, codes, if◌then◌else◌}
+use Rattle.std.specs.Prelude.{ℕ, List, [], ◌∷◌, Option, Some, position, option_map, nat_eq, codes, if◌then◌else◌}
 use Rattle.std.specs.Cmp.Lexicographic.{pointwise}
 use Rattle.std.specs.Option.{option_or}
 use Rattle.rv_isa.specs.Names.{register_names}

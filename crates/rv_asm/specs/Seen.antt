@@ -1,4 +1,4 @@
--- What contracts see of the code's types, which lend from the text: the same without where it lies in memory.
+-- What contracts see of the code's types, which lend from the text: the same without where it lies in memory. This project's own.
 use Rattle.std.specs.Prelude.{ℕ, List, [], ◌∷◌, option_map, Result, Ok, Err}
 use Rattle.rv_isa.specs.Ranges.{IsInstr, IsReg}
 use Rattle.rv_isa.specs.declared.syntax.Operand.{Operand}

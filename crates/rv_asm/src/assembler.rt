@@ -3,7 +3,7 @@
 ghost use Rattle.std.specs.Prelude.{◌≡◌, ◌≤◌, ◌++◌, length, map, option_map, vec_len, IfOk, OnOk, []};
 ghost use Rattle.std.specs.Str.Lines.{lines as lines_in};
 ghost use Rattle.rv_asm.specs.Answers.{Gives, Leaves};
-ghost use Rattle.rv_asm.specs.Assembly.{assembled, encoded, label_taken, line_after, lines_after};
+ghost use Rattle.rv_asm.specs.Assembly.{assembled, label_taken, line_after, lines_after};
 ghost use Rattle.rv_asm.specs.Found.{find_in};
 ghost use Rattle.rv_asm.specs.Labels.{labels_of as labels_in, line_count, noted, spot};
 ghost use Rattle.rv_asm.specs.Lines.{parsed};

@@ -32,8 +32,12 @@ fn program_is_disassembled(rt: HostRuntime) -> Result<(), Fail> {
 
 #[test]
 fn program_is_assembled_back(rt: HostRuntime) -> Result<(), Fail> {
-    let text = disassemble(rt.alloc(), &WORDS)?;
-    let words = assemble(rt.alloc(), text.as_str());
-    assert!(rt; words.is_ok_and(|found| found.as_slice() == WORDS.as_slice()));
+    let lines = disassemble(rt.alloc(), &WORDS)?;
+    let text = lines.as_str();
+    if text.len() > 0x1_0000 {
+        return Err("a long text")?;
+    }
+    let words = assemble(rt.alloc(), text).ok().ok_or("it is assembled")?;
+    assert!(rt; words.as_slice() == WORDS.as_slice());
     Ok(())
 }

@@ -3,7 +3,7 @@
 ghost use Rattle.std.specs.Prelude.{◌≡◌, IsTrue};
 ghost use Rattle.rv_asm.specs.Fields.{fits as value_fits, immediate_fits as fits_immediate, with_rd as rd_filled, with_rs1 as rs1_filled, with_rs2 as rs2_filled, with_value as value_filled};
 
-use crate::numbers::{is_even, is_within, short_of, word_of};
+use crate::numbers::{is_even, is_within};
 use rv_isa::{ImmOp, Instr, Reg};
 
 /// An instruction with another `rd`, if it has one.

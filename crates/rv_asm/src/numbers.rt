@@ -1,7 +1,6 @@
 //! Numbers of a line, and what they are held against.
 
-ghost use Rattle.std.specs.Prelude.{◌≡◌, ◌≤◌, ◌^◌, option_map, pos, IsTrue, IfSome, FitsSigned};
-ghost use Rattle.std.specs.Int.{w32};
+ghost use Rattle.std.specs.Prelude.{◌≡◌, ◌≤◌, ◌^◌, option_map, pos, IsTrue, IfSome};
 ghost use Rattle.rv_isa.specs.Fields.{unsigned};
 ghost use Rattle.rv_asm.specs.Numbers.{is_even as even, is_within as within, is_word as word, minus, number_of as number, numeral as numeral_in};
 
@@ -83,12 +82,4 @@ pub fn word_of(number: i64) -> u32
     } else {
         number as u32
     }
-}
-
-/// A number of at most 32 bits with its sign.
-pub fn short_of(number: i64) -> i32
-    requires { FitsSigned w32 number }
-    ensures { result ≡ number }
-{
-    number as i32
 }

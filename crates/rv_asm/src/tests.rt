@@ -3,7 +3,6 @@
 
 use super::*;
 use std::alloc::Global;
-use std::process::Abort;
 use std::test::Fail;
 
 /// One line and its words.

@@ -1,4 +1,4 @@
-use Rattle.std.proofs.Common.{sym, ap, subst}
+use Rattle.std.proofs.Common.{sym, subst}
 use Rattle.rv_asm.specs.Lines.{Line}
 use Rattle.rv_asm.specs.Seen.{IsWhole}
 use Rattle.rv_asm.proofs.Whole.{parsed_whole}

@@ -1,6 +1,4 @@
-use Rattle.std.proofs.Common.{◌≡◌, ◌∷◌, Some, None, sym, ◌∙◌, ap, option_map, length, drop, arith}
-use Rattle.std.specs.List.{slice_split}
-use Rattle.rv_asm.specs.Operands.{comma, pieces_left}
+use Rattle.std.proofs.Common.{sym, ◌∙◌}
 use Rattle.rv_asm.specs.Seen.{open_seen}
 use Rattle.rv_asm.proofs.Cuts.{none_left, no_operand, no_fill, one_filled, all_filled, too_many}
 use Rattle.rv_asm.proofs.operands.filled.Goals as goal

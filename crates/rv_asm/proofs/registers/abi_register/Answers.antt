@@ -1,4 +1,4 @@
-use Rattle.std.proofs.Common.{◌≡◌, ℕ, ◌<◌, ◌+◌, true, false, [], get_or, length, nat_eq, refl, sym, ◌∙◌, ap, below_more, arith}
+use Rattle.std.proofs.Common.{◌≡◌, ◌<◌, true, false, [], get_or, length, nat_eq, sym, ap, below_more, arith}
 use Rattle.std.specs.Cmp.Lexicographic.{pointwise}
 use Rattle.rv_isa.specs.Names.{register_names}
 use Rattle.rv_asm.specs.Registers.{numbered}

@@ -2,7 +2,6 @@ use Rattle.std.proofs.Common.{◌≡◌, ℕ, List, true, None, Bor, is_some, na
 use Rattle.std.specs.Cmp.Lexicographic.{pointwise}
 use Rattle.std.specs.Map.{lookup}
 use Rattle.rv_asm.specs.Found.{find_in}
-use Rattle.rv_asm.specs.Labels.{noted}
 use Rattle.rv_asm.proofs.Spots.{kept, added, absent_from}
 use Rattle.rv_asm.proofs.labels.Labels.note.Goals as goal
 
