@@ -1,5 +1,5 @@
 -- The text of a word of code is a line of at most 30 bytes that ends no block.
-use Rattle.std.proofs.Common.{◌≡◌, ℕ, zero, suc, ◌+◌, ◌*◌, ◌<◌, ◌≤◌, ◌%◌, ◌/◌, ◌^◌, ◌&&◌, Bool, true, false, not, List, [], ◌∷◌, ◌++◌, length, map, get_or, Option, Some, None, ℤ, pos, negsuc, refl, sym, ap, ◌∙◌, ltb, leb, eqb, nat_eq, inl, inr, arith, append_assoc, length-append, codes}
+use Rattle.std.proofs.Common.{◌≡◌, ℕ, zero, suc, ◌+◌, ◌<◌, ◌≤◌, ◌%◌, ◌/◌, ◌^◌, ◌&&◌, Bool, true, false, not, List, [], ◌∷◌, ◌++◌, length, map, get_or, Option, Some, None, ℤ, pos, negsuc, refl, sym, ap, ◌∙◌, ltb, leb, eqb, nat_eq, inl, inr, arith, length-append, codes}
 use Rattle.std.specs.List.{list_all, flat_map, slice_split, AllByRecursion}
 use Rattle.std.specs.Char.{digit_char}
 use Rattle.std.specs.Fmt.{decimal, signed_decimal}
@@ -15,7 +15,7 @@ use Rattle.plain_text.specs.Words.{is_blank, words_in, words_of}
 use Rattle.rv_isa.specs.Names.{mnemonic_of, register_names, register_name}
 use Rattle.rv_isa.specs.Ranges.{IsInstr, IsImmediate}
 use Rattle.rv_isa.specs.Table.{instruction_of}
-use Rattle.rv_isa.specs.Texts.{rd_of, rs1_of, rs2_of, number_of, operands_of, operand_text, operands_text, row_text, raw_text, hexadecimal, line_text, text_of}
+use Rattle.rv_isa.specs.Texts.{rd_of, rs1_of, rs2_of, number_of, operand_text, operands_text, raw_text, hexadecimal, line_text, text_of}
 use Rattle.rv_isa.specs.declared.syntax.Operand.{Operand}
 use Rattle.rv_isa.specs.declared.syntax.Operand.TheVariants.{Rd, Rs1, Rs2, Immediate, Target, Memory}
 use Rattle.rv_isa.specs.declared.instruction.Reg.{Reg}
@@ -32,7 +32,7 @@ use Rattle.rv_isa.specs.declared.instruction.RegOp.TheVariants.{Add, Sub, Sll, S
 use Rattle.rv_isa.specs.declared.instruction.Instr.{Instr}
 use Rattle.rv_isa.specs.declared.instruction.Instr.TheVariants.{Lui, Auipc, Jal, Jalr, Branch, Load, Store, OpImm, Op, Fence, Ecall, Ebreak}
 use Rattle.script.specs.Sections.{ends}
-use Rattle.script.proofs.WrittenLines.{is_line_byte, line_byte_from, is_word_byte, IsWritten, IsLine, word_line, spaced, spaced_words, before_comment, no_blanks}
+use Rattle.script.proofs.WrittenLines.{is_line_byte, is_word_byte, IsWritten, IsLine, word_line, spaced_words, before_comment, no_blanks}
 use Rattle.script.proofs.WrittenWords.{decimal_written}
 
 -- bytes of a line, and at most so many
@@ -131,10 +131,10 @@ operand_piece i h Immediate = number_piece (number_of i) h
 operand_piece i h Target = number_piece (number_of i) h
 operand_piece i h Memory =
     piece-append 16 1 (signed_decimal (number_of i) ++ codes "(" ++ register_name (rs1_of i)) (codes ")")
-      (piece-append 12 4 (signed_decimal (number_of i) ++ codes "(") (register_name (rs1_of i))
-        (piece-append 11 1 (signed_decimal (number_of i)) (codes "(") (number_piece (number_of i) h) (record { bytes = refl; few = omega arith }))
-        (register_piece (rs1_of i)))
-      (record { bytes = refl; few = omega arith })
+    (piece-append 12 4 (signed_decimal (number_of i) ++ codes "(") (register_name (rs1_of i))
+    (piece-append 11 1 (signed_decimal (number_of i)) (codes "(") (number_piece (number_of i) h) (record { bytes = refl; few = omega arith }))
+    (register_piece (rs1_of i)))
+    (record { bytes = refl; few = omega arith })
 
 abbrev others_width : List Operand → ℕ
 others_width [] = 0
@@ -144,8 +144,8 @@ others_piece : (i : Instr) → IsSmall (number_of i) → (others : List Operand)
 others_piece i h [] = record { bytes = refl; few = omega arith }
 others_piece i h (operand ∷ others) =
     piece-append (2 + width operand) (others_width others) (codes ", " ++ operand_text i operand) (flat_map (λ operand. codes ", " ++ operand_text i operand) others)
-      (piece-append 2 (width operand) (codes ", ") (operand_text i operand) (record { bytes = refl; few = omega arith }) (operand_piece i h operand))
-      (others_piece i h others)
+    (piece-append 2 (width operand) (codes ", ") (operand_text i operand) (record { bytes = refl; few = omega arith }) (operand_piece i h operand))
+    (others_piece i h others)
 
 -- ---- a line by its first word
 
@@ -178,9 +178,9 @@ first_is word h =
 code_line : (word rest : List ℕ) (most : ℕ) → IsFirst word → IsPiece most rest → most ≤ 23 → IsCode (word ++ 32 ∷ rest)
 code_line word rest most first piece fits =
     let line : IsLine (word ++ 32 ∷ rest) = record {
-          bytes = list_all-append is_line_byte word (32 ∷ rest) ∙ and_from (list_all is_line_byte word) (list_all is_line_byte (32 ∷ rest)) (word_line word first.written.bytes) piece.bytes;
-          some = omega (arith, length-append word (32 ∷ rest));
-        } in
+      bytes = list_all-append is_line_byte word (32 ∷ rest) ∙ and_from (list_all is_line_byte word) (list_all is_line_byte (32 ∷ rest)) (word_line word first.written.bytes) piece.bytes;
+      some = omega (arith, length-append word (32 ∷ rest));
+    } in
     let split : slice_split is_blank (word ++ 32 ∷ rest) ≡ word ∷ slice_split is_blank rest = slice_split_at is_blank word 32 rest (no_blanks word first.written) refl in
     let some : eqb (length word) 0 ≡ false = let s = first.written.some in ne_eqb _ _ (omega arith) in
     let words : words_of (word ++ 32 ∷ rest) ≡ word ∷ words_in rest = ap words_in (before_comment (word ++ 32 ∷ rest) line) ∙ rw (split, some) refl in
@@ -258,8 +258,8 @@ mnemonic_first Ebreak = first_is (mnemonic_of Ebreak) refl
 row_code : (i : Instr) → IsInstr i → (first : Operand) (others : List Operand) → width first + others_width others ≤ 23 → IsCode (mnemonic_of i ++ operands_text i (first ∷ others))
 row_code i ok first others fits =
     code_line (mnemonic_of i) (operand_text i first ++ flat_map (λ operand. codes ", " ++ operand_text i operand) others) (width first + others_width others) (mnemonic_first i)
-      (piece-append (width first) (others_width others) (operand_text i first) (flat_map (λ operand. codes ", " ++ operand_text i operand) others) (operand_piece i (small i ok) first) (others_piece i (small i ok) others))
-      fits
+    (piece-append (width first) (others_width others) (operand_text i first) (flat_map (λ operand. codes ", " ++ operand_text i operand) others) (operand_piece i (small i ok) first) (others_piece i (small i ok) others))
+    fits
 
 alone_code : (i : Instr) → IsCode (mnemonic_of i ++ [])
 alone_code i = rw (append-nil (mnemonic_of i)) (code_word (mnemonic_of i) (mnemonic_first i))
@@ -279,7 +279,7 @@ hexadecimal_piece (suc k) n =
 raw_code : (w : ℕ) → IsCode (raw_text w)
 raw_code w =
     code_line (codes ".word") (48 ∷ 120 ∷ hexadecimal 8 w) 10 (first_is (codes ".word") refl)
-      (piece-append 2 8 (48 ∷ 120 ∷ []) (hexadecimal 8 w) (record { bytes = refl; few = omega arith }) (hexadecimal_piece 8 w)) (omega arith)
+    (piece-append 2 8 (48 ∷ 120 ∷ []) (hexadecimal 8 w) (record { bytes = refl; few = omega arith }) (hexadecimal_piece 8 w)) (omega arith)
 
 -- ---- all words
 
@@ -301,7 +301,7 @@ line_code w (Some (Op op rd rs1 rs2)) ok = row_code (Op op rd rs1 rs2) (ok (Op o
 line_code w (Some (Fence rd rs1 bits)) ok = elim (cases_Bool (eqb w 0x0FF0000F)) [
   | inl t ↦ rw t (alone_code (Fence rd rs1 bits))
   | inr f ↦ rw f (raw_code w)
-  ]
+]
 line_code w (Some Ecall) ok = alone_code Ecall
 line_code w (Some Ebreak) ok = alone_code Ebreak
 

@@ -1,34 +1,35 @@
 -- What each line of a set that was written makes of the lines before it: the next part of the set.
-use Rattle.std.proofs.Common.{◌≡◌, ℕ, suc, zero, ◌+◌, ◌*◌, ◌<◌, ◌≤◌, ◌^◌, ◌%◌, Bool, true, false, List, [], ◌∷◌, ◌++◌, length, map, Option, Some, None, Result, Ok, refl, sym, ap, ◌∙◌, ltb, eqb, arith, codes, length-append, get_or}
+use Rattle.std.proofs.Common.{◌≡◌, ℕ, ◌*◌, ◌<◌, true, false, List, [], ◌∷◌, ◌++◌, length, map, Option, Some, Ok, refl, ◌∙◌, ltb, eqb, arith, codes}
 use Rattle.std.specs.List.{AllByRecursion}
 use Rattle.std.specs.Fmt.{decimal}
 use Rattle.std.proofs.lemmas.Bool.{ne_eqb, le-ltb, eq-eqb}
 use Rattle.std.proofs.lemmas.List.{length-map}
 use Rattle.kernel_model.specs.Effects.{Spawn}
-use Rattle.plain_text.specs.Words.{words_of}
 use Rattle.set_model.specs.Sets.{ObjectPart, ProgramPart, TaskSet, program_at}
-use Rattle.set_model.specs.Limits.{IsWithin, IsObject, IsProgram, IsTask}
+use Rattle.set_model.specs.Limits.{IsObject, IsProgram, IsTask}
 use Rattle.set_model.specs.Names.{IsName, AreDistinct}
-use Rattle.script.specs.declared.refusals.ScriptCause.{ScriptCause}
 use Rattle.script.specs.declared.keyword.Stage.{Stage}
 use Rattle.script.specs.declared.keyword.Stage.TheVariants as stages
-use Rattle.script.specs.Results.{◌>>=◌, each}
 use Rattle.script.specs.Keywords.{may_follow}
-use Rattle.script.specs.Words.{number, value, new_name, known_name}
-use Rattle.script.specs.SetLines.{version_of, cores_after, memory_after, records_after, first_values, object_after, task_after}
-use Rattle.script.specs.Blocks.{Header, header_of, program_after}
-use Rattle.script.specs.Parts.{Parts, nothing, no_set, no_events}
+use Rattle.script.specs.Words.{known_name}
+use Rattle.script.specs.SetLines.{first_values, object_after, task_after}
+use Rattle.script.specs.Blocks.{header_of, program_after}
+use Rattle.script.specs.Parts.{Parts, no_events}
 use Rattle.script.specs.Lines.{words_after, line_after}
-use Rattle.script.proofs.WrittenLines.{IsWritten, IsLine, spaced, spaced_line, spaced_words, line_is_plain}
-use Rattle.script.proofs.WrittenWords.{decimal_written, decimals_written, number_back, value_back, values_back, name_written}
-use Rattle.script.proofs.NamesRead.{is_new, is_known}
+use Rattle.script.proofs.WrittenLines.{IsWritten, spaced, spaced_line, spaced_words, line_is_plain}
+use Rattle.script.proofs.WrittenWords.{number_back, value_back, values_back}
+use Rattle.script.proofs.NamesRead.{is_new}
 
 -- ---- the set so far
 
 abbrev pub so_far : TaskSet → List ObjectPart → List ProgramPart → List Spawn → TaskSet
 so_far set objects programs tasks = record {
-  cores = set.cores; memory = set.memory; records = set.records;
-  objects = objects; programs = programs; tasks = tasks;
+  cores = set.cores;
+  memory = set.memory;
+  records = set.records;
+  objects = objects;
+  programs = programs;
+  tasks = tasks;
 }
 
 abbrev pub after : TaskSet → Option Stage → List ObjectPart → List ProgramPart → List Spawn → Parts
@@ -62,10 +63,13 @@ object_is set done o others h name once few =
     let size = h.size in
     let slots = h.slots in
     let room : eqb (length done) 64 ≡ false = ne_eqb _ _ (omega arith) in
-    rw (is_new (λ o. o.name) done o.name others name once,
-        number_back 1 64 o.size size.0 size.1 (omega arith),
-        number_back 2 8 o.slots slots.0 slots.1 (omega arith),
-        values_are o h, room) refl
+    rw (
+      is_new (λ o. o.name) done o.name others name once,
+      number_back 1 64 o.size size.0 size.1 (omega arith),
+      number_back 2 8 o.slots slots.0 slots.1 (omega arith),
+      values_are o h,
+      room,
+    ) refl
 
 abbrev pub task_words : TaskSet → Spawn → List (List ℕ)
 task_words set t = (program_at set t.program).name ∷ decimal t.arg ∷ []

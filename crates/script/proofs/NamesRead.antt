@@ -1,25 +1,23 @@
 -- Names of a set, read one after the other: each is new where it is given, and found where it is used.
-use Rattle.std.proofs.Common.{◌≡◌, ◌≢◌, ℕ, zero, suc, ◌+◌, ◌<◌, ◌≤◌, Bool, true, false, not, List, [], ◌∷◌, ◌++◌, length, map, get_or, Option, Some, None, is_some, Result, Ok, refl, sym, ap, ◌∙◌, ltb, eqb, nat_eq, inl, inr, arith, position}
+use Rattle.std.proofs.Common.{◌≡◌, ◌≢◌, ℕ, zero, suc, ◌<◌, true, false, List, [], ◌∷◌, ◌++◌, length, map, get_or, Ok, refl, sym, ltb, nat_eq, inl, inr, arith}
 use Rattle.std.specs.List.{AllByRecursion, position_or_len}
 use Rattle.std.specs.Cmp.Lexicographic.{pointwise, same_text, other_text}
 use Rattle.std.proofs.lemmas.Bool.{cases_Bool, lt-ltb, le-ltb}
-use Rattle.std.proofs.lemmas.List.{length-map}
 use Rattle.set_model.specs.Names.{IsName, AreDistinct}
-use Rattle.script.specs.declared.refusals.ScriptCause.{ScriptCause}
-use Rattle.script.specs.Words.{place_of, new_name, known_name}
+use Rattle.script.specs.Words.{new_name, known_name}
 use Rattle.script.proofs.WrittenWords.{name_is_name}
 
 differ : (a b : List ℕ) → a ≢ b → pointwise nat_eq a b ≡ false
 differ a b ne = elim (cases_Bool (pointwise nat_eq a b)) [
   | inl t ↦ absurd (ne (same_text a b (sym t)))
   | inr f ↦ f
-  ]
+]
 
 same : (a : List ℕ) → pointwise nat_eq a a ≡ true
 same a = elim (cases_Bool (pointwise nat_eq a a)) [
   | inl t ↦ t
   | inr f ↦ absurd (other_text a a (sym f) refl)
-  ]
+]
 
 at_seam : (P : List ℕ → Type 0) (xs : List (List ℕ)) (y : List ℕ) (ys : List (List ℕ)) → AllByRecursion P (xs ++ y ∷ ys) → P y
 at_seam P [] y ys all = all.0

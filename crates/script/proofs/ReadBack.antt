@@ -1,7 +1,6 @@
 -- What is written of a set is read back.
-use Rattle.std.proofs.Common.{◌≡◌, ℕ, ◌<◌, ◌≤◌, ◌^◌, List, [], ◌∷◌, ◌++◌, length, map, Option, Some, Result, Ok, refl, sym, ap, ◌∙◌, ltb, false, arith}
-use Rattle.std.specs.List.{AllByRecursion, flat_map}
-use Rattle.std.specs.Fmt.{decimal}
+use Rattle.std.proofs.Common.{◌≡◌, ℕ, ◌<◌, ◌≤◌, ◌^◌, List, [], ◌∷◌, length, map, Some, Ok, refl, sym, ap, ◌∙◌, ltb, false, arith}
+use Rattle.std.specs.List.{AllByRecursion}
 use Rattle.std.specs.Str.Lines.{lines}
 use Rattle.std.proofs.lemmas.Bool.{le-ltb}
 use Rattle.kernel_model.specs.Effects.{Spawn}
@@ -15,17 +14,15 @@ use Rattle.rv_asm.specs.Disassembly.{disassembled}
 use Rattle.set_model.specs.Sets.{ObjectPart, ProgramPart, TaskSet, program_at}
 use Rattle.set_model.specs.Limits.{IsObject, IsProgram, IsTask, IsTaskSet}
 use Rattle.set_model.specs.Names.{IsName, IsNamed}
-use Rattle.script.specs.Parts.{nothing}
 use Rattle.script.specs.Reading.{read}
 use Rattle.script.specs.ScriptText.{script_text, unscheduled}
-use Rattle.script.specs.Sections.{sections}
-use Rattle.script.proofs.CodeLines.{AreWithin, IsCode, words_code}
-use Rattle.script.proofs.LinesRead.{object_words, program_words, task_words}
+use Rattle.script.proofs.CodeLines.{AreWithin, words_code}
+use Rattle.script.proofs.LinesRead.{object_words, task_words}
 use Rattle.script.proofs.ScriptLines.{script_lines, text_joined, code_joined}
 use Rattle.script.proofs.ScriptSections.{IsWrittenProgram, IsWrittenSet, code_lines_are, script_lines_are, script_cut}
 use Rattle.script.proofs.SetRead.{AreAssembled, task_name, sections_read}
 use Rattle.script.proofs.TextLength.{text_is_short}
-use Rattle.script.proofs.WrittenLines.{IsWritten, joined, joined_lines}
+use Rattle.script.proofs.WrittenLines.{IsWritten, joined_lines}
 use Rattle.script.proofs.WrittenWords.{decimal_written, decimals_written, name_written}
 
 -- ---- the words of a set are written as words

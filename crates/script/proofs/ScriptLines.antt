@@ -1,23 +1,15 @@
 -- The lines of a set as a script, and the sections that they are.
-use Rattle.std.proofs.Common.{◌≡◌, ℕ, zero, suc, ◌+◌, ◌<◌, ◌≤◌, ◌^◌, Bool, true, false, List, [], ◌∷◌, ◌++◌, length, map, get_or, Option, Some, None, is_some, refl, sym, ap, ◌∙◌, arith, codes, append_assoc}
-use Rattle.std.specs.List.{AllByRecursion, flat_map}
+use Rattle.std.proofs.Common.{◌≡◌, ℕ, List, [], ◌∷◌, ◌++◌, map, refl, sym, ap, ◌∙◌, codes, append_assoc}
+use Rattle.std.specs.List.{flat_map}
 use Rattle.std.specs.Fmt.{decimal}
-use Rattle.std.specs.Str.Lines.{lines}
 use Rattle.std.proofs.lemmas.Grind.{flat_map-append}
 use Rattle.std.proofs.lemmas.List.{append-nil}
-use Rattle.std.proofs.lemmas.List.Folds.{flat_map-map}
 use Rattle.kernel_model.specs.Effects.{Spawn}
 use Rattle.rv_isa.specs.Texts.{text_of}
 use Rattle.set_model.specs.Sets.{ObjectPart, ProgramPart, TaskSet, program_at}
-use Rattle.set_model.specs.Limits.{IsWithin, IsObject, IsProgram, IsTask, IsTaskSet}
-use Rattle.set_model.specs.Names.{IsName, IsNamed}
-use Rattle.script.specs.declared.keyword.BlockKind.TheVariants as blocks
 use Rattle.script.specs.ScriptText.{field, number_text, object_text, code_text, program_text, task_text, script_text}
-use Rattle.script.specs.Sections.{Section, Single, Block, Open, opened, ends, with_line, sections_from, sections}
-use Rattle.script.proofs.CodeLines.{AreWithin, IsCode, words_code}
 use Rattle.script.proofs.LinesRead.{object_words, program_words, task_words}
-use Rattle.script.proofs.WrittenLines.{IsWritten, IsLine, spaced, spaced_line, spaced_words, line_is_plain, joined, joined_lines}
-use Rattle.script.proofs.WrittenWords.{decimal_written, decimals_written, name_written}
+use Rattle.script.proofs.WrittenLines.{spaced, joined}
 
 -- ---- lines
 
@@ -56,8 +48,8 @@ values_text (w ∷ ws) = ap (λ (more : List ℕ). (32 ∷ decimal w) ++ more) (
 object_joined : (o : ObjectPart) → object_text o ≡ object_line o ++ 10 ∷ []
 object_joined o =
     let values : ((o.name ++ (32 ∷ decimal o.size)) ++ (32 ∷ decimal o.slots)) ++ flat_map (field (codes " ")) o.first ≡ o.name ++ ((32 ∷ decimal o.size) ++ ((32 ∷ decimal o.slots) ++ flat_map (λ word. 32 ∷ word) (map decimal o.first))) =
-          four o.name (32 ∷ decimal o.size) (32 ∷ decimal o.slots) (flat_map (field (codes " ")) o.first)
-          ∙ ap (λ (v : List ℕ). o.name ++ ((32 ∷ decimal o.size) ++ ((32 ∷ decimal o.slots) ++ v))) (values_text o.first) in
+    four o.name (32 ∷ decimal o.size) (32 ∷ decimal o.slots) (flat_map (field (codes " ")) o.first)
+    ∙ ap (λ (v : List ℕ). o.name ++ ((32 ∷ decimal o.size) ++ ((32 ∷ decimal o.slots) ++ v))) (values_text o.first) in
     ap (λ (t : List ℕ). codes "object " ++ (t ++ 10 ∷ [])) values
 
 pub code_joined : (ws : List ℕ) → flat_map code_text ws ≡ joined (map text_of ws)
@@ -71,10 +63,10 @@ program_seam name fuel code end =
 program_joined : (p : ProgramPart) → program_text p ≡ joined (program_lines p)
 program_joined p =
     let body : flat_map code_text p.code ++ codes "end\n" ≡ joined (map text_of p.code ++ codes "end" ∷ []) =
-          ap (λ (c : List ℕ). c ++ codes "end\n") (code_joined p.code) ∙ sym (flat_map-append (λ (line : List ℕ). line ++ 10 ∷ []) (map text_of p.code) (codes "end" ∷ [])) in
+    ap (λ (c : List ℕ). c ++ codes "end\n") (code_joined p.code) ∙ sym (flat_map-append (λ (line : List ℕ). line ++ 10 ∷ []) (map text_of p.code) (codes "end" ∷ [])) in
     ap (λ (t : List ℕ). codes "program " ++ t) (
-        program_seam p.name (32 ∷ decimal p.fuel) (flat_map code_text p.code) (codes "end\n")
-        ∙ ap (λ (b : List ℕ). ((p.name ++ ((32 ∷ decimal p.fuel) ++ [])) ++ 10 ∷ []) ++ b) body)
+    program_seam p.name (32 ∷ decimal p.fuel) (flat_map code_text p.code) (codes "end\n")
+    ∙ ap (λ (b : List ℕ). ((p.name ++ ((32 ∷ decimal p.fuel) ++ [])) ++ 10 ∷ []) ++ b) body)
 
 task_joined : (set : TaskSet) (t : Spawn) → task_text set t ≡ task_line set t ++ 10 ∷ []
 task_joined set t = ap (λ (arg : List ℕ). codes "task " ++ (((program_at set t.program).name ++ (32 ∷ arg)) ++ 10 ∷ [])) (sym (append-nil (decimal t.arg)))
@@ -109,11 +101,11 @@ rest_joined : (set : TaskSet)
     ≡ joined (map object_line set.objects ++ (flat_map program_lines set.programs ++ (map (task_line set) set.tasks ++ codes "run" ∷ [])))
 rest_joined set =
     let tasks : flat_map (task_text set) set.tasks ++ codes "run\n" ≡ joined (map (task_line set) set.tasks ++ codes "run" ∷ []) =
-          ap (λ (t : List ℕ). t ++ codes "run\n") (tasks_joined set set.tasks) ∙ sym (joined-append (map (task_line set) set.tasks) (codes "run" ∷ [])) in
+    ap (λ (t : List ℕ). t ++ codes "run\n") (tasks_joined set set.tasks) ∙ sym (joined-append (map (task_line set) set.tasks) (codes "run" ∷ [])) in
     let programs : flat_map program_text set.programs ++ (flat_map (task_text set) set.tasks ++ codes "run\n") ≡ joined (flat_map program_lines set.programs ++ (map (task_line set) set.tasks ++ codes "run" ∷ [])) =
-          ap (λ (t : List ℕ). t ++ (flat_map (task_text set) set.tasks ++ codes "run\n")) (programs_joined set.programs)
-          ∙ ap (λ (t : List ℕ). joined (flat_map program_lines set.programs) ++ t) tasks
-          ∙ sym (joined-append (flat_map program_lines set.programs) (map (task_line set) set.tasks ++ codes "run" ∷ [])) in
+    ap (λ (t : List ℕ). t ++ (flat_map (task_text set) set.tasks ++ codes "run\n")) (programs_joined set.programs)
+    ∙ ap (λ (t : List ℕ). joined (flat_map program_lines set.programs) ++ t) tasks
+    ∙ sym (joined-append (flat_map program_lines set.programs) (map (task_line set) set.tasks ++ codes "run" ∷ [])) in
     ap (λ (t : List ℕ). t ++ (flat_map program_text set.programs ++ (flat_map (task_text set) set.tasks ++ codes "run\n"))) (objects_joined set.objects)
     ∙ ap (λ (t : List ℕ). joined (map object_line set.objects) ++ t) programs
     ∙ sym (joined-append (map object_line set.objects) (flat_map program_lines set.programs ++ (map (task_line set) set.tasks ++ codes "run" ∷ [])))
@@ -123,7 +115,7 @@ unfolding script_text
 text_joined set =
     let all = flat_map object_text set.objects ++ (flat_map program_text set.programs ++ (flat_map (task_text set) set.tasks ++ codes "run\n")) in
     eight (codes "nvk 1\n") (number_text (codes "cores ") set.cores) (number_text (codes "memory ") set.memory) (number_text (codes "records ") set.records)
-        (flat_map object_text set.objects) (flat_map program_text set.programs) (flat_map (task_text set) set.tasks) (codes "run\n")
+    (flat_map object_text set.objects) (flat_map program_text set.programs) (flat_map (task_text set) set.tasks) (codes "run\n")
     ∙ ap (λ (c : List ℕ). codes "nvk 1\n" ++ ((codes "cores " ++ c) ++ (number_text (codes "memory ") set.memory ++ (number_text (codes "records ") set.records ++ all)))) (number_joined set.cores)
     ∙ ap (λ (m : List ℕ). codes "nvk 1\n" ++ ((number_line (codes "cores") set.cores ++ 10 ∷ []) ++ ((codes "memory " ++ m) ++ (number_text (codes "records ") set.records ++ all)))) (number_joined set.memory)
     ∙ ap (λ (r : List ℕ). codes "nvk 1\n" ++ ((number_line (codes "cores") set.cores ++ 10 ∷ []) ++ ((number_line (codes "memory") set.memory ++ 10 ∷ []) ++ ((codes "records " ++ r) ++ all)))) (number_joined set.records)

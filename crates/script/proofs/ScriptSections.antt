@@ -1,16 +1,15 @@
 -- The sections of a set as a script.
-use Rattle.std.proofs.Common.{◌≡◌, ℕ, zero, suc, ◌+◌, ◌<◌, ◌≤◌, ◌^◌, Bool, true, false, List, [], ◌∷◌, ◌++◌, length, map, Option, Some, None, is_some, refl, sym, ap, ◌∙◌, arith, codes, append_assoc}
+use Rattle.std.proofs.Common.{◌≡◌, ℕ, true, false, List, [], ◌∷◌, ◌++◌, map, Option, Some, None, refl, sym, ap, ◌∙◌, arith, codes, append_assoc}
 use Rattle.std.specs.List.{AllByRecursion, flat_map}
 use Rattle.std.specs.Fmt.{decimal}
-use Rattle.std.specs.Str.Lines.{lines}
 use Rattle.std.proofs.lemmas.List.{append-nil}
 use Rattle.kernel_model.specs.Effects.{Spawn}
 use Rattle.rv_isa.specs.Texts.{text_of}
-use Rattle.set_model.specs.Sets.{ObjectPart, ProgramPart, TaskSet, program_at}
+use Rattle.set_model.specs.Sets.{ObjectPart, ProgramPart, TaskSet}
 use Rattle.script.specs.declared.keyword.BlockKind.{BlockKind}
 use Rattle.script.specs.declared.keyword.BlockKind.TheVariants as blocks
 use Rattle.script.specs.Keywords.{block_kind_of}
-use Rattle.script.specs.Sections.{Section, Single, Block, Open, open_of, opened, ends, with_line, sections_from, sections}
+use Rattle.script.specs.Sections.{Section, Single, Block, Open, open_of, opened, ends, sections_from, sections}
 use Rattle.script.proofs.CodeLines.{IsCode}
 use Rattle.script.proofs.LinesRead.{object_words, program_words, task_words}
 use Rattle.script.proofs.ScriptLines.{number_line, object_line, program_line, program_lines, task_line, script_lines}
@@ -47,26 +46,34 @@ code_lines_are (l ∷ ls) all = (all.0.line, code_lines_are ls all.1)
 program_lines_are : (programs : List ProgramPart) → AllByRecursion IsWrittenProgram programs → AllByRecursion IsLine (flat_map program_lines programs)
 program_lines_are [] all = tt
 program_lines_are (p ∷ programs) all =
-    all-append IsLine (program_lines p) (flat_map program_lines programs)
-      (spaced_line (codes "program") (program_words p) (literal (codes "program") refl) all.0.words,
-       all-append IsLine (map text_of p.code) (codes "end" ∷ []) (code_lines_are (map text_of p.code) all.0.code) (record { bytes = refl; some = omega arith }, tt))
-      (program_lines_are programs all.1)
+    all-append IsLine (program_lines p) (flat_map program_lines programs) (
+      spaced_line (codes "program") (program_words p) (literal (codes "program") refl) all.0.words,
+      all-append IsLine (map text_of p.code) (codes "end" ∷ []) (code_lines_are (map text_of p.code) all.0.code) (record { bytes = refl; some = omega arith }, tt),
+    )
+    (program_lines_are programs all.1)
 
 task_lines_are : (set : TaskSet) (tasks : List Spawn) → AllByRecursion (λ t. AllByRecursion IsWritten (task_words set t)) tasks → AllByRecursion IsLine (map (task_line set) tasks)
 task_lines_are set [] all = tt
 task_lines_are set (t ∷ tasks) all = (spaced_line (codes "task") (task_words set t) (literal (codes "task") refl) all.0, task_lines_are set tasks all.1)
 
 pub script_lines_are : (set : TaskSet) → IsWrittenSet set → AllByRecursion IsLine (script_lines set)
-script_lines_are set h =
-    (record { bytes = refl; some = omega arith },
-     (spaced_line (codes "cores") (decimal set.cores ∷ []) (literal (codes "cores") refl) (h.cores, tt),
-      (spaced_line (codes "memory") (decimal set.memory ∷ []) (literal (codes "memory") refl) (h.memory, tt),
-       (spaced_line (codes "records") (decimal set.records ∷ []) (literal (codes "records") refl) (h.records, tt),
+script_lines_are set h = (
+  record { bytes = refl; some = omega arith },
+  (
+    spaced_line (codes "cores") (decimal set.cores ∷ []) (literal (codes "cores") refl) (h.cores, tt),
+    (
+      spaced_line (codes "memory") (decimal set.memory ∷ []) (literal (codes "memory") refl) (h.memory, tt),
+      (
+        spaced_line (codes "records") (decimal set.records ∷ []) (literal (codes "records") refl) (h.records, tt),
         all-append IsLine (map object_line set.objects) (flat_map program_lines set.programs ++ (map (task_line set) set.tasks ++ codes "run" ∷ []))
-          (object_lines_are set.objects h.objects)
-          (all-append IsLine (flat_map program_lines set.programs) (map (task_line set) set.tasks ++ codes "run" ∷ [])
+            (object_lines_are set.objects h.objects)
+            (all-append IsLine (flat_map program_lines set.programs) (map (task_line set) set.tasks ++ codes "run" ∷ [])
             (program_lines_are set.programs h.programs)
-            (all-append IsLine (map (task_line set) set.tasks) (codes "run" ∷ []) (task_lines_are set set.tasks h.tasks) (record { bytes = refl; some = omega arith }, tt)))))))
+            (all-append IsLine (map (task_line set) set.tasks) (codes "run" ∷ []) (task_lines_are set set.tasks h.tasks) (record { bytes = refl; some = omega arith }, tt))),
+      ),
+    ),
+  ),
+)
 
 -- ---- cutting into sections
 
@@ -140,7 +147,7 @@ programs_cut [] rest all = refl
 programs_cut (p ∷ programs) rest all =
     ap (λ (ls : List (List ℕ)). sections_from None (program_line p ∷ ls)) (regroup (map text_of p.code) (codes "end") (flat_map program_lines programs) rest)
     ∙ open_first (program_line p) (record { kind = blocks.Program; words = program_words p; body = [] }) (map text_of p.code ++ codes "end" ∷ (flat_map program_lines programs ++ rest))
-        (spaced_opens (codes "program") (program_words p) (literal (codes "program") refl) all.0.words)
+    (spaced_opens (codes "program") (program_words p) (literal (codes "program") refl) all.0.words)
     ∙ block_goes blocks.Program (program_words p) [] (map text_of p.code) (codes "end") (flat_map program_lines programs ++ rest) all.0.code refl
     ∙ ap (λ (more : List Section). program_section p ∷ more) (programs_cut programs rest all.1)
 
@@ -154,10 +161,10 @@ body_cut : (set : TaskSet) → IsWrittenSet set
 body_cut set h =
     objects_cut set.objects (flat_map program_lines set.programs ++ (map (task_line set) set.tasks ++ codes "run" ∷ [])) h.objects
     ∙ ap (λ (more : List Section). map object_section set.objects ++ more) (
-        programs_cut set.programs (map (task_line set) set.tasks ++ codes "run" ∷ []) h.programs
-        ∙ ap (λ (more : List Section). map program_section set.programs ++ more) (
-            tasks_cut set set.tasks (codes "run" ∷ []) h.tasks
-            ∙ ap (λ (more : List Section). map (task_section set) set.tasks ++ more) run_cut))
+    programs_cut set.programs (map (task_line set) set.tasks ++ codes "run" ∷ []) h.programs
+    ∙ ap (λ (more : List Section). map program_section set.programs ++ more) (
+    tasks_cut set set.tasks (codes "run" ∷ []) h.tasks
+    ∙ ap (λ (more : List Section). map (task_section set) set.tasks ++ more) run_cut))
 
 number_cut : (word : List ℕ) (n : ℕ) (rest : List (List ℕ)) → IsWritten word → IsWritten (decimal n) → block_kind_of word ≡ None
     → sections_from None (number_line word n ∷ rest) ≡ Single (number_line word n) ∷ sections_from None rest

@@ -1,11 +1,10 @@
 -- The sections of a set as a script are read as this set.
-use Rattle.std.proofs.Common.{◌≡◌, ℕ, zero, suc, ◌+◌, ◌*◌, ◌<◌, ◌≤◌, ◌^◌, ◌%◌, Bool, true, false, not, List, [], ◌∷◌, ◌++◌, length, map, get_or, Option, Some, None, Result, Ok, refl, sym, subst, ap, ◌∙◌, ltb, eqb, arith, codes, append_assoc, length-append, position}
+use Rattle.std.proofs.Common.{◌≡◌, ℕ, zero, suc, ◌+◌, ◌<◌, ◌≤◌, ◌^◌, ◌%◌, true, false, List, [], ◌∷◌, ◌++◌, length, map, get_or, Some, Result, Ok, refl, sym, subst, ap, ◌∙◌, ltb, eqb, arith, codes, append_assoc, length-append}
 use Rattle.std.specs.List.{AllByRecursion, position_or_len}
 use Rattle.std.specs.Fmt.{decimal}
 use Rattle.std.proofs.lemmas.Bool.{le-ltb, eq-eqb}
 use Rattle.std.proofs.lemmas.List.{append-nil, map-append}
 use Rattle.kernel_model.specs.Effects.{Spawn}
-use Rattle.plain_text.specs.Words.{is_plain, words_of}
 use Rattle.rv_isa.specs.Texts.{text_of}
 use Rattle.rv_asm.specs.Assembly.{assembled}
 use Rattle.set_model.specs.Sets.{ObjectPart, ProgramPart, TaskSet, program_at}
@@ -14,21 +13,19 @@ use Rattle.set_model.specs.Names.{IsName, IsNamed, AreDistinct}
 use Rattle.script.specs.declared.keyword.BlockKind.TheVariants as blocks
 use Rattle.script.specs.declared.keyword.Stage.{Stage}
 use Rattle.script.specs.declared.keyword.Stage.TheVariants as stages
-use Rattle.script.specs.declared.refusals.ScriptError.{ScriptError}
-use Rattle.script.specs.Results.{◌>>=◌}
 use Rattle.script.specs.Keywords.{may_follow}
 use Rattle.script.specs.SetLines.{version_of, cores_after, memory_after, records_after}
 use Rattle.script.specs.Words.{known_name}
-use Rattle.script.specs.Blocks.{at, or_empty, is_bad, program_code, block_after, header_of, program_after}
+use Rattle.script.specs.Blocks.{at, or_empty, is_bad, program_code, block_after}
 use Rattle.script.specs.Parts.{Parts, nothing, no_set, no_events}
 use Rattle.script.specs.Lines.{words_after, line_after}
-use Rattle.script.specs.Sections.{Section, Single, Block, line_count}
+use Rattle.script.specs.Sections.{Section, Single, line_count}
 use Rattle.script.specs.Reading.{section_after, sections_after}
 use Rattle.script.proofs.WrittenLines.{IsWritten, literal, line_is_plain}
 use Rattle.script.proofs.WrittenWords.{number_back}
 use Rattle.script.proofs.CodeLines.{IsCode}
 use Rattle.script.proofs.NamesRead.{is_known}
-use Rattle.script.proofs.LinesRead.{so_far, after, line_is, object_words, object_is, task_words, task_is, program_words, header_is, program_is}
+use Rattle.script.proofs.LinesRead.{after, line_is, object_words, object_is, task_words, task_is, program_words, header_is, program_is}
 use Rattle.script.proofs.ScriptLines.{number_line, object_line, task_line}
 use Rattle.script.proofs.ScriptSections.{IsWrittenProgram, IsWrittenSet, object_section, program_section, task_section, script_sections}
 
@@ -74,8 +71,8 @@ objects_read set last done (o ∷ todo) n rest e may each names words once few =
     let room : length done < 64 = let total : length set.objects ≡ length done + length (o ∷ todo) = ap length e ∙ length-append done (o ∷ todo) in omega arith in
     let q = after set (Some stages.Object) (done ++ o ∷ []) [] [] in
     let line : line_after n (after set (Some last) done [] []) (object_line o) ≡ Ok q =
-          line_is n (after set (Some last) done [] []) q (codes "object") (object_words o) (literal (codes "object") refl) words.0
-            (object_words_after set n last done o (map (λ o. o.name) todo) may each.0 names.0 distinct room) in
+    line_is n (after set (Some last) done [] []) q (codes "object") (object_words o) (literal (codes "object") refl) words.0
+    (object_words_after set n last done o (map (λ o. o.name) todo) may each.0 names.0 distinct room) in
     let one = single_taken n (after set (Some last) done [] []) q (object_line o) (map object_section todo ++ rest) line in
     let more = objects_read set stages.Object (done ++ o ∷ []) todo (n + 1) rest (e ∙ sym (append_assoc done (o ∷ []) todo)) refl each.1 names.1 words.1 once few in
     (more.0, one ∙ more.1)
@@ -117,7 +114,7 @@ programs_read set last done (p ∷ todo) n rest assemble e may each names writte
     let room : length done < 16 = let total : length set.programs ≡ length done + length (p ∷ todo) = ap length e ∙ length-append done (p ∷ todo) in omega arith in
     let q = after set (Some stages.Program) set.objects (done ++ p ∷ []) [] in
     let one = taken n (after set (Some last) set.objects done []) q (program_section p) (map program_section todo ++ rest)
-          (block_is set n last done p (map (λ p. p.name) todo) assemble may each.0 names.0 written.0 distinct room) in
+    (block_is set n last done p (map (λ p. p.name) todo) assemble may each.0 names.0 written.0 distinct room) in
     let more = programs_read set stages.Program (done ++ p ∷ []) todo (n + line_count (program_section p)) rest assemble (e ∙ sym (append_assoc done (p ∷ []) todo)) refl each.1 names.1 written.1 once few in
     (more.0, one ∙ more.1)
 
@@ -148,8 +145,8 @@ tasks_read set last done (t ∷ todo) n rest e may named each words few =
     let room : length done < set.records = let total : length set.tasks ≡ length done + length (t ∷ todo) = ap length e ∙ length-append done (t ∷ todo) in omega arith in
     let q = after set (Some stages.Task) set.objects set.programs (done ++ t ∷ []) in
     let line : line_after n (after set (Some last) set.objects set.programs done) (task_line set t) ≡ Ok q =
-          line_is n (after set (Some last) set.objects set.programs done) q (codes "task") (task_words set t) (literal (codes "task") refl) words.0
-            (task_words_after set n last done t may named each.0 room) in
+    line_is n (after set (Some last) set.objects set.programs done) q (codes "task") (task_words set t) (literal (codes "task") refl) words.0
+    (task_words_after set n last done t may named each.0 room) in
     let one = single_taken n (after set (Some last) set.objects set.programs done) q (task_line set t) (map (task_section set) todo ++ rest) line in
     let more = tasks_read set stages.Task (done ++ t ∷ []) todo (n + 1) rest (e ∙ sym (append_assoc done (t ∷ []) todo)) refl named each.1 words.1 few in
     (more.0, one ∙ more.1)
@@ -215,12 +212,13 @@ sections_read set h named written assemble =
     let programs = programs_read set stages.Object [] set.programs objects.0 (map (task_section set) set.tasks ++ last) assemble refl refl h.each_program named.programs.each written.programs named.programs.once h.programs.1 in
     let tasks = tasks_read set stages.Program [] set.tasks programs.0 last refl refl named h.each_task written.tasks h.tasks in
     let done = after set (Some (last_of stages.Program stages.Task set.tasks)) set.objects set.programs set.tasks in
-    let end = single_taken tasks.0 done (after set (Some stages.Run) set.objects set.programs set.tasks) (codes "run") [] (run_is tasks.0 done (last_of stages.Program stages.Task set.tasks) refl (run_follows set.tasks)) in
-    (tasks.0 + 1,
-     first_lines set (map object_section set.objects ++ (map program_section set.programs ++ (map (task_section set) set.tasks ++ last))) h written
-     ∙ objects.1
-     ∙ ap (λ (s : Stage). sections_after objects.0 (after set (Some s) set.objects [] []) (map program_section set.programs ++ (map (task_section set) set.tasks ++ last))) (last_some stages.Records stages.Object set.objects (let some = h.objects.0 in omega arith))
-     ∙ programs.1
-     ∙ ap (λ (s : Stage). sections_after programs.0 (after set (Some s) set.objects set.programs []) (map (task_section set) set.tasks ++ last)) (last_some stages.Object stages.Program set.programs (let some = h.programs.0 in omega arith))
-     ∙ tasks.1
-     ∙ end)
+    let end = single_taken tasks.0 done (after set (Some stages.Run) set.objects set.programs set.tasks) (codes "run") [] (run_is tasks.0 done (last_of stages.Program stages.Task set.tasks) refl (run_follows set.tasks)) in (
+      tasks.0 + 1,
+      first_lines set (map object_section set.objects ++ (map program_section set.programs ++ (map (task_section set) set.tasks ++ last))) h written
+          ∙ objects.1
+          ∙ ap (λ (s : Stage). sections_after objects.0 (after set (Some s) set.objects [] []) (map program_section set.programs ++ (map (task_section set) set.tasks ++ last))) (last_some stages.Records stages.Object set.objects (let some = h.objects.0 in omega arith))
+          ∙ programs.1
+          ∙ ap (λ (s : Stage). sections_after programs.0 (after set (Some s) set.objects set.programs []) (map (task_section set) set.tasks ++ last)) (last_some stages.Object stages.Program set.programs (let some = h.programs.0 in omega arith))
+          ∙ tasks.1
+          ∙ end,
+    )

@@ -1,5 +1,5 @@
 -- The text of each set is short enough to be read.
-use Rattle.std.proofs.Common.{◌≡◌, ℕ, zero, suc, ◌+◌, ◌*◌, ◌<◌, ◌≤◌, ◌^◌, List, [], ◌∷◌, ◌++◌, length, map, get_or, refl, sym, ap, ◌∙◌, arith, codes, length-append}
+use Rattle.std.proofs.Common.{◌≡◌, ℕ, ◌+◌, ◌*◌, ◌<◌, ◌≤◌, ◌^◌, List, [], ◌∷◌, ◌++◌, length, map, arith, codes, length-append}
 use Rattle.std.specs.List.{AllByRecursion, flat_map}
 use Rattle.std.specs.Fmt.{decimal}
 use Rattle.kernel_model.specs.Effects.{Spawn}
@@ -8,7 +8,7 @@ use Rattle.set_model.specs.Sets.{ObjectPart, ProgramPart, TaskSet, program_at}
 use Rattle.set_model.specs.Limits.{IsObject, IsProgram, IsTask, IsTaskSet}
 use Rattle.set_model.specs.Names.{IsName, IsNamed}
 use Rattle.script.specs.ScriptText.{field, number_text, object_text, code_text, program_text, task_text, script_text}
-use Rattle.script.proofs.CodeLines.{AreWithin, IsCode, word_code}
+use Rattle.script.proofs.CodeLines.{AreWithin, word_code}
 use Rattle.script.proofs.SetRead.{task_name}
 use Rattle.script.proofs.WrittenWords.{decimal_is}
 
@@ -67,8 +67,12 @@ task_few : (set : TaskSet) (t : Spawn) → IsNamed set → IsTask (length set.pr
 task_few set t named h =
     let words = (task_name set t named h).size.1 in
     let a = field_few t.arg h.arg in
-    omega (arith, six (codes "task ") (program_at set t.program).name (field (codes " ") t.arg) (codes "\n") [] [],
-        length-append (codes "task " ++ (program_at set t.program).name ++ field (codes " ") t.arg ++ codes "\n" ++ []) [], length-append (codes "task " ++ (program_at set t.program).name ++ field (codes " ") t.arg ++ codes "\n") [])
+    omega (
+      arith,
+      six (codes "task ") (program_at set t.program).name (field (codes " ") t.arg) (codes "\n") [] [],
+      length-append (codes "task " ++ (program_at set t.program).name ++ field (codes " ") t.arg ++ codes "\n" ++ []) [],
+      length-append (codes "task " ++ (program_at set t.program).name ++ field (codes " ") t.arg ++ codes "\n") [],
+    )
 
 tasks_few : (set : TaskSet) (tasks : List Spawn) → IsNamed set → AllByRecursion (IsTask (length set.programs)) tasks → AllByRecursion (λ t. length (task_text set t) ≤ 33) tasks
 tasks_few set [] named each = tt
@@ -95,5 +99,8 @@ text_is_short within set h named =
     let d = flat_few object_text 750 set.objects (objects_few set.objects h.each_object named.objects.each) in
     let e = flat_few program_text 31784 set.programs (programs_few within set.memory set.programs h.each_program named.programs.each) in
     let f = flat_few (task_text set) 33 set.tasks (tasks_few set set.tasks named h.each_task) in
-    omega (arith, eight (codes "nvk 1\n") (number_text (codes "cores ") set.cores) (number_text (codes "memory ") set.memory) (number_text (codes "records ") set.records)
-        (flat_map object_text set.objects) (flat_map program_text set.programs) (flat_map (task_text set) set.tasks) (codes "run\n"))
+    omega (
+      arith,
+      eight (codes "nvk 1\n") (number_text (codes "cores ") set.cores) (number_text (codes "memory ") set.memory) (number_text (codes "records ") set.records)
+          (flat_map object_text set.objects) (flat_map program_text set.programs) (flat_map (task_text set) set.tasks) (codes "run\n"),
+    )

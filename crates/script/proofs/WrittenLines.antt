@@ -1,8 +1,8 @@
 -- Lines that were written, word by word, are cut into the same lines and words.
-use Rattle.std.proofs.Common.{◌≡◌, ℕ, zero, suc, ◌+◌, ◌-◌, ◌<◌, ◌≤◌, ◌&&◌, Bool, true, false, not, List, [], ◌∷◌, ◌++◌, length, map, filter, get_or, refl, sym, ap, ◌∙◌, ltb, leb, eqb, arith, All, append_assoc, length-append, take}
+use Rattle.std.proofs.Common.{◌≡◌, ℕ, zero, suc, ◌-◌, ◌<◌, ◌&&◌, Bool, true, false, not, List, [], ◌∷◌, ◌++◌, length, filter, get_or, refl, ap, ◌∙◌, ltb, leb, eqb, arith, All, append_assoc, length-append}
 use Rattle.std.specs.List.{list_all, slice_split, before_first, flat_map, position_or_len, AllByRecursion}
 use Rattle.std.specs.Str.Lines.{lines, lines_of_parts, strip_carriage_return}
-use Rattle.std.proofs.lemmas.Bool.{ltb-true, lt-ltb, ne_eqb, le-ltb, lt-leb, le-leb, and_parts, and_from, eqb-false, not-true, not_from_false}
+use Rattle.std.proofs.lemmas.Bool.{ltb-true, lt-ltb, ne_eqb, le-leb, and_parts, and_from, not-true}
 use Rattle.std.proofs.lemmas.List.{take_all, append-nil}
 use Rattle.std.proofs.lemmas.List.Elements.{All-from_recursion}
 use Rattle.std.proofs.lemmas.List.Folds.{list_all-append}

@@ -1,21 +1,20 @@
 -- Numbers and names that were written as words are read back.
-use Rattle.std.proofs.Common.{◌≡◌, ℕ, zero, suc, ◌+◌, ◌-◌, ◌<◌, ◌≤◌, ◌^◌, ◌&&◌, ◌||◌, Bool, true, false, not, List, [], ◌∷◌, ◌++◌, length, map, Option, Some, Result, Ok, refl, sym, ap, ◌∙◌, ltb, leb, eqb, arith, inl, inr, get_or}
+use Rattle.std.proofs.Common.{◌≡◌, ℕ, ◌-◌, ◌<◌, ◌≤◌, ◌^◌, true, false, List, [], ◌∷◌, length, map, Some, Ok, refl, ltb, leb, eqb, arith, inl, inr}
 use Rattle.std.specs.List.{list_all, AllByRecursion}
 use Rattle.std.specs.Char.{digit_value}
 use Rattle.std.specs.Fmt.{decimal}
 use Rattle.std.specs.Str.Parse.{digits_value, AllDigits}
-use Rattle.std.proofs.lemmas.Bool.{ltb-true, lt-ltb, ne_eqb, le-ltb, le-leb, and_parts, and_from, cases_Bool}
+use Rattle.std.proofs.lemmas.Bool.{lt-ltb, ne_eqb, le-ltb, le-leb, and_parts, and_from, cases_Bool}
 use Rattle.std.proofs.lemmas.Bool.Decides.{nat_tests}
 use Rattle.std.proofs.lemmas.Fmt.{decimal_is_IsNumeral, length-decimal-le}
 use Rattle.std.proofs.lemmas.List.Sums.{list_all-from_AllPass}
 use Rattle.std.proofs.lemmas.Str.Parse.{digit_from_value}
-use Rattle.plain_text.specs.Numbers.{is_numeral, value_in}
+use Rattle.plain_text.specs.Numbers.{value_in}
 use Rattle.plain_text.specs.Names.{is_name}
 use Rattle.set_model.specs.Names.{IsName, is_name_byte}
-use Rattle.script.specs.declared.refusals.ScriptCause.{ScriptCause}
 use Rattle.script.specs.Results.{each}
 use Rattle.script.specs.Words.{number, value}
-use Rattle.script.proofs.WrittenLines.{is_word_byte, word_byte, word_byte_from, IsWritten}
+use Rattle.script.proofs.WrittenLines.{is_word_byte, word_byte_from, IsWritten}
 
 -- ---- decimal numbers
 
@@ -74,8 +73,8 @@ value_of_digits n (a ∷ b ∷ ds) small so =
     let not_low : ltb n 0 ≡ false = le-ltb _ _ (omega arith) in
     let not_high : ltb (2 ^ 32 - 1) n ≡ false = le-ltb _ _ (omega arith) in
     elim (cases_Bool (eqb a 48)) [
-    | inl t ↦ rw (no_minus, t, no_x, so.read, not_low, not_high) refl
-    | inr f ↦ rw (no_minus, f, so.read, not_low, not_high) refl
+      | inl t ↦ rw (no_minus, t, no_x, so.read, not_low, not_high) refl
+      | inr f ↦ rw (no_minus, f, so.read, not_low, not_high) refl
     ]
 
 pub value_back : (n : ℕ) → n < 2 ^ 32 → value (decimal n) ≡ Ok n

@@ -32,6 +32,7 @@ program_text p = codes "program " ++ p.name ++ field (codes " ") p.fuel ++ codes
 abbrev pub task_text : TaskSet → Spawn → List ℕ
 task_text set t = codes "task " ++ (program_at set t.program).name ++ field (codes " ") t.arg ++ codes "\n"
 
+-- the whole text
 unfoldable pub script_text : TaskSet → List ℕ
 script_text set =
     codes "nvk 1\n" ++ number_text (codes "cores ") set.cores ++ number_text (codes "memory ") set.memory ++ number_text (codes "records ") set.records ++

@@ -154,7 +154,8 @@ fn push_tasks(out: &mut String, set: &TaskSet) -> Result<(), AllocError>
 /// A set as a script: `nvk 1`, the lines `cores`, `memory` and `records`, one for each object with all its first
 /// values, each program with its code as assembler text, one line for each task, and `run`. Words have one space
 /// between them, numbers are decimal, and there are no lines of a schedule. `NoMemory` where no room for the text was
-/// found.
+/// found. By `script_text_is_read_back`, `read_script` of this text answers the set with an empty schedule, or that
+/// memory ran out.
 #[tactic(auto, unfolding(crate::specs::ScriptText::script_text))]
 pub fn script_text(alloc: Global, set: &TaskSet) -> Result<String, NoMemory>
     ensures { IfOk result (λ text. string_bytes text ≡ text_of_set set.now) }

@@ -1,4 +1,4 @@
-use Rattle.std.proofs.Common.{◌≡◌, ℕ, zero, suc, ◌<◌, List, [], ◌∷◌, length, map, get_or, arith, subst, sym}
+use Rattle.std.proofs.Common.{ℕ, zero, suc, ◌<◌, List, [], ◌∷◌, length, map, get_or, arith, subst, sym}
 use Rattle.std.specs.List.{AllByRecursion}
 use Rattle.nv_base.specs.declared.lines.Spawn.{Spawn}
 use Rattle.kernel_model.specs.Effects as model

@@ -1,4 +1,4 @@
-use Rattle.std.proofs.Common.{◌≡◌, ◌++◌, take, map, codes}
+use Rattle.std.proofs.Common.{◌≡◌, ◌++◌, take, codes}
 use Rattle.std.specs.List.{flat_map}
 use Rattle.std.specs.String.{string_bytes}
 use Rattle.script.specs.ScriptText.{field}
