@@ -47,6 +47,7 @@ fn smallest_runs_are_done(rt: HostRuntime) -> Result<(), Fail> {
     for steps in [
         "steps 0*40\n",
         "steps 0*20 0*20\n",
+        "steps 0*40\nmix 1 5\n",
         "steps 0*26\nmix 1 5\n",
         "power 41\nsteps 0*40\n",
     ] {
@@ -79,6 +80,18 @@ fn an_unfinished_task_stays_open(rt: HostRuntime) -> Result<(), Fail> {
     let expected =
         b"start core 0 task 1 at 0\nend clock 0 number 0 next 2 boots 0\nobject x 5\nopen 1 add 7\ndone\n";
     assert!(rt; puts(&rt, "run", text.as_str().as_bytes(), expected)?);
+    Ok(())
+}
+
+/// Three tasks over three objects: one writes a, one adds to the first word of b, and one puts all of them into c.
+const THREE: &[u8] =
+    b"nvk 1\ncores 1\nmemory 1024\nrecords 3\nobject a 1 2 1\nobject b 2 2 2 3\nobject c 1 2\nprogram set 100\nsw a0, 512(zero)\nli a0, 0\nli a1, 512\nli a7, 2\necall\nli a7, 4\necall\nend\nprogram grow 100\nmv s0, a0\nli a0, 1\nli a1, 512\nli a7, 1\necall\nlw t0, 512(zero)\nadd t0, t0, s0\nsw t0, 512(zero)\nli a7, 2\necall\nli a7, 4\necall\nend\nprogram sum 100\nli a0, 0\nli a1, 512\nli a7, 1\necall\nli a0, 1\nli a1, 516\necall\nlw t0, 512(zero)\nlw t1, 516(zero)\nadd t0, t0, t1\nlw t1, 520(zero)\nadd t0, t0, t1\nsw t0, 512(zero)\nli a0, 2\nli a1, 512\nli a7, 2\necall\nmv a0, t0\nli a7, 4\necall\nend\ntask set 10\ntask grow 5\ntask sum 0\nsteps 0*150\nrun\n";
+
+#[test]
+fn tasks_run_one_after_another(rt: HostRuntime) -> Result<(), Fail> {
+    let expected =
+        b"start core 0 task 1 at 0\nfinish 1 task 1 point 1 exit 0 first 4\nstart core 0 task 2 at 1\nfinish 2 task 2 point 2 exit 1 first 4\nstart core 0 task 3 at 2\nfinish 3 task 3 point 3 exit 20 first 4\nend clock 3 number 3 next 4 boots 0\nobject a 10\nobject b 7 3\nobject c 20\ndone\n";
+    assert!(rt; puts(&rt, "run", THREE, expected)?);
     Ok(())
 }
 
@@ -218,6 +231,19 @@ fn sets_are_packed_and_unpacked(rt: HostRuntime) -> Result<(), Fail> {
     if let Some((_, cut)) = packed.as_slice().split_last() {
         assert!(rt; refuses(&rt, "dis", cut, b"error packed 87\n")?);
     }
+    Ok(())
+}
+
+/// Four programs over two objects and two cores.
+const SET_S: &[u8] =
+    b"nvk 1\ncores 2\nmemory 1024\nrecords 4\nobject x 1 2 5\nobject y 1 2 8\nprogram cp 100\nsrli t1, a0, 4\nandi a0, a0, 15\nli a1, 512\nli a7, 1\necall\nmv a0, t1\nlw t0, 512(zero)\naddi t0, t0, 1\nsw t0, 512(zero)\nli a7, 2\necall\nli a7, 4\necall\nend\nprogram put 100\nsrli t0, a0, 4\nsw t0, 512(zero)\nandi a0, a0, 15\nli a1, 512\nli a7, 2\necall\nli a7, 4\necall\nend\nprogram sum 100\nli a0, 0\nli a1, 512\nli a7, 1\necall\nli a0, 1\nli a1, 516\necall\nlw a0, 512(zero)\nlw t0, 516(zero)\nadd a0, a0, t0\nli a7, 4\necall\nend\nprogram both 100\nsw a0, 512(zero)\nli a0, 0\nli a1, 512\nli a7, 2\necall\nli a0, 1\necall\nli a7, 4\necall\nend\nrun\n";
+
+#[test]
+fn a_set_of_four_programs_is_packed(rt: HostRuntime) -> Result<(), Fail> {
+    let (status, packed) = ends(&rt, &["pack"], SET_S, (&[], &[]))?;
+    assert!(rt; status == Status::Done);
+    // a head of 20, objects of 8 bytes each, programs of 13, 8, 12 and 9 words with their heads and names
+    assert_eq!(rt; packed.len(), 20 + 2 * 8 + 4 * 7 + 12 + 4 * 42);
     Ok(())
 }
 
