@@ -1,5 +1,5 @@
 -- Counts of core steps and on-times, as a loop adds them up.
-use Rattle.std.proofs.Common.{◌≡◌, ℕ, suc, zero, ◌+◌, ◌<◌, ◌≤◌, List, [], ◌∷◌, ◌++◌, length, get_or, take, map, replicate, refl, sym, ap, ◌∙◌, arith, add-one, append_assoc, ◌-◌, ◌^◌, min, sum_by, length-append}
+use Rattle.std.proofs.Common.{◌≡◌, ℕ, suc, zero, ◌+◌, ◌<◌, ◌≤◌, List, [], ◌∷◌, ◌++◌, length, get_or, take, map, replicate, refl, sym, ap, arith, add-one, append_assoc, ◌-◌, ◌^◌, min, sum_by, length-append}
 use Rattle.std.specs.List.{flat_map}
 use Rattle.std.proofs.lemmas.List.{take_all, append-nil, length-replicate}
 use Rattle.std.proofs.lemmas.List.Sums.{sum_by-cons}

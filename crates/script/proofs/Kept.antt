@@ -1,5 +1,5 @@
 -- What holds of the lines so far: each number that was given is in its limits.
-use Rattle.std.proofs.Common.{◌≡◌, ◌≢◌, ℕ, ◌+◌, ◌*◌, ◌%◌, ◌<◌, ◌≤◌, List, [], ◌∷◌, ◌++◌, length, map, Option, Some, None, Bool, true, refl, sym, ap, subst, length-append, arith}
+use Rattle.std.proofs.Common.{◌≡◌, ◌≢◌, ℕ, ◌*◌, ◌%◌, ◌<◌, ◌≤◌, List, [], ◌∷◌, ◌++◌, length, map, Option, Some, None, true, refl, sym, ap, subst, length-append, arith}
 use Rattle.std.specs.List.{AllByRecursion}
 use Rattle.kernel_model.specs.Effects.{Spawn}
 use Rattle.set_model.specs.Limits.{IsWithin}

@@ -1,5 +1,5 @@
 -- Each line and each block keeps the limits.
-use Rattle.std.proofs.Common.{◌≡◌, ℕ, zero, ◌+◌, ◌-◌, ◌*◌, ◌%◌, ◌^◌, ◌<◌, ◌≤◌, Bool, true, false, cond, not, ◌&&◌, List, [], ◌∷◌, ◌++◌, length, map, replicate, sum_by, Option, Some, None, Result, Ok, Err, ltb, leb, eqb, refl, sym, ap, subst, ◌∙◌, arith, length-append}
+use Rattle.std.proofs.Common.{◌≡◌, ℕ, ◌+◌, ◌-◌, ◌%◌, ◌^◌, ◌<◌, ◌≤◌, Bool, true, false, cond, not, ◌&&◌, List, [], ◌∷◌, ◌++◌, length, map, replicate, Option, Some, None, Result, Ok, Err, ltb, leb, eqb, refl, subst, arith, length-append}
 use Rattle.std.specs.List.{AllByRecursion, list_all, flat_map, before_first}
 use Rattle.std.proofs.lemmas.Bool.{ltb-false, ltb-true, leb-true, eqb-true, eqb-false}
 use Rattle.std.proofs.lemmas.List.{length-map}
@@ -7,7 +7,7 @@ use Rattle.plain_text.specs.Words.{is_plain, words_of}
 use Rattle.plain_text.specs.Numbers.{is_numeral}
 use Rattle.kernel_model.specs.Effects.{Spawn}
 use Rattle.set_model.specs.Limits.{IsWithin}
-use Rattle.set_model.specs.Sets.{ObjectPart, ProgramPart, TaskSet}
+use Rattle.set_model.specs.Sets.{ObjectPart, TaskSet}
 use Rattle.schedule_model.specs.Limits.{IsItem, steps_together}
 use Rattle.schedule_model.specs.Schedules.{StepItem, InOrder, Drawn}
 use Rattle.script.specs.declared.refusals.ScriptCause.{ScriptCause}

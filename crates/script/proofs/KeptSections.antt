@@ -1,5 +1,5 @@
 -- Each block and each section keeps the limits, and so does a whole script.
-use Rattle.std.proofs.Common.{◌≡◌, ℕ, ◌+◌, ◌*◌, ◌<◌, ◌≤◌, Bool, true, false, cond, not, is_some, List, [], ◌∷◌, ◌++◌, length, map, position, Option, Some, None, Result, Ok, Err, ltb, eqb, refl, ap, subst, arith}
+use Rattle.std.proofs.Common.{◌≡◌, ℕ, ◌+◌, ◌*◌, ◌≤◌, Bool, true, false, cond, not, is_some, List, [], ◌∷◌, length, map, position, Option, Some, None, Result, Ok, Err, ltb, eqb, refl, ap, subst, arith}
 use Rattle.std.proofs.lemmas.Bool.{ltb-false, eqb-false}
 use Rattle.plain_text.specs.Words.{is_plain, words_of}
 use Rattle.rv_asm.specs.Assembly.{assembled}

@@ -1,6 +1,5 @@
 -- The numbers of the causes. This project's own.
 use Rattle.std.specs.Prelude.{ℕ}
-use Rattle.rv_asm.specs.declared.cause.AsmCause.{AsmCause}
 use Rattle.script.specs.declared.refusals.ScriptCause.{ScriptCause}
 use Rattle.script.specs.declared.refusals.ScriptCause.TheVariants.{Long, Byte, Word, Count, Name, Twice, Unknown, Number, Range, Code, Many, End}
 

@@ -1,4 +1,4 @@
-use Rattle.std.proofs.Common.{◌≡◌, map}
+use Rattle.std.proofs.Common.{◌≡◌}
 use Rattle.plain_text.specs.Left.{words_left}
 use Rattle.script.specs.Results.{each}
 use Rattle.script.specs.ScheduleLines.{on_times}

@@ -1,4 +1,4 @@
-use Rattle.std.proofs.Common.{◌≡◌, ◌+◌, [], map, length, Some}
+use Rattle.std.proofs.Common.{◌≡◌, ◌+◌, map, length, Some}
 use Rattle.plain_text.specs.Left.{lines_left}
 use Rattle.script.specs.Sections.{sections_from}
 use Rattle.script.specs.Views.{open_of}

@@ -1,7 +1,5 @@
-use Rattle.std.proofs.Common.{◌≡◌, ◌+◌, ◌-◌, ◌^◌, ◌≤◌, [], ◌∷◌, min, map, length, arith}
+use Rattle.std.proofs.Common.{◌+◌, ◌≤◌, [], ◌∷◌, length, arith}
 use Rattle.power_trace.specs.declared.items.StepItem.TheVariants.{Mix}
-use Rattle.power_trace.specs.Items.{item_of}
-use Rattle.schedule_model.specs.Limits.{steps_together}
 use Rattle.script.proofs.Counts.{steps_counted}
 use Rattle.script.proofs.timeline.Timeline.take_mix.Goals as goal
 
