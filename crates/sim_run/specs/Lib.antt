@@ -4,3 +4,6 @@ pub mod Answers
 pub mod Promises
 pub mod Carried
 pub mod Runs
+-- Worked runs.
+pub mod Set
+pub mod Rows

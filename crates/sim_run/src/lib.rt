@@ -8,9 +8,13 @@ mod input;
 mod names;
 mod packing;
 mod read_back;
+pub mod rows;
 mod run;
 mod texts;
 
 pub use call::simulate;
 pub use command::{Command, WordsRefusal, words_of};
 pub use script::Status;
+
+#[cfg(test)]
+mod tests;
