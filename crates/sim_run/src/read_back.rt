@@ -17,8 +17,8 @@ use nv_base::{Line, ObjId, Sink, TaskRec, WriteFault, put_all};
 use report::LineBuf;
 use task_set::TaskSet;
 
-/// Puts the text of a line.
-pub(crate) fn put_line<K: Sink>(
+/// Puts the text of a line that has one.
+fn put_text<K: Sink>(
     out: &mut K,
     text: &mut LineBuf,
     set: &TaskSet,
@@ -32,6 +32,26 @@ pub(crate) fn put_line<K: Sink>(
 {
     text.put_line(set, line);
     put_all(out, text.bytes())
+}
+
+/// Puts the text of a line. Most turns print nothing, and cost no more than that look.
+#[tactic(auto, using(crate::proofs::Fronts::grown_nothing))]
+pub(crate) fn put_line<K: Sink>(
+    out: &mut K,
+    text: &mut LineBuf,
+    set: &TaskSet,
+    line: &Line,
+) -> Result<(), WriteFault>
+    requires { NamesObject set.now (line_of line.now) }
+    ensures all { OnOk result (K.taken out.new ≡ grown (K.taken out.old) (line_text set.now (line_of line.now))) }
+    ensures front { OnErr result (PutFront (K.taken out.old) (K.taken out.new) (line_text set.now (line_of line.now))) }
+    ensures fault { OnErr result (Rose (K.faults out.old) (K.faults out.new)) }
+    ensures never_falls { K.faults out.old ≤ K.faults out.new }
+{
+    if let Line::Nothing = line {
+        return Ok(());
+    }
+    put_text(out, text, set, line)
 }
 
 /// Puts the line of an object, with its words.
