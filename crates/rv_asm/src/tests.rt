@@ -125,7 +125,7 @@ const FAULTS: [(&str, u32, AsmCause); 71] = [
     ("nop ,", 1, AsmCause::Operand),
     ("nop t0", 1, AsmCause::Operand),
     ("ecall,", 1, AsmCause::Mnemonic),
-    ("add t0, t1, T2", 1, AsmCause::Operand),
+    ("add t0, t1, S1", 1, AsmCause::Operand),
     ("add t0, t1, x32", 1, AsmCause::Operand),
     ("add t0, t1, x02", 1, AsmCause::Operand),
     ("lw t0, 512 (zero)", 1, AsmCause::Operand),
