@@ -1,11 +1,10 @@
 -- What the services make of a running attempt.
-use Rattle.std.proofs.Common.{◌≡◌, ℕ, ◌<◌, ◌≤◌, Bool, true, false, cond, eqb, ◌||◌, List, [], ◌∷◌, ◌++◌, length, set, Some, None, Option, refl, sym, ap, ◌∙◌, arith}
-use Rattle.std.specs.Prelude.{is_some, unwrap_or}
+use Rattle.std.proofs.Common.{◌≡◌, ℕ, ◌<◌, ◌≤◌, Bool, true, false, cond, eqb, List, [], ◌∷◌, ◌++◌, length, set, Some, None, Option, refl, sym, ap, ◌∙◌, arith}
+use Rattle.std.specs.Prelude.{is_some}
 use Rattle.std.specs.List.{AllByRecursion}
 use Rattle.std.proofs.lemmas.Bool.{lt-ltb, le-ltb, eqb-true}
 use Rattle.std.proofs.lemmas.List.{length-map, map-append}
-use Rattle.object_sets.specs.ObjectSets.{IsIncreasing, is_among, with_object}
-use Rattle.object_sets.proofs.Insertion.{is_among-with_object}
+use Rattle.object_sets.specs.ObjectSets.{IsIncreasing, with_object}
 use Rattle.rv_core.specs.State.{MachineState, Calls}
 use Rattle.rv_core.specs.Machine.{words_at}
 use Rattle.rv_core.specs.declared.services.Service.{Service}
@@ -14,25 +13,20 @@ use Rattle.nv_base.specs.declared.causes.TrapCause.{TrapCause}
 use Rattle.nv_base.specs.declared.causes.TrapCause.TheVariants as cause
 use Rattle.nv_base.specs.declared.lines.Outcome.TheVariants as outcome
 use Rattle.nv_base.specs.declared.lines.Spawn as base_spawn
-use Rattle.nv_base.specs.declared.names.ObjId.{ObjId}
-use Rattle.kernel_model.specs.Effects.{Trap, Write, with_write, words_of, written}
-use Rattle.kernel_model.specs.Runs.{Ends, Reads, Spawns, Step, Writes, spawns_cause}
-use Rattle.kernel_model.specs.Replay.{Base, after_history, clock_of, tables_of}
-use Rattle.kernel_model.specs.Versions.{Read, chosen, read_words, versions}
-use Rattle.kernel_model.specs.Intervals.{Interval, is_empty}
-use Rattle.kernel_model.specs.Cores.{Attempt, Idle, Ready, Running}
-use Rattle.kernel_model.specs.Turns.{Turn, fetch_turn, open_read, quiet, read_of, read_turn, run_turn}
-use Rattle.kernel_model.specs.Turns as model
+use Rattle.kernel_model.specs.Effects.{Trap, Write, with_write}
+use Rattle.kernel_model.specs.Runs.{Ends, Spawns, Step, Writes, spawns_cause}
+use Rattle.kernel_model.specs.Versions.{Read}
+use Rattle.kernel_model.specs.Cores.{Attempt, Ready, Running}
+use Rattle.kernel_model.specs.Turns.{Turn, quiet, read_of, run_turn}
 use Rattle.set_model.specs.Sets.{object_at}
 use Rattle.set_model.specs.Formatted.{formatted}
 use Rattle.set_model.specs.Views.{spawn_of, trap_of}
-use Rattle.task_model.specs.TaskSteps.{given_index, given_words, past, refusal, served, task_steps, unless}
+use Rattle.task_model.specs.TaskSteps.{given_index, past, refusal, served, task_steps, unless}
 use Rattle.kernel_core.specs.Stands.{Hidden}
 use Rattle.kernel_core.specs.Arms.{Serves, attempt_left}
 use Rattle.kernel_core.specs.declared.kernel.Kernel.{Kernel}
 use Rattle.kernel_core.specs.declared.kernel.Phase.TheVariants as phase
-use Rattle.kernel_core.proofs.Tables.{not_written, words_written, written_more}
-use Rattle.kernel_core.proofs.Newest.{has_newest, interval_more, newest_read}
+use Rattle.kernel_core.proofs.Tables.{written_more}
 use Rattle.kernel_core.proofs.Turning.{leaves, running}
 
 -- the turn of a running attempt whose step comes to this
@@ -50,9 +44,6 @@ traps k asked c e = λ m h f. record {
   turns = ap (turned k m h) e;
 }
 
-pub traps_read : (k : Kernel) (o at : ℕ) (c : TrapCause) → Some c ≡ refusal k.set k.machine o at → Serves (running k) (service.Read o at) (record k { attempt = attempt_left k.attempt (outcome.Trap c); phase = phase.Ready (outcome.Trap c) })
-traps_read k o at c e = traps k (service.Read o at) c (ap (λ f. unless f (Reads k.machine o)) (sym e))
-
 pub traps_write : (k : Kernel) (o at : ℕ) (c : TrapCause) → Some c ≡ refusal k.set k.machine o at → Serves (running k) (service.Write o at) (record k { attempt = attempt_left k.attempt (outcome.Trap c); phase = phase.Ready (outcome.Trap c) })
 traps_write k o at c e =
     traps k (service.Write o at) c (ap (λ f. unless f (Writes (past k.machine) (record { object = o; words = words_at k.machine.memory at (object_at k.set o).size }))) (sym e))
@@ -63,28 +54,8 @@ traps_spawn k program arg l =
     traps k (service.Spawn program arg) cause.Program
     (ap (λ b. cond b (Spawns k.machine (record { program = program; arg = arg })) (Ends (trap_of cause.Program))) (le-ltb program (length k.set.programs) l))
 
--- the turn of a read, by what the attempt wrote and read of the object
-abbrev reading : Kernel → MachineState → Hidden → ℕ → Option (List ℕ) → Option Read → Turn MachineState
-reading k m h o own copy = read_turn (task_steps k.set) (formatted k.set) h.history 0 (record h.attempt { state = m }) k.machine o own copy
-
-read_turns : (k : Kernel) (m : MachineState) (h : Hidden) (o at : ℕ) (own : Option (List ℕ)) (copy : Option Read) → None ≡ refusal k.set k.machine o at → written h.attempt.writes o ≡ own → read_of o h.attempt.reads ≡ copy
-    → turned k m h (served k.set (Calls k.machine (service.Read o at))) ≡ reading k m h o own copy
-read_turns k m h o at own copy fine w r =
-    ap (λ f. turned k m h (unless f (Reads k.machine o))) (sym fine) ∙ ap (λ x. reading k m h o x (read_of o h.attempt.reads)) w ∙ ap (reading k m h o own) r
-
--- a read of the attempt's own last write
-pub reads_own : (k : Kernel) (o at : ℕ) → None ≡ refusal k.set k.machine o at → is_among o k.attempt.written ≡ true
-    → Serves (running k) (service.Read o at) (record k { machine = given_words k.machine (words_of k.attempt.words o); phase = phase.Running })
-unfolding Serves
-reads_own k o at fine e = λ m h f. record {
-  hidden = h;
-  history = refl;
-  fits = record { left = f.left; phase = f.phase };
-  turns = read_turns k m h o at (Some (words_of k.attempt.words o)) (read_of o h.attempt.reads) fine (words_written h.attempt.writes k.attempt.written k.attempt.words o f.phase.1.writes e) refl;
-}
-
 -- a read that is there is of its object, and is current
-found_read : (P : Read → Type 0) (o : ℕ) (reads : List Read) → AllByRecursion P reads → is_some (read_of o reads) ≡ true → (r : Read) × (read_of o reads ≡ Some r) × (r.object ≡ o) × P r
+pub found_read : (P : Read → Type 0) (o : ℕ) (reads : List Read) → AllByRecursion P reads → is_some (read_of o reads) ≡ true → (r : Read) × (read_of o reads ≡ Some r) × (r.object ≡ o) × P r
 found_read P o [] h e = absurd (cc e)
 found_read P o (r ∷ reads) h e = at (eqb r.object o) refl e (found_read P o reads h.1)
   where
@@ -93,71 +64,12 @@ found_read P o (r ∷ reads) h e = at (eqb r.object o) refl e (found_read P o re
     at true f g rest = (r, refl, eqb-true r.object o f, h.0)
     at false f g rest = rest g
 
-no_read : (o : ℕ) (reads : List Read) → is_some (read_of o reads) ≡ false → read_of o reads ≡ None
+pub no_read : (o : ℕ) (reads : List Read) → is_some (read_of o reads) ≡ false → read_of o reads ≡ None
 no_read o reads e = go (read_of o reads) refl e
   where
     go : (x : Option Read) → read_of o reads ≡ x → is_some (read_of o reads) ≡ false → read_of o reads ≡ None
     go None f g = f
     go (Some r) f g = absurd (let b : true ≡ false = ap is_some (sym f) ∙ g in cc b)
-
--- a read of an object that the attempt read before: its words are still those that are durable
-pub reads_copy : (k : Kernel) (o at : ℕ) → None ≡ refusal k.set k.machine o at → is_among o k.attempt.written ≡ false → is_among o k.attempt.reads ≡ true
-    → Serves (running k) (service.Read o at) (record k { machine = given_words k.machine (words_of k.state.objects o); phase = phase.Running })
-unfolding Serves
-reads_copy k o at fine e g = λ m h f.
-    let d = f.phase.1 in
-    let r = found_read (λ r. read_words (formatted k.set) h.history r ≡ words_of k.state.objects r.object) o h.attempt.reads d.current (sym (d.reads o) ∙ g) in
-    let words : read_words (formatted k.set) h.history r.0 ≡ words_of k.state.objects o = r.3 ∙ ap (words_of k.state.objects) r.2 in
-    record {
-      hidden = h;
-      history = refl;
-      fits = record { left = f.left; phase = f.phase };
-      turns =
-          read_turns k m h o at None (Some r.0) fine (not_written h.attempt.writes k.attempt.written k.attempt.words o d.writes e) r.1
-          ∙ ap (λ w. let a : Attempt MachineState = record h.attempt { state = given_words k.machine w } in quiet (Running a)) words;
-    }
-
--- an outside read
-pub reads_outside : (k : Kernel) (o : ObjId) (at : ℕ) → None ≡ refusal k.set k.machine o.0 at → o.0 < length k.set.objects → is_among o.0 k.attempt.written ≡ false → is_among o.0 k.attempt.reads ≡ false
-    → Serves (running k) (service.Read o.0 at) (record k { attempt = record k.attempt { reads = with_object o.0 k.attempt.reads }; phase = phase.Copying o at 0 })
-unfolding Serves
-reads_outside k o at fine inside e g = λ m h f.
-    let d = f.phase.1 in
-    let base : Base = formatted k.set in
-    let v = has_newest base h.history o.0 in
-    let r : Read = record { object = o.0; writer = v.0.writer } in
-    let clock : clock_of base h.history ≡ k.state.clock = ap (λ (b : Base). b.clock) f.left in
-    let objects : (after_history h.history (tables_of base)).objects ≡ k.state.objects = ap (λ (b : Base). b.objects) f.left in
-    let within_base : o.0 < length base.objects = let l : length base.objects ≡ length k.set.objects = length-map k.set.objects (λ p. p.first) in omega (arith, inside, l) in
-    let a : Attempt MachineState = record h.attempt { state = m } in
-    record {
-      hidden = record h { attempt = record h.attempt { reads = r ∷ h.attempt.reads } };
-      history = refl;
-      fits = record {
-        left = f.left;
-        phase = (
-          record { task_is = f.phase.0.task_is; interval = interval_more base h.history o.0 k.state.clock v.0 _ v.1 clock f.phase.0.interval },
-          record {
-            reads = λ p. is_among-with_object o.0 p k.attempt.reads ∙ one_more o.0 p k.attempt.reads h.attempt.reads v.0.writer (d.reads p);
-            current = (newest_read base h.history o.0 v.0 v.1 within_base k.state.objects objects, d.current);
-            writes = d.writes;
-            spawns = d.spawns;
-          },
-          record { read = r; older = h.attempt.reads; is = refl; object_is = refl },
-        );
-      };
-      turns =
-          read_turns k m h o.0 at None None fine (not_written h.attempt.writes k.attempt.written k.attempt.words o.0 d.writes e) (no_read o.0 h.attempt.reads (sym (d.reads o.0) ∙ g))
-          ∙ ap (λ (i : Interval). cond (is_empty i) (let t : Turn MachineState = record { core = Idle; line = model.Stale 0 a.task i.lo (unwrap_or i.hi 0) } in t) (open_read a k.machine o.0 (chosen i.hi (versions base o.0 h.history)))) f.phase.0.interval
-          ∙ ap (open_read a k.machine o.0) v.1;
-    }
-  where
-    one_more : (x p : ℕ) (xs : List ℕ) (reads : List Read) (writer : ℕ) → is_among p xs ≡ is_some (read_of p reads) → (eqb x p || is_among p xs) ≡ is_some (read_of p (record { object = x; writer = writer } ∷ reads))
-    one_more x p xs reads writer e = either (eqb x p)
-      where
-        either : (b : Bool) → (b || is_among p xs) ≡ is_some (cond b (Some (record { object = x; writer = writer })) (read_of p reads))
-        either true = refl
-        either false = e
 
 -- a write
 pub writes_words : (k : Kernel) (o : ℕ) (at : ℕ) → None ≡ refusal k.set k.machine o at → o < length k.attempt.words → IsIncreasing k.attempt.written

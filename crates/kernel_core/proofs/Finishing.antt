@@ -93,7 +93,7 @@ entry_is k h o f =
 
 -- the turn of a ready attempt, by the verdict, and by whether records are enough
 abbrev judged : Kernel → Hidden → Outcome → Verdict → State MachineState × model.Line
-judged k h o v = after_turn (state_in (ready k o) h) 0 (verdict_turn (sizes_of k.set) 0 h.attempt.task v)
+judged k h o v = after_turn (state_in (ready k o) h) 0 (verdict_turn (sizes_of k.set) (formatted k.set) h.history 0 h.attempt.task v)
 
 abbrev recorded : Kernel → Hidden → Outcome → Bool → State MachineState × model.Line
 recorded k h o b = judged k h o (cond b (Granted (finish_in k h o)) (Records (length (open_tasks (formatted k.set) h.history)) (length (run_of h.attempt (outcome_of o)).spawns)))
@@ -121,7 +121,7 @@ grants k o left ok below enough w = λ h f.
     let i : Item = finish_in k h o in
     let ws : List Write = i.run.writes in
     let sum : sum_by (λ v. (object_at k.set v.object).size) ws ≡ sum_by (λ x. (object_at k.set x).size) k.attempt.written = sum_by-objects (λ x. (object_at k.set x).size) ws ∙ ap (sum_by (λ x. (object_at k.set x).size)) f.phase.1.writes.objects_are in
-    let writes : commit_writes (sizes_of k.set) ws ≡ suc left = omega (arith, sum, w) in
+    let writes : commit_writes (sizes_of k.set) (formatted k.set) h.history i ≡ suc left = omega (arith, sum, w) in
     record {
       hidden = record h { item = i };
       fits = record { left = f.left; phase = (entry_is k h o f, f.phase.1) };

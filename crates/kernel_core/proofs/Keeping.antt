@@ -3,7 +3,7 @@ use Rattle.std.proofs.Common.{◌≡◌, ℕ, zero, suc, Bool, true, false, cond
 use Rattle.std.specs.List.{AllByRecursion}
 use Rattle.std.proofs.lemmas.Bool.{eqb-true}
 use Rattle.std.proofs.lemmas.List.{length-map}
-use Rattle.object_sets.specs.ObjectSets.{AreBelow, IsIncreasing, with_object}
+use Rattle.object_sets.specs.ObjectSets.{AreBelow, IsIncreasing, is_among, with_object}
 use Rattle.object_sets.proofs.Insertion.{with_object-all}
 use Rattle.rv_core.specs.State.{MachineState}
 use Rattle.rv_core.specs.Machine.{first_state, words_at}
@@ -12,6 +12,7 @@ use Rattle.nv_base.specs.declared.lines.Outcome.{Outcome}
 use Rattle.nv_base.specs.declared.lines.Outcome.TheVariants as outcome
 use Rattle.nv_base.specs.declared.lines.TaskRec as base_task
 use Rattle.nv_base.specs.declared.names.TaskId.{TaskId}
+use Rattle.kernel_model.proofs.RunFacts.{with_object-increasing}
 use Rattle.kernel_model.specs.Effects.{Objects, Spawn, Write, put, words_of, written}
 use Rattle.kernel_model.specs.Replay.{Base, TaskRec}
 use Rattle.kernel_model.specs.OpenTasks.{children, others_than}
@@ -27,18 +28,21 @@ use Rattle.task_model.proofs.MachineFacts.{length-words_at}
 use Rattle.task_model.proofs.Shapes.{shape-set}
 use Rattle.task_model.proofs.WriteFacts.{length-put_from, seen}
 use Rattle.kernel_core.specs.Shapes.{AreWritten, behind, state_after}
+use Rattle.kernel_core.specs.Wants.{Awaits, received, rewritten_wanted, seen_in, with_rewritten}
 use Rattle.kernel_core.specs.Kept.{IsGranted, IsGrantedUntil, IsHeld, IsKept, IsKeptIn}
 use Rattle.kernel_core.specs.Arms.{attempt_left, entry_in, point_in}
 use Rattle.kernel_core.specs.declared.attempt.Attempt as own
 use Rattle.kernel_core.specs.declared.kernel.Kernel.{Kernel}
 use Rattle.kernel_core.specs.declared.kernel.Phase.{Phase}
 use Rattle.kernel_core.specs.declared.kernel.Phase.TheVariants as phase
+use Rattle.kernel_core.specs.declared.part.Want.{Want}
 use Rattle.kernel_core.proofs.Tables.{first_at, none_written}
+use Rattle.kernel_core.proofs.Wanting.{new_size}
 use Rattle.kernel_core.proofs.Tasks.{all-append, all-children, all-filter, all-spawns, length-children, length-others}
 
 -- each object has room for two versions, and a commit and a boot end by a write
 pub sizes_fit : (set : TaskSet) → IsTaskSet set → IsSizes (sizes_of set)
-sizes_fit set h = record { slots = λ o l. (all_at IsObject set.objects _ o h.each_object l).slots.0; index_writes = omega arith; boot_turns = omega arith }
+sizes_fit set h = record { slots = λ o l. (all_at IsObject set.objects _ o h.each_object l).slots.0; index_writes = λ before after writes. omega arith; boot_turns = omega arith }
 
 -- with another attempt, whose phase has what it needs
 pub changed : (k : Kernel) (m : MachineState) (a : own.Attempt) (t : TaskId) (p : Phase) → IsKept k → length m.memory ≡ k.set.memory → HasShape k.set a.words → AreBelow (length k.set.objects) a.written → IsIncreasing a.written
@@ -106,6 +110,32 @@ wrote k m o at words written h e room inside w x increasing =
     (subst (HasShape k.set) (sym w) (shape-set k.set k.attempt.words o _ h.words (length-words_at k.machine.memory at _ ∙ h.words.sizes o there)))
     (subst (AreBelow (length k.set.objects)) (sym x) (with_object-all (λ p. p < length k.set.objects) o k.attempt.written inside h.written))
     increasing h.children h.spawns (held_running k h e))
+
+-- it has the words of an object, and may write new ones
+rewritten_kept : (k : Kernel) (m : MachineState) (o : ℕ) (new : Option (List ℕ)) → IsKept k → IsHeld k.state.tasks k.task.0 → length m.memory ≡ length k.machine.memory → o < length k.set.objects → ((words : List ℕ) → new ≡ Some words → length words ≡ (object_at k.set o).size)
+    → IsKept (record k { machine = m; attempt = with_rewritten k.attempt o new; phase = phase.Running })
+rewritten_kept k m o None h held room inside size = changed k m k.attempt k.task phase.Running h (room ∙ h.memory) h.words h.written h.increasing h.children h.spawns held
+rewritten_kept k m o (Some words) h held room inside size =
+    changed k m (record k.attempt { written = with_object o k.attempt.written; words = set k.attempt.words o words }) k.task phase.Running h (room ∙ h.memory) (shape-set k.set k.attempt.words o words h.words (size words refl))
+    (with_object-all (λ p. p < length k.set.objects) o k.attempt.written inside h.written) (with_object-increasing o k.attempt.written h.increasing) h.children h.spawns held
+
+-- the words that an attempt sees of an object are as many as its size
+seen_size : (k : Kernel) (o : ℕ) → IsKept k → o < length k.set.objects → length (seen_in k.attempt k.state.objects o) ≡ (object_at k.set o).size
+seen_size k o h l =
+    elim (is_among o k.attempt.written) as (λ b. length (cond b (words_of k.attempt.words o) (words_of k.state.objects o)) ≡ (object_at k.set o).size)
+    [ true ↦ h.words.sizes o (omega (arith, l, h.words.number)) | false ↦ h.objects.sizes o (omega (arith, l, h.objects.number)) ]
+
+-- a service has what it wants of them
+pub received_kept : (k n : Kernel) (o : ℕ) (w : Want) → IsKept k → IsHeld k.state.tasks k.task.0 → o < length k.set.objects → Awaits k.machine (object_at k.set o).size w → n ≡ received k o w → length n.machine.memory ≡ length k.machine.memory
+    → IsKept (record n { phase = phase.Running })
+received_kept k n o w h held l a same room =
+    let words : List ℕ = seen_in k.attempt k.state.objects o in
+    subst (λ (x : Kernel). length x.machine.memory ≡ length k.machine.memory → IsKept (record x { phase = phase.Running })) (sym same)
+    (λ r. rewritten_kept k (received k o w).machine o (rewritten_wanted w k.machine.memory words) h held r l (new_size w k.machine.memory words (object_at k.set o).size a.inside (seen_size k o h l))) room
+
+pub received_running : (k n : Kernel) (o : ℕ) (w : Want) → IsKept k → k.phase ≡ phase.Running → o < length k.set.objects → Awaits k.machine (object_at k.set o).size w → n ≡ received k o w → length n.machine.memory ≡ length k.machine.memory → IsKept n
+received_running k n o w h p l a same room =
+    subst (λ q. IsKept (record n { phase = q })) (sym (ap (λ (x : Kernel). x.phase) same ∙ p)) (received_kept k n o w h (held_running k h p) l a same room)
 
 -- a finish is granted
 pub granted : (k : Kernel) (o : Outcome) (e : Entry) (left : ℕ) → IsKept k → k.phase ≡ phase.Ready o → e ≡ entry_in k o → length k.state.tasks - 1 + length k.attempt.spawns ≤ k.set.records → IsKept (record k { phase = phase.Committing e left })

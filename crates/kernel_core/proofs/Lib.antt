@@ -2,8 +2,10 @@ pub mod Tables
 pub mod Counts
 pub mod Tasks
 pub mod Newest
-pub mod Attempts
+pub mod Wanting
 pub mod Turning
+pub mod Attempts
+pub mod Waiting
 pub mod Finishing
 pub mod Keeping
 pub mod Placing

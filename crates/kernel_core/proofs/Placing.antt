@@ -1,5 +1,5 @@
 -- The turns of a kernel that is known by equations.
-use Rattle.std.proofs.Common.{◌≡◌, ℕ, suc, ◌+◌, ◌-◌, ◌<◌, ◌≤◌, true, false, List, [], ◌∷◌, ◌++◌, length, map, set, Some, None, refl, sym, ap, subst, ◌∙◌, arith}
+use Rattle.std.proofs.Common.{◌≡◌, ℕ, suc, ◌+◌, ◌-◌, ◌<◌, ◌≤◌, Bool, true, false, cond, List, [], ◌∷◌, ◌++◌, length, map, set, Some, None, refl, sym, ap, subst, ◌∙◌, arith}
 use Rattle.std.specs.Prelude.{sum_by}
 use Rattle.object_sets.specs.ObjectSets.{IsIncreasing, is_among, with_object}
 use Rattle.rv_core.specs.State.{MachineState, Next, Calls, Traps}
@@ -16,17 +16,22 @@ use Rattle.nv_base.specs.declared.lines.Spawn as base_spawn
 use Rattle.nv_base.specs.declared.lines.TaskRec as base_task
 use Rattle.nv_base.specs.declared.names.ObjId.{ObjId}
 use Rattle.kernel_model.specs.Effects.{Objects, Write, words_of}
+use Rattle.kernel_model.specs.Runs.{Reads}
 use Rattle.kernel_model.specs.Replay.{Base}
 use Rattle.set_model.specs.Sets.{object_at, program_at}
 use Rattle.set_model.specs.Numbers.{index_words}
 use Rattle.set_model.specs.Views.{spawn_of, task_of}
-use Rattle.task_model.specs.TaskSteps.{given_index, given_words, past, refusal}
+use Rattle.task_model.specs.TaskSteps.{given_index, part_refusal, past, refusal, unless}
 use Rattle.kernel_core.specs.Shapes.{AreWritten, behind, state_after}
-use Rattle.kernel_core.specs.Kept.{IsKept, IsKeptIn}
+use Rattle.kernel_core.specs.Wants.{Awaits, received, received_with}
+use Rattle.kernel_core.specs.Kept.{IsKept, IsKeptIn, IsWaiting}
 use Rattle.kernel_core.specs.Arms.{Serves, Turns, attempt_left, entry_in}
 use Rattle.kernel_core.specs.declared.kernel.Kernel.{Kernel}
 use Rattle.kernel_core.specs.declared.kernel.Phase.TheVariants as phase
+use Rattle.kernel_core.specs.declared.part.Want.{Want}
 use Rattle.kernel_core.proofs.Attempts as attempts
+use Rattle.kernel_core.proofs.Waiting as waiting
+use Rattle.kernel_core.proofs.Waiting.{WaitsFor}
 use Rattle.kernel_core.proofs.Finishing as finishing
 use Rattle.kernel_core.proofs.Keeping.{sizes_fit}
 use Rattle.kernel_core.proofs.Turning as turning
@@ -69,7 +74,7 @@ placed k n j asked p e h = subst (λ x. Serves k asked x) (sym e) (subst (λ q. 
 
 pub traps_read : (k n : Kernel) (o at : ℕ) (c : TrapCause) → k.phase ≡ phase.Running → Some c ≡ refusal k.set k.machine o at → n ≡ record k { attempt = attempt_left k.attempt (outcome.Trap c); phase = phase.Ready (outcome.Trap c) }
     → Serves k (service.Read o at) n
-traps_read k n o at c p e same = placed k n _ _ p same (attempts.traps_read k o at c e)
+traps_read k n o at c p e same = placed k n _ _ p same (attempts.traps k (service.Read o at) c (ap (λ f. unless f (Reads k.machine o)) (sym e)))
 
 pub traps_write : (k n : Kernel) (o at : ℕ) (c : TrapCause) → k.phase ≡ phase.Running → Some c ≡ refusal k.set k.machine o at → n ≡ record k { attempt = attempt_left k.attempt (outcome.Trap c); phase = phase.Ready (outcome.Trap c) }
     → Serves k (service.Write o at) n
@@ -96,26 +101,49 @@ spawns_task k m s spawns p l few e f =
 of_object : (k n : Kernel) (asked : ℕ → Service) (o object : ℕ) → o ≡ object → Serves k (asked o) n → Serves k (asked object) n
 of_object k n asked o object e h = subst (λ x. Serves k (asked x) n) e h
 
-goes_on : (k : Kernel) (asked : Service) (m w : MachineState) → k.phase ≡ phase.Running → m ≡ w → Serves (running k) asked (record k { machine = w; phase = phase.Running }) → Serves k asked (record k { machine = m })
-goes_on k asked m w p e h =
-    subst (λ q. Serves (record k { phase = q }) asked (record k { machine = m; phase = q })) (sym p) (subst (λ x. Serves (running k) asked (record k { machine = x; phase = phase.Running })) (sym e) h)
+-- the part that a call asks for is refused
+pub traps_read_part : (k n : Kernel) (o at first count : ℕ) (c : TrapCause) → k.phase ≡ phase.Running → Some c ≡ part_refusal k.set k.machine o at first count → n ≡ record k { attempt = attempt_left k.attempt (outcome.Trap c); phase = phase.Ready (outcome.Trap c) }
+    → Serves k (service.ReadPart o at first count) n
+traps_read_part k n o at first count c p e same = placed k n _ _ p same (attempts.traps k (service.ReadPart o at first count) c (ap (λ f. unless f (Reads k.machine o)) (sym e)))
 
-pub reads_own : (k : Kernel) (m : MachineState) (o object at : ℕ) → k.phase ≡ phase.Running → o ≡ object → None ≡ refusal k.set k.machine object at → true ≡ is_among o k.attempt.written → m ≡ given_words k.machine (words_of k.attempt.words o)
-    → Serves k (service.Read object at) (record k { machine = m })
-reads_own k m o object at p e fine among is =
-    of_object k _ (λ x. service.Read x at) o object e (goes_on k _ m _ p is (attempts.reads_own k o at (fine ∙ ap (λ x. refusal k.set k.machine x at) (sym e)) (sym among)))
+pub traps_write_part : (k n : Kernel) (o at first count : ℕ) (c : TrapCause) → k.phase ≡ phase.Running → Some c ≡ part_refusal k.set k.machine o at first count → n ≡ record k { attempt = attempt_left k.attempt (outcome.Trap c); phase = phase.Ready (outcome.Trap c) }
+    → Serves k (service.WritePart o at first count) n
+traps_write_part k n o at first count c p e same = placed k n _ _ p same (attempts.traps k (service.WritePart o at first count) c (ap (λ f. unless f (Reads k.machine o)) (sym e)))
 
-pub reads_copy : (k : Kernel) (m : MachineState) (o object at : ℕ) → k.phase ≡ phase.Running → o ≡ object → None ≡ refusal k.set k.machine object at → false ≡ is_among o k.attempt.written → true ≡ is_among o k.attempt.reads → m ≡ given_words k.machine (words_of k.state.objects o)
-    → Serves k (service.Read object at) (record k { machine = m })
-reads_copy k m o object at p e fine none among is =
-    of_object k _ (λ x. service.Read x at) o object e (goes_on k _ m _ p is (attempts.reads_copy k o at (fine ∙ ap (λ x. refusal k.set k.machine x at) (sym e)) (sym none) (sym among)))
+-- where no test fails, the call waits for the object's words. Its number is that of the object that was tested
+pub read_waits : (k : Kernel) (o x at : ℕ) → x ≡ o → None ≡ refusal k.set k.machine o at → WaitsFor k (service.Read o at) x
+read_waits k o x at e fine = ap (λ f. unless f (Reads k.machine o)) (sym fine) ∙ ap (Reads k.machine) (sym e)
 
-pub reads_outside : (k : Kernel) (o : ObjId) (object at : ℕ) (reads : List ℕ) → k.phase ≡ phase.Running → o.0 ≡ object → object < length k.set.objects → None ≡ refusal k.set k.machine object at → false ≡ is_among o.0 k.attempt.written → false ≡ is_among o.0 k.attempt.reads
-    → reads ≡ with_object o.0 k.attempt.reads → Serves k (service.Read object at) (record k { attempt = record k.attempt { reads = reads }; phase = phase.Copying o at 0 })
-reads_outside k o object at reads p e inside fine none absent is =
-    of_object k _ (λ x. service.Read x at) o.0 object e
-    (placed k _ _ _ p (ap (λ x. record k { attempt = record k.attempt { reads = x }; phase = phase.Copying o at 0 }) is)
-    (attempts.reads_outside k o at (fine ∙ ap (λ x. refusal k.set k.machine x at) (sym e)) (omega (arith, e, inside)) (sym none) (sym absent)))
+pub read_part_waits : (k : Kernel) (o x at first count : ℕ) → x ≡ o → None ≡ part_refusal k.set k.machine o at first count → WaitsFor k (service.ReadPart o at first count) x
+read_part_waits k o x at first count e fine = ap (λ f. unless f (Reads k.machine o)) (sym fine) ∙ ap (Reads k.machine) (sym e)
+
+pub write_part_waits : (k : Kernel) (o x at first count : ℕ) → x ≡ o → None ≡ part_refusal k.set k.machine o at first count → WaitsFor k (service.WritePart o at first count) x
+write_part_waits k o x at first count e fine = ap (λ f. unless f (Reads k.machine o)) (sym fine) ∙ ap (Reads k.machine) (sym e)
+
+-- the kernel behind a service that has the words that the attempt sees
+seen_so : (k n : Kernel) (o : ℕ) (w : Want) (b : Bool) → b ≡ is_among o k.attempt.written → n ≡ received k o w → n ≡ received_with k o w (cond b (words_of k.attempt.words o) (words_of k.state.objects o))
+seen_so k n o w b e same = same ∙ ap (λ x. received_with k o w (cond x (words_of k.attempt.words o) (words_of k.state.objects o))) (sym e)
+
+runs_so : (k : Kernel) (o : ℕ) (w : Want) (words : List ℕ) → k.phase ≡ phase.Running → received_with k o w words ≡ record (received_with k o w words) { phase = phase.Running }
+runs_so k o w words p = ap (λ q. record (received_with k o w words) { phase = q }) p
+
+pub has_own : (k n : Kernel) (o : ℕ) (w : Want) (asked : Service) → k.phase ≡ phase.Running → IsKept k → o < length k.set.objects → Awaits k.machine (object_at k.set o).size w → WaitsFor k asked o → true ≡ is_among o k.attempt.written
+    → n ≡ received k o w → Serves k asked n
+has_own k n o w asked p h l a to among same =
+    let there : o < length k.attempt.words = omega (arith, l, h.words.number) in
+    placed k n _ asked p (seen_so k n o w true among same ∙ runs_so k o w (words_of k.attempt.words o) p)
+    (waiting.receives_own k o w asked to h.increasing there (subst (λ size. Awaits k.machine size w) (sym (h.words.sizes o there)) a) (sym among))
+
+pub has_copy : (k n : Kernel) (o : ℕ) (w : Want) (asked : Service) → k.phase ≡ phase.Running → IsKept k → o < length k.set.objects → Awaits k.machine (object_at k.set o).size w → WaitsFor k asked o → false ≡ is_among o k.attempt.written → true ≡ is_among o k.attempt.reads
+    → n ≡ received k o w → Serves k asked n
+has_copy k n o w asked p h l a to none among same =
+    placed k n _ asked p (seen_so k n o w false none same ∙ runs_so k o w (words_of k.state.objects o) p)
+    (waiting.receives_copy k o w asked to h.increasing (omega (arith, l, h.words.number)) (subst (λ size. Awaits k.machine size w) (sym (h.objects.sizes o (omega (arith, l, h.objects.number)))) a) (sym none) (sym among))
+
+pub has_none : (k : Kernel) (o : ObjId) (w : Want) (asked : Service) (reads : List ℕ) → k.phase ≡ phase.Running → o.0 < length k.set.objects → WaitsFor k asked o.0 → false ≡ is_among o.0 k.attempt.written → false ≡ is_among o.0 k.attempt.reads
+    → reads ≡ with_object o.0 k.attempt.reads → Serves k asked (record k { attempt = record k.attempt { reads = reads }; phase = phase.Copying o w 0 })
+has_none k o w asked reads p l to none absent is =
+    placed k _ _ asked p (ap (λ x. record k { attempt = record k.attempt { reads = x }; phase = phase.Copying o w 0 }) is) (waiting.reads_outside k o w asked to l (sym none) (sym absent))
 
 pub writes_words : (k : Kernel) (m : MachineState) (o object at : ℕ) (words : Objects) (written : List ℕ) → k.phase ≡ phase.Running → o ≡ object → None ≡ refusal k.set k.machine object at → o < length k.attempt.words → IsIncreasing k.attempt.written
     → length (words_of k.attempt.words o) ≡ (object_at k.set o).size
@@ -129,13 +157,15 @@ writes_words k m o object at words written p e fine inside increasing size w x i
     (subst (λ y. Serves (running k) (service.Write o at) (record k { machine = past k.machine; attempt = record k.attempt { words = set k.attempt.words o (words_at k.machine.memory at (object_at k.set o).size); written = y }; phase = phase.Running })) (sym x)
     (attempts.writes_words k o at (fine ∙ ap (λ y. refusal k.set k.machine y at) (sym e)) inside increasing)))))
 
-pub copies_more : (k : Kernel) (o : ObjId) (at copied : ℕ) → k.phase ≡ phase.Copying o at copied → copied + 1 < (object_at k.set o.0).size → Turns k (record k { phase = phase.Copying o at (copied + 1) }) line.Nothing
-copies_more k o at copied p l = at_phase k _ (phase.Copying o at copied) _ p (turning.copies_more k o at copied l)
+pub copies_more : (k : Kernel) (o : ObjId) (w : Want) (copied : ℕ) → k.phase ≡ phase.Copying o w copied → copied + 1 < (object_at k.set o.0).size → Turns k (record k { phase = phase.Copying o w (copied + 1) }) line.Nothing
+copies_more k o w copied p l = at_phase k _ (phase.Copying o w copied) _ p (turning.copies_more k o w copied l)
 
-pub copies_last : (k : Kernel) (m : MachineState) (o : ObjId) (at copied : ℕ) → k.phase ≡ phase.Copying o at copied → (object_at k.set o.0).size ≤ copied + 1 → m ≡ given_words k.machine (words_of k.state.objects o.0)
-    → Turns k (record k { machine = m; phase = phase.Running }) line.Nothing
-copies_last k m o at copied p l is =
-    at_phase k _ (phase.Copying o at copied) _ p (to_kernel _ _ _ _ (ap (λ x. record k { machine = x; phase = phase.Running }) is) (turning.copies_last k o at copied l))
+pub copies_last : (k n : Kernel) (o : ObjId) (w : Want) (copied : ℕ) → k.phase ≡ phase.Copying o w copied → IsKept k → (object_at k.set o.0).size ≤ copied + 1 → n ≡ received k o.0 w → Turns k (record n { phase = phase.Running }) line.Nothing
+copies_last k n o w copied p h l same =
+    let there : IsWaiting k.set k.machine k.attempt.written o.0 w copied = (subst (IsKeptIn k) p h.phase).1 in
+    at_phase k _ (phase.Copying o w copied) _ p
+    (to_kernel _ _ _ _ (ap (λ (x : Kernel). record x { phase = phase.Running }) (seen_so k n o.0 w false (sym there.unwritten) same))
+    (turning.copies_last k o w copied l h.increasing (omega (arith, there.inside, h.words.number)) (subst (λ size. Awaits k.machine size w) (sym (h.objects.sizes o.0 (omega (arith, there.inside, h.objects.number)))) there.awaits)))
 
 pub grants_at : (k : Kernel) (o : Outcome) (e : Entry) (left : ℕ) → IsKept k → k.phase ≡ phase.Ready o → length k.state.tasks - 1 + length k.attempt.spawns ≤ k.set.records → e ≡ entry_in k o
     → left ≡ sum_by (λ x. (object_at k.set x).size) k.attempt.written + index_words k.set + 1 → Turns k (record k { phase = phase.Committing e left }) line.Nothing

@@ -1,7 +1,8 @@
 -- What one turn of the kernel is in the event machine, while no finish commits.
-use Rattle.std.proofs.Common.{◌≡◌, ℕ, zero, suc, ◌+◌, ◌<◌, ◌≤◌, Bool, true, false, cond, ltb, List, [], ◌∷◌, Some, None, refl, sym, ap, subst, ◌∙◌}
+use Rattle.std.proofs.Common.{◌≡◌, ℕ, zero, suc, ◌+◌, ◌<◌, ◌≤◌, Bool, true, false, cond, ltb, List, [], ◌∷◌, length, Option, Some, None, refl, sym, ap, ap₂, subst, ◌∙◌}
 use Rattle.std.specs.List.{AllByRecursion}
 use Rattle.std.proofs.lemmas.Bool.{lt-ltb, le-ltb}
+use Rattle.object_sets.specs.ObjectSets.{IsIncreasing}
 use Rattle.rv_core.specs.State.{MachineState, StepResult, Next as Goes, Calls}
 use Rattle.rv_core.specs.Machine.{step_of, first_state}
 use Rattle.rv_core.specs.declared.services.Service.{Service}
@@ -15,7 +16,7 @@ use Rattle.kernel_model.specs.Runs.{Ends}
 use Rattle.kernel_model.specs.Replay.{TaskRec, Base, clock_of}
 use Rattle.kernel_model.specs.Versions.{Read, read_words}
 use Rattle.kernel_model.specs.Intervals.{Interval}
-use Rattle.kernel_model.specs.Effects.{Exit, words_of}
+use Rattle.kernel_model.specs.Effects.{Exit, also_written, words_of}
 use Rattle.kernel_model.specs.Cores.{Attempt, Copying, Core, Running, next_task, run_of}
 use Rattle.kernel_model.specs.Turns.{Turn, copy_turn, run_turn, start_turn}
 use Rattle.kernel_model.specs.Turns as model
@@ -25,7 +26,7 @@ use Rattle.set_model.specs.Sets.{TaskSet, object_at, program_at}
 use Rattle.set_model.specs.Numbers.{sizes_of}
 use Rattle.set_model.specs.Formatted.{formatted}
 use Rattle.set_model.specs.Views.{entry_if, line_of, outcome_of, task_of}
-use Rattle.task_model.specs.TaskSteps.{given_words, served, task_steps}
+use Rattle.task_model.specs.TaskSteps.{given_words, rewritten_words, served, task_steps}
 use Rattle.headline.specs.Run.{first_state as first_of}
 use Rattle.kernel_core.specs.Shapes.{behind}
 use Rattle.kernel_core.specs.Stands.{FitsIn, HasDone, Hidden, Leads, Leaves, Stands, core_in, left_in, state_in}
@@ -33,7 +34,10 @@ use Rattle.kernel_core.specs.Arms.{Serves, Turns, attempt_left, untold_in}
 use Rattle.kernel_core.specs.declared.kernel.Kernel.{Kernel}
 use Rattle.kernel_core.specs.declared.kernel.Phase.{Phase}
 use Rattle.kernel_core.specs.declared.kernel.Phase.TheVariants as phase
+use Rattle.kernel_core.specs.Wants.{Awaits, received_with, rewritten_wanted}
+use Rattle.kernel_core.specs.declared.part.Want.{Want}
 use Rattle.kernel_core.proofs.Tables.{none_written}
+use Rattle.kernel_core.proofs.Wanting.{done_more, told, wanted_turn}
 
 -- turns from each hidden part lead from each state
 pub leads_from : (old new : Kernel) (l : Line) → Turns old new l → Leads old new l
@@ -75,7 +79,7 @@ stands_first k set same one is_idle state = record {
 untold_is : (k : Kernel) (h : Hidden) (p : Phase) → FitsIn k h p → entry_if (untold_in p) ≡ still_owed (durable_commit (core_in k.machine h p ∷ [])) None
 untold_is k h phase.Idle f = refl
 untold_is k h phase.Running f = refl
-untold_is k h (phase.Copying o at copied) f = refl
+untold_is k h (phase.Copying o w copied) f = refl
 untold_is k h (phase.Ready o) f = refl
 untold_is k h (phase.Committing e zero) f = ap Some f.0
 untold_is k h (phase.Committing e (suc left)) f = refl
@@ -176,42 +180,49 @@ served_so k n s asked e serves = λ h f.
     }
 
 -- the turn of a copy
-abbrev copying : Kernel → ObjId → ℕ → ℕ → Kernel
-copying k o at copied = record k { phase = phase.Copying o at copied }
+abbrev copying : Kernel → ObjId → Want → ℕ → Kernel
+copying k o w copied = record k { phase = phase.Copying o w copied }
 
-abbrev copied_in : Kernel → Hidden → ObjId → ℕ → ℕ → List Read → State MachineState × model.Line
-copied_in k h o at copied reads =
-    after_turn (state_in (copying k o at copied) h) 0 (copy_turn (task_steps k.set) (sizes_of k.set) (formatted k.set) h.history (record h.attempt { state = k.machine }) copied reads)
+abbrev copied_in : Kernel → Hidden → ObjId → Want → ℕ → List Read → State MachineState × model.Line
+copied_in k h o w copied reads =
+    after_turn (state_in (copying k o w copied) h) 0 (copy_turn (task_steps k.set) (sizes_of k.set) (formatted k.set) h.history (record h.attempt { state = k.machine }) copied reads)
 
-abbrev one_copied : Kernel → Hidden → ObjId → ℕ → ℕ → Read → Bool → State MachineState × model.Line
-one_copied k h o at copied r b =
-    after_turn (state_in (copying k o at copied) h) 0
+abbrev one_copied : Kernel → Hidden → ObjId → Want → ℕ → Read → Bool → State MachineState × model.Line
+one_copied k h o w copied r b =
+    after_turn (state_in (copying k o w copied) h) 0
     (cond b (model.quiet (Copying (record h.attempt { state = k.machine }) (copied + 1)))
-    (model.quiet (Running (record h.attempt { state = given_words k.machine (read_words (formatted k.set) h.history r) }))))
+    (let words : List ℕ = read_words (formatted k.set) h.history r in told h r.object (rewritten_words k.machine words) (given_words k.machine words)))
 
-pub copies_more : (k : Kernel) (o : ObjId) (at copied : ℕ) → copied + 1 < (object_at k.set o.0).size → Turns (copying k o at copied) (copying k o at (copied + 1)) line.Nothing
+pub copies_more : (k : Kernel) (o : ObjId) (w : Want) (copied : ℕ) → copied + 1 < (object_at k.set o.0).size → Turns (copying k o w copied) (copying k o w (copied + 1)) line.Nothing
 unfolding Turns
-copies_more k o at copied l = λ h f.
+copies_more k o w copied l = λ h f.
     let n = f.phase.2 in
     let less : ltb (copied + 1) (object_at k.set n.read.object).size ≡ true = ap (λ p. ltb (copied + 1) (object_at k.set p).size) n.object_is ∙ lt-ltb (copied + 1) (object_at k.set o.0).size l in
     record {
       hidden = h;
       fits = record { left = f.left; phase = f.phase };
-      steps = ap (copied_in k h o at copied) n.is ∙ ap (one_copied k h o at copied n.read) less;
+      steps = ap (copied_in k h o w copied) n.is ∙ ap (one_copied k h o w copied n.read) less;
     }
 
-pub copies_last : (k : Kernel) (o : ObjId) (at copied : ℕ) → (object_at k.set o.0).size ≤ copied + 1
-    → Turns (copying k o at copied) (record k { machine = given_words k.machine (words_of k.state.objects o.0); phase = phase.Running }) line.Nothing
+pub copies_last : (k : Kernel) (o : ObjId) (w : Want) (copied : ℕ) → (object_at k.set o.0).size ≤ copied + 1 → IsIncreasing k.attempt.written → o.0 < length k.attempt.words → Awaits k.machine (length (words_of k.state.objects o.0)) w
+    → Turns (copying k o w copied) (record (received_with k o.0 w (words_of k.state.objects o.0)) { phase = phase.Running }) line.Nothing
 unfolding Turns
-copies_last k o at copied l = λ h f.
+copies_last k o w copied l i there a = λ h f.
     let n = f.phase.2 in
+    let words : List ℕ = words_of k.state.objects o.0 in
+    let new : Option (List ℕ) = rewritten_wanted w k.machine.memory words in
     let more : ltb (copied + 1) (object_at k.set n.read.object).size ≡ false = ap (λ p. ltb (copied + 1) (object_at k.set p).size) n.object_is ∙ le-ltb (copied + 1) (object_at k.set o.0).size l in
     let current = subst (AllByRecursion (λ r. read_words (formatted k.set) h.history r ≡ words_of k.state.objects r.object)) n.is f.phase.1.current in
-    let words = current.0 ∙ ap (λ p. words_of k.state.objects p) n.object_is in
+    let same : read_words (formatted k.set) h.history n.read ≡ words = current.0 ∙ ap (λ p. words_of k.state.objects p) n.object_is in
+    let after : Turn MachineState → State MachineState × model.Line = after_turn (state_in (copying k o w copied) h) 0 in
     record {
-      hidden = h;
-      fits = record { left = f.left; phase = (f.phase.0, f.phase.1) };
+      hidden = record h { attempt = record h.attempt { writes = also_written o.0 new h.attempt.writes } };
+      fits = record {
+        left = f.left;
+        phase = (record { task_is = f.phase.0.task_is; interval = f.phase.0.interval }, done_more k.set h.history k.state.objects k.attempt h.attempt o.0 new i there f.phase.1);
+      };
       steps =
-          ap (copied_in k h o at copied) n.is ∙ ap (one_copied k h o at copied n.read) more
-          ∙ ap (λ w. (record { history = h.history; owed = None; cores = Running (record h.attempt { state = given_words k.machine w }) ∷ []; power = On; boots = 0 }, model.Nothing)) words;
+          ap (copied_in k h o w copied) n.is ∙ ap (one_copied k h o w copied n.read) more
+          ∙ ap₂ (λ (p : ℕ) (x : List ℕ). after (told h p (rewritten_words k.machine x) (given_words k.machine x))) n.object_is same
+          ∙ ap after (wanted_turn k h o.0 (length words) w words a refl);
     }

@@ -1,20 +1,20 @@
 -- What a kernel keeps of its own memory. This project's own.
-use Rattle.std.specs.Prelude.{◌≡◌, ℕ, zero, suc, ◌+◌, ◌-◌, ◌*◌, ◌<◌, ◌≤◌, List, ◌∷◌, length}
+use Rattle.std.specs.Prelude.{◌≡◌, ℕ, zero, suc, ◌+◌, ◌-◌, ◌*◌, ◌<◌, ◌≤◌, false, List, ◌∷◌, length}
 use Rattle.std.specs.List.{AllByRecursion}
-use Rattle.object_sets.specs.ObjectSets.{AreBelow, IsIncreasing}
-use Rattle.rv_core.specs.Machine.{IsPlace}
+use Rattle.object_sets.specs.ObjectSets.{AreBelow, IsIncreasing, is_among}
 use Rattle.rv_core.specs.State.{MachineState}
 use Rattle.nv_base.specs.declared.lines.Entry.{Entry}
 use Rattle.nv_base.specs.declared.lines.Spawn.{Spawn}
 use Rattle.kernel_model.specs.Replay.{Base, TaskRec}
 use Rattle.set_model.specs.Sets.{TaskSet, object_at}
 use Rattle.set_model.specs.Limits.{IsTaskSet}
-use Rattle.task_model.specs.TaskSteps.{address_of}
 use Rattle.task_model.specs.Shape.{HasShape}
 use Rattle.kernel_core.specs.Shapes.{behind}
+use Rattle.kernel_core.specs.Wants.{Awaits}
 use Rattle.kernel_core.specs.declared.kernel.Kernel.{Kernel}
 use Rattle.kernel_core.specs.declared.kernel.Phase.{Phase}
 use Rattle.kernel_core.specs.declared.kernel.Phase.TheVariants as phase
+use Rattle.kernel_core.specs.declared.part.Want.{Want}
 
 -- how many finishes are durable
 abbrev pub finishes : Kernel → ℕ
@@ -26,13 +26,12 @@ pub record IsHeld (tasks : List TaskRec) (task : ℕ) : Type 0 where
   pub is : tasks ≡ least ∷ behind tasks
   pub id : least.id ≡ task
 
--- the machine waits on a READ, with room for the object's words at the address
-pub record IsWaiting (set : TaskSet) (m : MachineState) (object at copied : ℕ) : Type 0 where
+-- the machine waits for the words of an object that the attempt has not written
+pub record IsWaiting (set : TaskSet) (m : MachineState) (written : List ℕ) (object : ℕ) (w : Want) (copied : ℕ) : Type 0 where
   pub inside : object < length set.objects
   pub less : copied < (object_at set object).size
-  pub address : at ≡ address_of m
-  pub place : IsPlace m at (object_at set object).size
-  pub waits : m.pc + 4 ≤ length m.memory
+  pub unwritten : is_among object written ≡ false
+  pub awaits : Awaits m (object_at set object).size w
 
 -- the finish that commits may be taken in
 pub record IsGranted (set : TaskSet) (s : Base) (spawns : List Spawn) (e : Entry) : Type 0 where
@@ -49,7 +48,7 @@ IsGrantedUntil (suc left) set s spawns e = IsGranted set s spawns e
 abbrev pub IsKeptIn : Kernel → Phase → Type 0
 IsKeptIn k phase.Idle = Unit {0}
 IsKeptIn k phase.Running = IsHeld k.state.tasks k.task.0
-IsKeptIn k (phase.Copying object at copied) = IsHeld k.state.tasks k.task.0 × IsWaiting k.set k.machine object.0 at copied
+IsKeptIn k (phase.Copying object w copied) = IsHeld k.state.tasks k.task.0 × IsWaiting k.set k.machine k.attempt.written object.0 w copied
 IsKeptIn k (phase.Ready outcome) = IsHeld k.state.tasks k.task.0
 IsKeptIn k (phase.Committing entry left) = IsGrantedUntil left k.set k.state k.attempt.spawns entry
 

@@ -34,7 +34,7 @@ pub record Hidden : Type 0 where
 abbrev pub core_in : MachineState → Hidden → Phase → Core MachineState
 core_in m h phase.Idle = Idle
 core_in m h phase.Running = Running (record h.attempt { state = m })
-core_in m h (phase.Copying object at copied) = Copying (record h.attempt { state = m }) copied
+core_in m h (phase.Copying object w copied) = Copying (record h.attempt { state = m }) copied
 core_in m h (phase.Ready outcome) = Ready h.attempt (outcome_of outcome)
 core_in m h (phase.Committing entry left) = Committing h.item left
 
@@ -77,7 +77,7 @@ pub record IsNewest (object : ℕ) (reads : List Read) : Type 0 where
 abbrev pub FitsIn : Kernel → Hidden → Phase → Type 0
 FitsIn k h phase.Idle = Unit {0}
 FitsIn k h phase.Running = IsTried k.set h.history k.state.clock k.task.0 h.attempt × HasDone k.set h.history k.state.objects k.attempt h.attempt
-FitsIn k h (phase.Copying object at copied) = IsTried k.set h.history k.state.clock k.task.0 h.attempt × HasDone k.set h.history k.state.objects k.attempt h.attempt × IsNewest object.0 h.attempt.reads
+FitsIn k h (phase.Copying object w copied) = IsTried k.set h.history k.state.clock k.task.0 h.attempt × HasDone k.set h.history k.state.objects k.attempt h.attempt × IsNewest object.0 h.attempt.reads
 FitsIn k h (phase.Ready outcome) = IsTried k.set h.history k.state.clock k.task.0 h.attempt × Leaves k.attempt (run_of h.attempt (outcome_of outcome))
 FitsIn k h (phase.Committing entry left) = (entry_of entry ≡ listed_entry h.item) × Leaves k.attempt h.item.run
 

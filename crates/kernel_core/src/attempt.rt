@@ -1,10 +1,17 @@
 //! What the attempt of the running task has done.
 
-ghost use Rattle.std.specs.Prelude.{◌≡◌, IfOk, [], map};
+ghost use Rattle.std.specs.Prelude.{◌≡◌, ◌<◌, ◌≤◌, ◌+◌, IfOk, [], if◌then◌else◌, length, map};
+ghost use Rattle.object_sets.specs.ObjectSets.{is_among};
+ghost use Rattle.rv_core.specs.Machine.{IsPlace};
+ghost use Rattle.kernel_model.specs.Effects.{words_of};
+ghost use Rattle.kernel_core.specs.declared.part.Want.TheVariants.{Take};
+ghost use Rattle.kernel_core.specs.Wants.{rewritten_wanted, with_rewritten};
 
 use crate::objects::Objects;
+use crate::part::Part;
 use crate::spawns::Spawns;
-use nv_base::{NoMemory, Set64};
+use nv_base::{NoMemory, ObjId, Set64};
+use rv_core::Machine;
 use std::alloc::Global;
 use task_set::TaskSet;
 
@@ -43,6 +50,25 @@ impl Attempt {
     {
         self.reads = Set64::empty();
         self.drop_effects();
+    }
+
+    /// The words of a part, from a machine's memory, take the place of those that the attempt sees: its own last
+    /// write, else those that are durable.
+    pub(crate) fn rewrite(&mut self, o: ObjId, durable: &[u32], part: Part, machine: &Machine)
+        requires few { o.0 < 64 }
+        requires inside { o.0 < length self.old.words }
+        requires size { length durable.now ≡ length (words_of self.old.words o.0) }
+        requires place { IsPlace machine.now part.at part.count }
+        requires range { part.first + part.count ≤ length durable.now }
+        ensures { self.new ≡ with_rewritten self.old o.0 (rewritten_wanted (Take part) machine.now.memory (if is_among o.0 self.old.written then words_of self.old.words o.0 else durable.now)) }
+    {
+        let own = self.written.has(o);
+        self.written.add(o);
+        if own {
+            self.words.take_part(o, part, machine);
+        } else {
+            self.words.take_over(o, durable, part, machine);
+        }
     }
 
     /// A trap leaves no writes and no spawns.

@@ -1,12 +1,10 @@
 //! The event machine of one core, turn by turn.
 
-ghost use Rattle.std.specs.Prelude.{◌≡◌, ◌≤◌, ◌<◌, ◌+◌, ◌^◌, IfOk, OnOk, [], if◌then◌else◌, length, map, sum_by};
+ghost use Rattle.std.specs.Prelude.{◌≡◌, ◌≤◌, ◌<◌, ◌+◌, ◌^◌, IfOk, [], if◌then◌else◌, length, map, sum_by};
 ghost use Rattle.std.specs.List.{AllByRecursion};
-ghost use Rattle.std.specs.Result.{result_err};
 ghost use Rattle.object_sets.specs.ObjectSets.{is_among};
 ghost use Rattle.rv_core.specs.State.{MachineState};
-ghost use Rattle.rv_core.specs.Machine.{IsPlace, first_state, put_words};
-ghost use Rattle.rv_core.specs.declared.services.Service.TheVariants.{Read, Write, Spawn as AsksFor};
+ghost use Rattle.rv_core.specs.Machine.{first_state};
 ghost use Rattle.kernel_model.specs.Effects.{words_of};
 ghost use Rattle.kernel_model.specs.Events.{State};
 ghost use Rattle.kernel_model.specs.Alone.{IsUnmet};
@@ -14,34 +12,34 @@ ghost use Rattle.kernel_model.specs.Report.{unprinted};
 ghost use Rattle.set_model.specs.Sets.{object_at, program_at};
 ghost use Rattle.set_model.specs.Numbers.{index_words};
 ghost use Rattle.set_model.specs.Views.{entry_if, line_of, task_of};
-ghost use Rattle.task_model.specs.TaskSteps.{address_of, given_words, refusal};
 ghost use Rattle.headline.specs.Run.{first_state as opened_state};
 ghost use Rattle.kernel_core.specs.Stands.{Stands, Leads, durable_of};
 ghost use Rattle.kernel_core.specs.Kept.{IsKept, finishes};
-ghost use Rattle.kernel_core.specs.Arms.{Serves, Turns, attempt_left, entry_in, untold_in};
+ghost use Rattle.kernel_core.specs.Arms.{Turns, attempt_left, entry_in, untold_in};
 
 use crate::attempt::Attempt;
-use crate::spawns::MAX_SPAWNS;
+use crate::part::{Part, Want};
 use crate::state::Durable;
-use nv_base::{
-    CoreId, Entry, Line, NoMemory, ObjId, Outcome, Point, ProgId, Seq, Set64, Spawn, TaskId,
-    TaskRec, TrapCause,
-};
+use nv_base::{CoreId, Entry, Line, NoMemory, ObjId, Outcome, Point, Seq, Set64, TaskId, TaskRec};
 use rv_core::{Machine, Service, Step};
 use std::alloc::Global;
 use task_set::TaskSet;
 
 // What the core does.
 #[derive(Clone, Copy)]
-enum Phase {
+pub(crate) enum Phase {
     // It has no task.
     Idle,
 
     // It runs an attempt of its task.
     Running,
 
-    // The words of this object come next, to this address. So many are copied.
-    Copying { object: ObjId, at: u32, copied: u8 },
+    // The words of this object come next, for a service that wants them so. So many are copied.
+    Copying {
+        object: ObjId,
+        want: Want,
+        copied: u8,
+    },
 
     // The attempt has ended so, and asks for its finish.
     Ready(Outcome),
@@ -53,39 +51,14 @@ enum Phase {
 /// The kernel of one core under continuous power: a task set, what is durable, and the attempt of the running task.
 #[derive(Drop)]
 pub struct Kernel {
-    set: TaskSet,
-    machine: Machine,
-    state: Durable,
-    attempt: Attempt,
+    pub(crate) set: TaskSet,
+    pub(crate) machine: Machine,
+    pub(crate) state: Durable,
+    pub(crate) attempt: Attempt,
 
     // the task that the core holds, if it is not idle
-    task: TaskId,
-    phase: Phase,
-}
-
-/// Puts the words of an object into a machine's memory.
-fn give_words(machine: &mut Machine, at: u32, words: &[u32])
-    requires { IsPlace machine.old at (length words.now) }
-    ensures exact { machine.new ≡ record machine.old { memory = put_words machine.old.memory at words.now } }
-    ensures room { length machine.new.memory ≡ length machine.old.memory }
-{
-    let mut place = at;
-    for word in words {
-        machine.copy_in(place, *word);
-        place += 4;
-    }
-}
-
-/// The words of an object are given to a READ that waits on them.
-fn give(machine: &mut Machine, at: u32, words: &[u32])
-    requires address { at ≡ address_of machine.old }
-    requires place { IsPlace machine.old at (length words.now) }
-    requires waits { machine.old.pc + 4 ≤ length machine.old.memory }
-    ensures exact { machine.new ≡ given_words machine.old words.now }
-    ensures room { length machine.new.memory ≡ length machine.old.memory }
-{
-    give_words(machine, at, words);
-    machine.resume(None);
+    pub(crate) task: TaskId,
+    pub(crate) phase: Phase,
 }
 
 impl Kernel {
@@ -123,7 +96,11 @@ impl Kernel {
         match self.phase {
             Phase::Idle => self.start(),
             Phase::Running => self.run(),
-            Phase::Copying { object, at, copied } => self.copy(object, at, copied),
+            Phase::Copying {
+                object,
+                want,
+                copied,
+            } => self.copy(object, want, copied),
             Phase::Ready(outcome) => self.judge(outcome),
             Phase::Committing(entry, left) => self.commit(entry, left),
         }
@@ -188,130 +165,34 @@ impl Kernel {
             Step::Call(Service::Read { object, at }) => self.read_object(object, at),
             Step::Call(Service::Write { object, at }) => self.write_object(object, at),
             Step::Call(Service::Spawn { program, arg }) => self.spawn_task(program, arg),
+            Step::Call(
+                Service::ReadPart {
+                    object,
+                    at,
+                    first,
+                    count,
+                },
+            ) => self.read_part(object, Part { at, first, count }),
+            Step::Call(
+                Service::WritePart {
+                    object,
+                    at,
+                    first,
+                    count,
+                },
+            ) => self.write_part(object, Part { at, first, count }),
         }
         Line::Nothing
     }
 
     /// The attempt ends. A trap keeps no writes and no spawns.
-    fn end(&mut self, outcome: Outcome)
+    pub(crate) fn end(&mut self, outcome: Outcome)
         ensures { self.new ≡ record self.old { attempt = attempt_left self.old.attempt outcome; phase = Phase.Ready outcome } }
     {
         if let Outcome::Trap(_) = outcome {
             self.attempt.drop_effects();
         }
         self.phase = Phase::Ready(outcome);
-    }
-
-    /// The tests of a READ or a WRITE, in order: Object, CallAlign, CallRange.
-    fn place(&self, object: u32, at: u32) -> Result<ObjId, TrapCause>
-        ensures refusal { result_err result ≡ refusal self.now.set self.now.machine object at }
-        ensures object { IfOk result (λ o. o.0 ≡ object) }
-        ensures inside { OnOk result (object < length self.now.set.objects) }
-        ensures few { OnOk result (object < 64) }
-        ensures place { OnOk result (IsPlace self.now.machine at (object_at self.now.set object).size) }
-    {
-        if object >= u32::from(self.set.objects()) {
-            return Err(TrapCause::Object);
-        }
-        let o = ObjId(object as u8);
-        self.machine.fits(at, u32::from(self.set.size(o)))?;
-        Ok(o)
-    }
-
-    /// The attempt's own last write, else its earlier copy, else the object's words come next.
-    fn read_object(&mut self, object: u32, at: u32)
-        requires kept { IsKept self.old }
-        requires running { self.old.phase ≡ Phase.Running }
-        requires address { at ≡ address_of self.old.machine }
-        requires waits { self.old.machine.pc + 4 ≤ length self.old.machine.memory }
-        ensures kept { IsKept self.new }
-        ensures serves { Serves self.old (Read object at) self.new }
-        ensures set { self.new.set ≡ self.old.set }
-        ensures state { self.new.state ≡ self.old.state }
-    {
-        let o = match self.place(object, at) {
-            Ok(o) => o,
-            Err(cause) => return self.end(Outcome::Trap(cause)),
-        };
-        if self.attempt.written.has(o) {
-            give(&mut self.machine, at, self.attempt.words.get(o));
-        } else if self.attempt.reads.has(o) {
-            give(&mut self.machine, at, self.state.object(o));
-        } else {
-            self.attempt.reads.add(o);
-            self.phase = Phase::Copying {
-                object: o,
-                at,
-                copied: 0,
-            };
-        }
-    }
-
-    /// The words at the address become the attempt's write.
-    fn write_object(&mut self, object: u32, at: u32)
-        requires kept { IsKept self.old }
-        requires running { self.old.phase ≡ Phase.Running }
-        requires waits { self.old.machine.pc + 4 ≤ length self.old.machine.memory }
-        ensures kept { IsKept self.new }
-        ensures serves { Serves self.old (Write object at) self.new }
-        ensures set { self.new.set ≡ self.old.set }
-        ensures state { self.new.state ≡ self.old.state }
-    {
-        let o = match self.place(object, at) {
-            Ok(o) => o,
-            Err(cause) => return self.end(Outcome::Trap(cause)),
-        };
-        self.attempt.words.take_from(o, &self.machine, at);
-        self.attempt.written.add(o);
-        self.machine.resume(None);
-    }
-
-    /// Asks for a task, and gives its index among those of the attempt.
-    fn spawn_task(&mut self, program: u32, arg: u32)
-        requires kept { IsKept self.old }
-        requires running { self.old.phase ≡ Phase.Running }
-        requires waits { self.old.machine.pc + 4 ≤ length self.old.machine.memory }
-        ensures kept { IsKept self.new }
-        ensures serves { Serves self.old (AsksFor program arg) self.new }
-        ensures set { self.new.set ≡ self.old.set }
-        ensures state { self.new.state ≡ self.old.state }
-    {
-        if program >= u32::from(self.set.programs()) {
-            return self.end(Outcome::Trap(TrapCause::Program));
-        }
-        let index = self.attempt.spawns.len();
-        if index >= MAX_SPAWNS {
-            return self.end(Outcome::Trap(TrapCause::Spawns));
-        }
-        self.attempt.spawns.push(Spawn {
-            program: ProgId(program as u8),
-            arg,
-        });
-        self.machine.resume(Some(index as u32));
-    }
-
-    /// One word of a copy. With the last one the READ is done: no finish has joined since it began, so the words are
-    /// those of the newest version.
-    fn copy(&mut self, object: ObjId, at: u32, copied: u8) -> Line
-        requires kept { IsKept self.old }
-        requires copying { self.old.phase ≡ Phase.Copying object at copied }
-        ensures kept { IsKept self.new }
-        ensures turns { Turns self.old self.new result }
-        ensures unmet { IsUnmet (line_of result) }
-        ensures set { self.new.set ≡ self.old.set }
-        ensures state { self.new.state ≡ self.old.state }
-    {
-        if copied + 1 < self.set.size(object) {
-            self.phase = Phase::Copying {
-                object,
-                at,
-                copied: copied + 1,
-            };
-        } else {
-            give(&mut self.machine, at, self.state.object(object));
-            self.phase = Phase::Running;
-        }
-        Line::Nothing
     }
 
     /// An attempt that meets no other is granted, unless records are not enough. Then its task starts again.

@@ -1,10 +1,12 @@
 //! The words of the objects, in memory that is taken once.
 
-ghost use Rattle.std.specs.Prelude.{◌≡◌, ◌<◌, ◌≤◌, ℕ, IfOk, List, Some, length, map, slice_set};
+ghost use Rattle.std.specs.Prelude.{◌≡◌, ◌+◌, ◌<◌, ◌≤◌, ℕ, IfOk, List, Some, length, map, slice_set};
 ghost use Rattle.rv_core.specs.Machine.{words_at, IsPlace};
 ghost use Rattle.kernel_model.specs.Effects.{Write, put, words_of};
+ghost use Rattle.task_model.specs.TaskSteps.{with_part};
 ghost use Rattle.kernel_core.specs.Shapes.{AreWritten};
 
+use crate::part::Part;
 use nv_base::{NoMemory, ObjId, Set64};
 use rv_core::Machine;
 use std::alloc::Global;
@@ -46,6 +48,19 @@ impl Words {
         ensures { self.new ≡ words_at machine.now.memory at (length self.old) }
     {
         machine.copy_out(at, self.items.as_mut_slice());
+    }
+
+    // The words of a part, from a machine's memory, in place of those that there are.
+    fn take_part(&mut self, part: Part, machine: &Machine)
+        requires place { IsPlace machine.now part.at part.count }
+        requires inside { part.first + part.count ≤ length self.old }
+        ensures { self.new ≡ with_part part.first (words_at machine.now.memory part.at part.count) self.old }
+    {
+        let first = part.first as usize;
+        machine.copy_out(
+            part.at,
+            &mut self.items.as_mut_slice()[first..first + part.count as usize],
+        );
     }
 
     fn set(&mut self, words: &[u32])
@@ -97,6 +112,29 @@ impl Objects {
         ensures { self.new ≡ slice_set self.old o.0 (words_at machine.now.memory at (length (words_of self.old o.0))) }
     {
         self.items[usize::from(o.0)].take_from(machine, at);
+    }
+
+    /// Takes a part of an object's words from a machine's memory.
+    pub(crate) fn take_part(&mut self, o: ObjId, part: Part, machine: &Machine)
+        requires inside { o.0 < length self.old }
+        requires place { IsPlace machine.now part.at part.count }
+        requires range { part.first + part.count ≤ length (words_of self.old o.0) }
+        ensures { self.new ≡ slice_set self.old o.0 (with_part part.first (words_at machine.now.memory part.at part.count) (words_of self.old o.0)) }
+    {
+        self.items[usize::from(o.0)].take_part(part, machine);
+    }
+
+    /// Takes over these words of an object, and then a part of them from a machine's memory.
+    pub(crate) fn take_over(&mut self, o: ObjId, words: &[u32], part: Part, machine: &Machine)
+        requires inside { o.0 < length self.old }
+        requires size { length words.now ≡ length (words_of self.old o.0) }
+        requires place { IsPlace machine.now part.at part.count }
+        requires range { part.first + part.count ≤ length words.now }
+        ensures { self.new ≡ slice_set self.old o.0 (with_part part.first (words_at machine.now.memory part.at part.count) words.now) }
+    {
+        let there = &mut self.items[usize::from(o.0)];
+        there.set(words);
+        there.take_part(part, machine);
     }
 
     /// Takes over the words of an object.

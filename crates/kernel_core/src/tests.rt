@@ -23,6 +23,18 @@ const PUTS: [u32; 7] = [
     0x20a02023, 0x00000513, 0x20000593, 0x00200893, 0x00000073, 0x00400893, 0x00000073,
 ];
 
+// reads the object's word as a part of it, adds the argument and writes the sum as this part
+const ADDS_PART: [u32; 14] = [
+    0x00050413, 0x00000513, 0x20000593, 0x00000613, 0x00100693, 0x00500893, 0x00000073, 0x20002283,
+    0x008282b3, 0x20502023, 0x00600893, 0x00000073, 0x00400893, 0x00000073,
+];
+
+// writes its argument to the object as a part of it
+const PUTS_PART: [u32; 9] = [
+    0x20a02023, 0x00000513, 0x20000593, 0x00000613, 0x00100693, 0x00600893, 0x00000073, 0x00400893,
+    0x00000073,
+];
+
 // spawns as many tasks of its program, with the argument 0, as its argument says
 const FORKS: [u32; 11] = [
     0x00050413, 0x00040e63, 0xfff40413, 0x00000513, 0x00000593, 0x00300893, 0x00000073, 0xfe9ff06f,
@@ -250,6 +262,34 @@ fn fuel_is_enough_or_leaves_no_write(rt: HostRuntime) -> Result<(), Fail> {
     let trap = Outcome::Trap(TrapCause::Fuel);
     let told = [start(1, 0), finish(1, 1, 0, 2, trap)];
     assert!(rt; holds(&rt, &puts(6, &told, 5, 0))?);
+    Ok(())
+}
+
+// A task that writes a part of the object.
+fn writes_part<'a>(code: &'a [u32], turns: u32, told: &'a [Line], word: u32) -> Row<'a>
+    ensures { result.turns ≡ turns }
+{
+    Row {
+        records: 1,
+        code,
+        fuel: 100,
+        args: &[7],
+        turns,
+        told,
+        word,
+        clock: 1,
+        number: 1,
+        next: 2,
+        open: &[],
+        found: false,
+    }
+}
+
+#[test]
+fn a_part_is_read_and_written(rt: HostRuntime) -> Result<(), Fail> {
+    let told = [start(1, 0), finish(1, 1, 1, 2, Outcome::Exit(0))];
+    assert!(rt; holds(&rt, &writes_part(&ADDS_PART, 33, &told, 12))?);
+    assert!(rt; holds(&rt, &writes_part(&PUTS_PART, 28, &told, 7))?);
     Ok(())
 }
 

@@ -26,18 +26,18 @@ bound_raised floor o i history = elim (touches i o) as (λ b. max floor (cond b 
   | false ↦ refl
 ]
 
+pub bound_with : (floor o : ℕ) (j : Option Item) (history : List Item) → bound_of floor o (with_finish j history) ≡ with_touch j o (bound_of floor o history)
+bound_with floor o None history = refl
+bound_with floor o (Some i) history = bound_raised floor o i history
+
 pub bound_next : {M : Type 0} → (steps : Steps M) (sizes : Sizes) (base : Base) (s : State M) (floor o : ℕ) (e : Event) → bound_of floor o (event_step steps sizes base s e).0.history ≡ with_touch (joining s e) o (bound_of floor o s.history)
-bound_next steps sizes base s floor o e = ap (bound_of floor o) (history-joined steps sizes base s e) ∙ go (joining s e)
-  where
-    go : (j : Option Item) → bound_of floor o (with_finish j s.history) ≡ with_touch j o (bound_of floor o s.history)
-    go None = refl
-    go (Some i) = bound_raised floor o i s.history
+bound_next steps sizes base s floor o e = ap (bound_of floor o) (history-joined steps sizes base s e) ∙ bound_with floor o (joining s e) s.history
 
 within-lo : (v : Option Version) (i : Interval) → i.lo ≤ (within v i).lo
 within-lo None i = omega arith
 within-lo (Some v) i = omega arith
 
-start-lo : (base : Base) (history : List Item) (start : ℕ) (reads : List Read) → start ≤ (read_interval base history start reads).lo
+pub start-lo : (base : Base) (history : List Item) (start : ℕ) (reads : List Read) → start ≤ (read_interval base history start reads).lo
 start-lo base history start [] = omega arith
 start-lo base history start (r ∷ reads) = omega (arith, start-lo base history start reads, within-lo (version_read base history r) (read_interval base history start reads))
 
@@ -59,7 +59,7 @@ pub ready_interval : {M : Type 0} → (base : Base) (s : State M) (floor k : ℕ
 ready_interval {M} base s floor k a outcome f e = bounds_interval base s.history floor a.start a.reads (run_of a outcome) (subst (StartsFrom floor) e (f.starts k))
 
 -- an item stands at or after all that touched what it writes
-touch-follows : (i : Item) (history : List Item) (o : ℕ) (words : List ℕ) → written i.run.writes o ≡ Some words → AllByRecursion (Follows i) history → last_touch o history ≤ i.point
+pub touch-follows : (i : Item) (history : List Item) (o : ℕ) (words : List ℕ) → written i.run.writes o ≡ Some words → AllByRecursion (Follows i) history → last_touch o history ≤ i.point
 touch-follows i [] o words e h = omega arith
 touch-follows i (x ∷ history) o words e h = go (touch-follows i history o words e h.1) (touches x o) refl
   where

@@ -25,7 +25,7 @@ use Rattle.kernel_model.proofs.Ordered.{lawful_of}
 use Rattle.kernel_model.proofs.RoomLaws.{interval-shrinks, meet-wider, starts_after, within-shrinks}
 
 -- a caller's core
-core_at_marks : (marks : List (Option Mark)) (k : ℕ) → get_or (cores_of marks) k Idle ≡ core_of (get_or marks k None)
+pub core_at_marks : (marks : List (Option Mark)) (k : ℕ) → get_or (cores_of marks) k Idle ≡ core_of (get_or marks k None)
 core_at_marks [] k = refl
 core_at_marks (m ∷ marks) zero = refl
 core_at_marks (m ∷ marks) (suc k) = core_at_marks marks k
@@ -142,7 +142,7 @@ finish_needs whole sizes base s h n m run device o v = by_loss s.loss
     by_loss None = by_empty (is_empty i) (without_room sizes base s.history (cores_of (all_but n s.marks)) run.writes)
 
 -- the history after a finish
-finish_history : (sizes : Sizes) (base : Base) (s : Live) (n : ℕ) (m : Mark) (run : Run) (device : Option ℕ) →
+pub finish_history : (sizes : Sizes) (base : Base) (s : Live) (n : ℕ) (m : Mark) (run : Run) (device : Option ℕ) →
     (finish_call sizes base s n m run s.loss device).0.history ≡ with_finish (added_by (finish_call sizes base s n m run s.loss device).1) s.history
 finish_history sizes base s n m run device = by_loss s.loss
   where

@@ -1,12 +1,13 @@
 -- The tasks of the worked runs owe what a machine owes, and the runs have the premises of the laws.
-use Rattle.std.proofs.Common.{◌≡◌, ℕ, zero, suc, ◌<◌, Bool, true, false, cond, ltb, List, [], ◌∷◌, refl, ap, subst, replicate, length, arith}
-use Rattle.std.proofs.lemmas.List.{length-replicate}
+use Rattle.std.proofs.Common.{◌≡◌, ℕ, zero, suc, ◌<◌, Bool, true, false, cond, ltb, List, [], ◌∷◌, set, Option, Some, None, refl, sym, ap, ◌∙◌, subst, replicate, length, arith}
+use Rattle.std.specs.Prelude.{option_map}
+use Rattle.std.proofs.lemmas.List.{length-replicate, length-set}
 use Rattle.std.proofs.lemmas.Bool.{ltb-true}
 use Rattle.kernel_model.specs.Sizes.{Sizes}
 use Rattle.kernel_model.specs.Effects.{Trap, words_of}
 use Rattle.kernel_model.specs.Runs.{Step, Went, Reads, Writes, Spawns, Ends}
 use Rattle.kernel_model.specs.Fit.{IsMachine, IsOutcome, IsWrite, IsSetUp}
-use Rattle.kernel_model.specs.WorkedTasks.{Op, Work, Add, Take, Put, Fork, Stop, StopSum, Spent, Task, machine_of, step_of, toy, with_first}
+use Rattle.kernel_model.specs.WorkedTasks.{Op, Work, Add, Take, Put, PutAt, Fork, Stop, StopSum, Spent, Task, machine_of, step_of, toy, with_first}
 use Rattle.kernel_model.specs.WorkedRuns.{adding, copy_and_put, resumed_later}
 
 words-size : (n k : ℕ) → length (with_first n (replicate k 0)) ≡ k
@@ -30,19 +31,29 @@ each_fit sizes (StopSum ∷ ops) sum = tt
 each_fit sizes (Spent ∷ ops) sum = (omega arith, omega arith)
 each_fit sizes (Take o ∷ ops) sum = go (ltb o sizes.objects) refl
   where
-    go : (b : Bool) → ltb o sizes.objects ≡ b → IsFit sizes (Take o ∷ ops) (cond b (Reads (record { ops = ops; sum = sum }) o) (Ends (Trap 10)))
+    go : (b : Bool) → ltb o sizes.objects ≡ b → IsFit sizes (Take o ∷ ops) (cond b (Reads (record { ops = ops; sum = sum; place = None }) o) (Ends (Trap 10)))
     go true e = (ltb-true o sizes.objects e, omega arith)
     go false e = (omega arith, omega arith)
 each_fit sizes (Put o ∷ ops) sum = go (ltb o sizes.objects) refl
   where
-    go : (b : Bool) → ltb o sizes.objects ≡ b → IsFit sizes (Put o ∷ ops) (cond b (Writes (record { ops = ops; sum = sum }) (record { object = o; words = with_first sum (replicate (sizes.size o) 0) })) (Ends (Trap 10)))
+    go : (b : Bool) → ltb o sizes.objects ≡ b → IsFit sizes (Put o ∷ ops) (cond b (Writes (record { ops = ops; sum = sum; place = None }) (record { object = o; words = with_first sum (replicate (sizes.size o) 0) })) (Ends (Trap 10)))
     go true e = (omega arith, record { object = ltb-true o sizes.objects e; words = words-size sum (sizes.size o) })
+    go false e = (omega arith, omega arith)
+each_fit sizes (PutAt o k ∷ ops) sum = go (ltb o sizes.objects) refl
+  where
+    go : (b : Bool) → ltb o sizes.objects ≡ b → IsFit sizes (PutAt o k ∷ ops) (cond b (Reads (record { ops = ops; sum = sum; place = Some k }) o) (Ends (Trap 10)))
+    go true e = (ltb-true o sizes.objects e, omega arith)
     go false e = (omega arith, omega arith)
 each_fit sizes (Fork s ∷ ops) sum = go (ltb s.program sizes.programs) refl
   where
-    go : (b : Bool) → ltb s.program sizes.programs ≡ b → IsFit sizes (Fork s ∷ ops) (cond b (Spawns (record { ops = ops; sum = sum }) s) (Ends (Trap 13)))
+    go : (b : Bool) → ltb s.program sizes.programs ≡ b → IsFit sizes (Fork s ∷ ops) (cond b (Spawns (record { ops = ops; sum = sum; place = None }) s) (Ends (Trap 13)))
     go true e = (ltb-true s.program sizes.programs e, omega arith)
     go false e = (omega arith, omega arith)
+
+-- a write of one word keeps the size
+rewrites_size : (size : ℕ) (place : Option ℕ) (sum : ℕ) (words new : List ℕ) → length words ≡ size → option_map (λ k. set words k sum) place ≡ Some new → length new ≡ size
+rewrites_size size None sum words new l e = absurd (cc e)
+rewrites_size size (Some k) sum words new l e = let same : set words k sum ≡ new = cc in ap length (sym same) ∙ length-set words k sum ∙ l
 
 -- it owes what a machine owes
 pub toy_machine : (sizes : Sizes) (program : ℕ → ℕ → List Op) → IsMachine (toy sizes program) sizes
@@ -50,6 +61,7 @@ toy_machine sizes program = record {
   went = λ m n e. at m (Went n) e;
   reads = λ m n o e. (at m (Reads n o) e).0;
   given = λ m n o words e. (at m (Reads n o) e).1;
+  rewrites = λ m n o words new e l f. rewrites_size (sizes.size o) n.place n.sum words new l f;
   wrote = λ m n w e. at m (Writes n w) e;
   spawns = λ m n s e. (at m (Spawns n s) e).0;
   spawned = λ m n s index e. (at m (Spawns n s) e).1;
@@ -63,7 +75,7 @@ toy_machine sizes program = record {
 pub set_up-adding : IsSetUp (machine_of adding) adding.sizes adding.base
 set_up-adding = record {
   machine = toy_machine adding.sizes adding.program;
-  sized = record { slots = λ o l. omega arith; index_writes = omega arith; boot_turns = omega arith };
+  sized = record { slots = λ o l. omega arith; index_writes = λ before after writes. omega arith; boot_turns = omega arith };
   based = record {
     objects = refl;
     words = λ o l. at o l;
@@ -85,7 +97,7 @@ set_up-adding = record {
 pub set_up-copy_and_put : IsSetUp (machine_of copy_and_put) copy_and_put.sizes copy_and_put.base
 set_up-copy_and_put = record {
   machine = toy_machine copy_and_put.sizes copy_and_put.program;
-  sized = record { slots = λ o l. omega arith; index_writes = omega arith; boot_turns = omega arith };
+  sized = record { slots = λ o l. omega arith; index_writes = λ before after writes. omega arith; boot_turns = omega arith };
   based = record {
     objects = refl;
     words = λ o l. at o l;
@@ -108,7 +120,7 @@ set_up-copy_and_put = record {
 pub set_up-resumed_later : IsSetUp (machine_of resumed_later) resumed_later.sizes resumed_later.base
 set_up-resumed_later = record {
   machine = toy_machine resumed_later.sizes resumed_later.program;
-  sized = record { slots = λ o l. omega arith; index_writes = omega arith; boot_turns = omega arith };
+  sized = record { slots = λ o l. omega arith; index_writes = λ before after writes. omega arith; boot_turns = omega arith };
   based = record {
     objects = refl;
     words = λ o l. at o l;

@@ -1,16 +1,16 @@
 -- Worked runs, computed: the lines of each, and the state that it leaves. This project's own.
-use Rattle.std.specs.Prelude.{◌≡◌, ℕ, ◌+◌, ◌*◌, List, [], ◌∷◌, ◌++◌, get_or, Some, None}
+use Rattle.std.specs.Prelude.{◌≡◌, ℕ, ◌+◌, ◌*◌, List, [], ◌∷◌, ◌++◌, length, get_or, Some, None}
 use Rattle.kernel_model.specs.Sizes.{Sizes}
 use Rattle.kernel_model.specs.Effects.{Exit, Trap, Spawn}
 use Rattle.kernel_model.specs.Runs.{spawns_cause, fuel_cause}
 use Rattle.kernel_model.specs.Replay.{TaskRec, max_id, with_children}
 use Rattle.kernel_model.specs.Turns.{Start, Stale, RefuseEmpty, RefuseSlots, RefuseRecords, Finish, Found, Failed, Booted}
 use Rattle.kernel_model.specs.Events.{On, Boot, Fail}
-use Rattle.kernel_model.specs.WorkedTasks.{task, adder, copier, forker, writer, steps, entry, state, formatted, Scene, shows, leaves, finishes_of, order_of, replayed}
+use Rattle.kernel_model.specs.WorkedTasks.{Op, task, adder, copier, forker, part_writer, writer, steps, entry, state, formatted, Scene, shows, leaves, finishes_of, order_of, replayed}
 
 -- one object of one word, one program, one record
 abbrev pub one_object : Sizes
-one_object = record { objects = 1; size = λ o. 1; slots = λ o. 2; programs = 1; records = 1; index_writes = 14; boot_turns = 36 }
+one_object = record { objects = 1; size = λ o. 1; slots = λ o. 2; programs = 1; records = 1; index_writes = λ before after writes. 14; boot_turns = 36 }
 
 -- x is 5, and task 1 adds 7 to it
 abbrev pub adding : Scene
@@ -46,7 +46,7 @@ FailuresInBoot =
 
 -- two objects of one word, four programs, four records
 abbrev pub two_objects : Sizes
-two_objects = record { objects = 2; size = λ o. 1; slots = λ o. 2; programs = 4; records = 4; index_writes = 24; boot_turns = 83 }
+two_objects = record { objects = 2; size = λ o. 1; slots = λ o. 2; programs = 4; records = 4; index_writes = λ before after writes. 24; boot_turns = 83 }
 
 -- x is 5 and y is 8, on two cores
 abbrev pub copying : List TaskRec → Scene
@@ -107,10 +107,29 @@ NoSlot =
     ≡ Start 0 1 0 ∷ Start 1 2 0 ∷ Finish (entry 1 2 1 (Exit 1) 4) ∷ Start 1 3 1 ∷ RefuseSlots 1 3 1 ∷ Finish (entry 2 1 0 (Exit 13) 4) ∷ Start 1 3 1 ∷ Finish (entry 3 3 2 (Exit 1) 4) ∷ [])
     × (leaves no_slot (steps 0 6 ++ steps 1 48 ++ steps 0 35 ++ steps 1 36) ≡ (state ((100 ∷ []) ∷ (4 ∷ []) ∷ []) [] 2 3 4, 0))
 
+-- x has two words, and task 1 writes 7 as the first of them, task 2 writes 9 as the second
+abbrev pub writing_parts : Scene
+writing_parts = record {
+  sizes = record { objects = 1; size = λ o. 2; slots = λ o. 2; programs = 2; records = 2; index_writes = λ before after writes. 17; boot_turns = 50 };
+  program = part_writer;
+  base = formatted ((5 ∷ 6 ∷ []) ∷ []) (task 1 0 7 ∷ task 2 1 9 ∷ []);
+  cores = 2;
+  power = On;
+  boots = 0;
+}
+
+-- a write of a part rests on the other words: the second is refused, and runs again
+abbrev pub PartsOnTwoCores : Type 0
+PartsOnTwoCores =
+    (shows writing_parts (steps 0 11 ++ steps 1 11 ++ steps 0 22 ++ steps 1 35)
+    ≡ Start 0 1 0 ∷ Start 1 2 0 ∷ Finish (entry 1 1 1 (Exit 0) 3) ∷ RefuseEmpty 1 2 1 1 ∷ Start 1 2 1 ∷ Finish (entry 2 2 2 (Exit 0) 3) ∷ [])
+    × (leaves writing_parts (steps 0 11 ++ steps 1 11 ++ steps 0 22 ++ steps 1 35) ≡ (state ((7 ∷ 9 ∷ []) ∷ []) [] 2 2 3, 0))
+    × (order_of (finishes_of writing_parts (steps 0 11 ++ steps 1 11 ++ steps 0 22 ++ steps 1 35)) ≡ 1 ∷ 2 ∷ [])
+
 -- three cores, where x has two words and n slots
 abbrev pub doomed : ℕ → Scene
 doomed n = record {
-  sizes = record { objects = 2; size = λ o. get_or (2 ∷ 1 ∷ []) o 0; slots = λ o. get_or (n ∷ 2 ∷ []) o 0; programs = 4; records = 4; index_writes = 24; boot_turns = 84 };
+  sizes = record { objects = 2; size = λ o. get_or (2 ∷ 1 ∷ []) o 0; slots = λ o. get_or (n ∷ 2 ∷ []) o 0; programs = 4; records = 4; index_writes = λ before after writes. 24; boot_turns = 84 };
   program = copier;
   base = formatted ((5 ∷ 6 ∷ []) ∷ (8 ∷ []) ∷ []) (task 1 2 0 ∷ task 2 0 1 ∷ task 3 1 65 ∷ task 4 1 48 ∷ []);
   cores = 3;
@@ -142,7 +161,7 @@ FuelIsSpent =
 -- so many records and cores
 abbrev pub forking : ℕ → ℕ → List TaskRec → Scene
 forking records cores tasks = record {
-  sizes = record { objects = 1; size = λ o. 1; slots = λ o. 2; programs = 1; records = records; index_writes = 11 + 3 * records; boot_turns = 50 };
+  sizes = record { objects = 1; size = λ o. 1; slots = λ o. 2; programs = 1; records = records; index_writes = λ before after writes. 11 + 3 * records; boot_turns = 50 };
   program = forker;
   base = formatted ((0 ∷ []) ∷ []) tasks;
   cores = cores;
@@ -164,6 +183,27 @@ NinthSpawn =
     × ((leaves (forking 8 1 (task 1 0 8 ∷ [])) (steps 0 99)).0.next ≡ 10)
     × (shows (forking 8 1 (task 1 0 9 ∷ [])) (steps 0 101) ≡ Start 0 1 0 ∷ Finish (entry 1 1 0 (Trap spawns_cause) 2) ∷ [])
     × (leaves (forking 8 1 (task 1 0 9 ∷ [])) (steps 0 101) ≡ (state ((0 ∷ []) ∷ []) [] 0 1 2, 0))
+
+-- a commit writes five words of this index for each task that is open before it, one for each after it, and three for each object written
+abbrev pub counting : (ℕ → ℕ → List Op) → ℕ → Scene
+counting program arg = record {
+  sizes = record { objects = 1; size = λ o. 1; slots = λ o. 2; programs = 1; records = 2; index_writes = λ before after writes. 5 * length before + length after + 3 * length writes; boot_turns = 36 };
+  program = program;
+  base = formatted ((5 ∷ []) ∷ []) (task 1 0 arg ∷ []);
+  cores = 1;
+  power = On;
+  boots = 0;
+}
+
+-- a task that writes an object, and one that spawns two tasks: each commit takes its own number of turns, and a step less leaves a finish that no line has told
+abbrev pub CountedIndex : Type 0
+CountedIndex =
+    (shows (counting adder 7) (steps 0 25) ≡ Start 0 1 0 ∷ Finish (entry 1 1 1 (Exit 0) 2) ∷ [])
+    × (shows (counting adder 7) (steps 0 24) ≡ Start 0 1 0 ∷ Found (entry 1 1 1 (Exit 0) 2) ∷ [])
+    × (shows (counting adder 7) (steps 0 23) ≡ Start 0 1 0 ∷ [])
+    × (shows (counting forker 2) (steps 0 29) ≡ Start 0 1 0 ∷ Finish (entry 1 1 0 (Exit 0) 2) ∷ [])
+    × (shows (counting forker 2) (steps 0 28) ≡ Start 0 1 0 ∷ Found (entry 1 1 0 (Exit 0) 2) ∷ [])
+    × (shows (counting forker 2) (steps 0 27) ≡ Start 0 1 0 ∷ [])
 
 -- in the replay a child whose id would pass the greatest one does not join
 abbrev pub CappedChild : Type 0

@@ -1,5 +1,5 @@
 -- Tasks of a few instructions, for worked runs: this project's own. Each takes as many turns as the RISC-V program that it stands for.
-use Rattle.std.specs.Prelude.{ℕ, zero, suc, ◌+◌, ◌/◌, ◌%◌, nat_lt, List, [], ◌∷◌, ◌++◌, length, get_or, take, map, replicate, None, if◌then◌else◌}
+use Rattle.std.specs.Prelude.{ℕ, zero, suc, ◌+◌, ◌/◌, ◌%◌, nat_lt, List, [], ◌∷◌, ◌++◌, length, get_or, set, take, map, replicate, Option, Some, None, is_some, option_map, if◌then◌else◌}
 use Rattle.kernel_model.specs.Sizes.{Sizes}
 use Rattle.kernel_model.specs.Effects.{Outcome, Exit, Trap, Spawn, Objects}
 use Rattle.kernel_model.specs.Runs.{Reads, Spawns, Writes, Step, Went, Ends, Steps, fuel_cause}
@@ -16,6 +16,7 @@ pub data Op : Type 0 where
   Add : ℕ → Op  -- to the sum
   Take : (object : ℕ) → Op  -- reads an object, and adds its first word to the sum
   Put : (object : ℕ) → Op  -- writes the sum as its first word, and else zeros
+  PutAt : (object place : ℕ) → Op  -- writes the sum as one of its words, and else those that the task sees
   Fork : Spawn → Op
   Stop : (code : ℕ) → Op
   StopSum : Op
@@ -25,6 +26,7 @@ pub data Op : Type 0 where
 pub record Task : Type 0 where
   pub ops : List Op
   pub sum : ℕ
+  pub place : Option ℕ  -- while it waits for an object's words: which of them it writes, if one
 
 -- with another first word
 abbrev pub with_first : ℕ → List ℕ → List ℕ
@@ -34,11 +36,12 @@ with_first n (x ∷ xs) = n ∷ xs
 -- one step, with the tests of its services
 abbrev pub step_of : Sizes → List Op → ℕ → Step Task
 step_of sizes [] sum = Ends (Exit 0)
-step_of sizes (Work ∷ ops) sum = Went (record { ops = ops; sum = sum })
-step_of sizes (Add n ∷ ops) sum = Went (record { ops = ops; sum = sum + n })
-step_of sizes (Take o ∷ ops) sum = if nat_lt o sizes.objects then Reads (record { ops = ops; sum = sum }) o else Ends (Trap 10)
-step_of sizes (Put o ∷ ops) sum = if nat_lt o sizes.objects then Writes (record { ops = ops; sum = sum }) (record { object = o; words = with_first sum (replicate (sizes.size o) 0) }) else Ends (Trap 10)
-step_of sizes (Fork s ∷ ops) sum = if nat_lt s.program sizes.programs then Spawns (record { ops = ops; sum = sum }) s else Ends (Trap 13)
+step_of sizes (Work ∷ ops) sum = Went (record { ops = ops; sum = sum; place = None })
+step_of sizes (Add n ∷ ops) sum = Went (record { ops = ops; sum = sum + n; place = None })
+step_of sizes (Take o ∷ ops) sum = if nat_lt o sizes.objects then Reads (record { ops = ops; sum = sum; place = None }) o else Ends (Trap 10)
+step_of sizes (Put o ∷ ops) sum = if nat_lt o sizes.objects then Writes (record { ops = ops; sum = sum; place = None }) (record { object = o; words = with_first sum (replicate (sizes.size o) 0) }) else Ends (Trap 10)
+step_of sizes (PutAt o k ∷ ops) sum = if nat_lt o sizes.objects then Reads (record { ops = ops; sum = sum; place = Some k }) o else Ends (Trap 10)
+step_of sizes (Fork s ∷ ops) sum = if nat_lt s.program sizes.programs then Spawns (record { ops = ops; sum = sum; place = None }) s else Ends (Trap 13)
 step_of sizes (Stop code ∷ ops) sum = Ends (Exit code)
 step_of sizes (StopSum ∷ ops) sum = Ends (Exit sum)
 step_of sizes (Spent ∷ ops) sum = Ends (Trap fuel_cause)
@@ -46,9 +49,10 @@ step_of sizes (Spent ∷ ops) sum = Ends (Trap fuel_cause)
 -- the machine of these tasks, where each program with an argument has some instructions
 abbrev pub toy : Sizes → (ℕ → ℕ → List Op) → Steps Task
 toy sizes program = record {
-  load = λ p arg. record { ops = program p arg; sum = 0 };
+  load = λ p arg. record { ops = program p arg; sum = 0; place = None };
   step = λ m. step_of sizes m.ops m.sum;
-  given = λ m words. record { ops = m.ops; sum = m.sum + get_or words 0 0 };
+  given = λ m words. record { ops = m.ops; sum = if is_some m.place then m.sum else m.sum + get_or words 0 0; place = None };
+  rewrites = λ m words. option_map (λ k. set words k m.sum) m.place;
   spawned = λ m index. m;
   left = λ m. length m.ops;
 }
@@ -81,6 +85,10 @@ forker p arg = Work ∷ forks arg
 -- writes the argument to x with so much fuel
 abbrev pub writer : ℕ → ℕ → ℕ → List Op
 writer fuel p arg = take fuel (Add arg ∷ work 3 ++ Put 0 ∷ Work ∷ Stop 0 ∷ []) ++ Spent ∷ []
+
+-- writes the argument as the program's word of x
+abbrev pub part_writer : ℕ → ℕ → List Op
+part_writer p arg = Add arg ∷ work 5 ++ PutAt 0 p ∷ Work ∷ Stop 0 ∷ []
 
 -- n steps of a core
 abbrev pub steps : ℕ → ℕ → List Event

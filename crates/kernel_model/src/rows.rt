@@ -4,7 +4,7 @@ ghost use Rattle.std.specs.Prelude.{ℕ, List};
 ghost use Rattle.kernel_model.specs.Sizes.{Sizes};
 ghost use Rattle.kernel_model.specs.Fit.{IsMachine, IsSetUp};
 ghost use Rattle.kernel_model.specs.WorkedTasks.{Op, machine_of, toy};
-ghost use Rattle.kernel_model.specs.WorkedRuns.{BlindWriters, CappedChild, CutCommit, DoomedCopy, FailureOnTwoCores, FailuresInBoot, FoundFinish, FuelIsSpent, JoinedCalls, NinthSpawn, NoRecords, NoSlot, OlderVersion, OrderedByPoint, ResumedLater, ResumedRun, SmallestRun, TakenId, WriteSkew, adding, copy_and_put, resumed_later};
+ghost use Rattle.kernel_model.specs.WorkedRuns.{BlindWriters, CappedChild, CountedIndex, CutCommit, DoomedCopy, FailureOnTwoCores, FailuresInBoot, FoundFinish, FuelIsSpent, JoinedCalls, NinthSpawn, NoRecords, NoSlot, OlderVersion, OrderedByPoint, PartsOnTwoCores, ResumedLater, ResumedRun, SmallestRun, TakenId, WriteSkew, adding, copy_and_put, resumed_later};
 
 /// One task on one core.
 pub fn smallest_run()
@@ -16,14 +16,19 @@ pub fn failures_of_power()
     ensures { CutCommit × FoundFinish × FailuresInBoot × FailureOnTwoCores }
 {}
 
-/// Several cores: the order by point, write skew, blind writers, an older version.
+/// Several cores: the order by point, write skew, blind writers, an older version, writes of two parts of one object.
 pub fn several_cores()
-    ensures { OrderedByPoint × WriteSkew × BlindWriters × OlderVersion }
+    ensures { OrderedByPoint × WriteSkew × BlindWriters × OlderVersion × PartsOnTwoCores }
 {}
 
 /// Refusals for want of a slot and of records.
 pub fn refusals_for_room()
     ensures { NoSlot × DoomedCopy × NoRecords }
+{}
+
+/// A commit takes as many turns as its writes and those of the index, which may change with the open tasks and with what is written.
+pub fn commits_take_their_turns()
+    ensures { CountedIndex }
 {}
 
 /// Traps keep no write and no spawn.

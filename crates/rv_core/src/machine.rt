@@ -6,7 +6,7 @@ ghost use Rattle.rv_isa.specs.Ranges.{IsInstr};
 ghost use Rattle.rv_core.specs.Bytes.{put_word, words_at};
 ghost use Rattle.rv_core.specs.State.{Next};
 ghost use Rattle.rv_core.specs.Operations.{register, with_register, sum_of, store_size, put_at};
-ghost use Rattle.rv_core.specs.Execution.{goes_on, jumps, branches, loads, stores, calls, executed};
+ghost use Rattle.rv_core.specs.Execution.{goes_on, jumps, branches, loads, stores, calls, service_of, executed};
 ghost use Rattle.rv_core.specs.Stepping.{step_of, answer, IsCall, Keeps};
 ghost use Rattle.rv_core.specs.Task.{blank, first_state, resumed, misfit, IsPlace};
 
@@ -336,25 +336,32 @@ impl Machine {
     }
 
     fn service(&self) -> Step
-        ensures { calls self.now (register self.now 17) (register self.now 10) (register self.now 11)
-            ≡ answer result self.now }
+        ensures { calls self.now (service_of self.now) ≡ answer result self.now }
     {
-        let first = self.registers[10];
-        let second = self.registers[11];
+        let object = self.registers[10];
+        let at = self.registers[11];
+        let first = self.registers[12];
+        let count = self.registers[13];
         match self.registers[17] {
-            1 => Step::Call(Service::Read {
-                object: first,
-                at: second,
-            }),
-            2 => Step::Call(Service::Write {
-                object: first,
-                at: second,
-            }),
+            1 => Step::Call(Service::Read { object, at }),
+            2 => Step::Call(Service::Write { object, at }),
             3 => Step::Call(Service::Spawn {
-                program: first,
-                arg: second,
+                program: object,
+                arg: at,
             }),
-            4 => Step::Call(Service::Finish { code: first }),
+            4 => Step::Call(Service::Finish { code: object }),
+            5 => Step::Call(Service::ReadPart {
+                object,
+                at,
+                first,
+                count,
+            }),
+            6 => Step::Call(Service::WritePart {
+                object,
+                at,
+                first,
+                count,
+            }),
             _ => Step::Trap(TrapCause::Call),
         }
     }

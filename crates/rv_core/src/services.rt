@@ -2,17 +2,42 @@
 
 use nv_base::TrapCause;
 
-/// A service that a task calls, with its arguments as they stand in a0 and a1.
+/// A service that a task calls, with its arguments as they stand in a0 to a3.
 #[derive(Clone, Copy, PartialEq, Eq, Debug)]
 pub enum Service {
     /// The words of an object are wanted at an address.
-    Read { object: u32, at: u32 },
+    Read {
+        object: u32,
+        at: u32,
+    },
     /// The words at an address are to be an object's.
-    Write { object: u32, at: u32 },
+    Write {
+        object: u32,
+        at: u32,
+    },
     /// A task of a program is to be made, with an argument.
-    Spawn { program: u32, arg: u32 },
+    Spawn {
+        program: u32,
+        arg: u32,
+    },
     /// The task has come to its end, with an exit code.
-    Finish { code: u32 },
+    Finish {
+        code: u32,
+    },
+    /// Some words of an object, from one of them on, are wanted at an address.
+    ReadPart {
+        object: u32,
+        at: u32,
+        first: u32,
+        count: u32,
+    },
+    /// The words at an address are to take the place of some words of an object, from one of them on.
+    WritePart {
+        object: u32,
+        at: u32,
+        first: u32,
+        count: u32,
+    },
 }
 
 /// What a step came to.

@@ -26,6 +26,6 @@ sizes_of set = record {
   slots = λ o. (object_at set o).slots;
   programs = length set.programs;
   records = set.records;
-  index_writes = index_words set + 1;
+  index_writes = λ before after writes. index_words set + 1;
   boot_turns = boot_turns set;
 }

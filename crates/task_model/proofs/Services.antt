@@ -1,26 +1,26 @@
 -- What each step of the machine makes of a run.
-use Rattle.std.proofs.Common.{◌≡◌, ℕ, suc, ◌<◌, ◌≤◌, Bool, cond, List, [], ◌∷◌, ◌++◌, length, map, set, Option, Some, None, unwrap_or, refl, sym, ap, ◌∙◌, subst, arith}
+use Rattle.std.proofs.Common.{◌≡◌, ℕ, suc, ◌<◌, ◌≤◌, Bool, cond, List, [], ◌∷◌, ◌++◌, length, map, set, Option, Some, None, refl, sym, ap, ◌∙◌, subst, arith}
 use Rattle.std.proofs.lemmas.Bool.{le-ltb, lt-ltb}
 use Rattle.std.proofs.lemmas.List.{map-append, length-map}
-use Rattle.object_sets.specs.ObjectSets.{is_among, with_object, IsIncreasing}
+use Rattle.object_sets.specs.ObjectSets.{with_object, IsIncreasing}
 use Rattle.rv_core.specs.State.{MachineState, StepResult, Next, Calls, Traps}
-use Rattle.rv_core.specs.Machine.{step_of, words_at, put_words}
-use Rattle.rv_core.specs.declared.services.Service.TheVariants.{Read, Write as Puts, Spawn as AsksFor, Finish}
+use Rattle.rv_core.specs.Machine.{step_of, words_at}
+use Rattle.rv_core.specs.declared.services.Service.TheVariants.{Write as Puts, Spawn as AsksFor, Finish}
 use Rattle.nv_base.specs.declared.causes.TrapCause.{TrapCause}
 use Rattle.nv_base.specs.declared.causes.TrapCause.TheVariants as cause
 use Rattle.nv_base.specs.declared.lines.Outcome.TheVariants as outcome
 use Rattle.nv_base.specs.declared.lines.Outcome.{Outcome}
 use Rattle.nv_base.specs.declared.lines.Spawn.{Spawn}
-use Rattle.kernel_model.specs.Effects.{Effects, Objects, Write, ended, put, reads_after, with_write, words_of, written}
+use Rattle.kernel_model.specs.Effects.{Effects, Objects, Write, ended, put, with_write, words_of}
 use Rattle.kernel_model.specs.Effects as model
-use Rattle.kernel_model.specs.Runs.{Ends, Reads, Spawns, Writes, run_from, max_spawns}
+use Rattle.kernel_model.specs.Runs.{Ends, Spawns, Writes, run_from, max_spawns}
 use Rattle.set_model.specs.Sets.{TaskSet, object_at}
 use Rattle.set_model.specs.Views.{spawn_of, trap_of}
-use Rattle.task_model.specs.TaskSteps.{address_of, given_index, given_words, past, refusal, served, task_steps, unless}
+use Rattle.task_model.specs.TaskSteps.{given_index, past, refusal, served, task_steps, unless}
 use Rattle.task_model.specs.Shape.{HasShape}
-use Rattle.task_model.specs.Progress.{Stands, Turns}
+use Rattle.task_model.specs.Progress.{Turns}
 use Rattle.task_model.specs.declared.progress.Progress.{Progress}
-use Rattle.task_model.proofs.WriteFacts.{length-put_from, objects_in, objects_in-with_write, put-with_write, reads_after-is, seen}
+use Rattle.task_model.proofs.WriteFacts.{objects_in, objects_in-with_write, put-with_write}
 use Rattle.task_model.proofs.Shapes.{shape-set}
 use Rattle.task_model.proofs.MachineFacts.{length-words_at}
 
@@ -40,37 +40,11 @@ exits programs p s code = λ set objects e k h. (h, λ n. refl)
 abbrev pub TestsTo : Progress → MachineState → ℕ → ℕ → Option TrapCause → Type 0
 TestsTo p s o at failed = (set : TaskSet) → HasShape set p.values → failed ≡ refusal set s o at
 
-pub refused_read : (programs : ℕ) (p : Progress) (s : MachineState) (o at : ℕ) (failed : TrapCause) → TestsTo p s o at (Some failed)
-    → Turns programs p (Calls s (Read o at)) (Some (outcome.Trap failed)) s p
-unfolding Turns
-refused_read programs p s o at failed r = λ set objects e k h. (h, λ n. ap (λ f. run_from (task_steps set) objects (suc n) e (unless f (Reads s o))) (sym (r set h.shape)))
-
 pub refused_write : (programs : ℕ) (p : Progress) (s : MachineState) (o at : ℕ) (failed : TrapCause) → TestsTo p s o at (Some failed)
     → Turns programs p (Calls s (Puts o at)) (Some (outcome.Trap failed)) s p
 unfolding Turns
 refused_write programs p s o at failed r = λ set objects e k h.
     (h, λ n. ap (λ f. run_from (task_steps set) objects (suc n) e (unless f (Writes (past s) (record { object = o; words = words_at s.memory at (object_at set o).size })))) (sym (r set h.shape)))
-
-inside : (set : TaskSet) (objects : Objects) (e : Effects) (p : Progress) (o : ℕ) → Stands set objects e p → o < length p.values → o < length objects
-inside set objects e p o h l = omega (arith, l, ap length h.values ∙ length-put_from 0 e.writes objects)
-
--- the words that the task sees are given, and the object is read from outside unless the task wrote it
-pub reads : (programs : ℕ) (p : Progress) (s m : MachineState) (o at : ℕ) (r : List ℕ) → TestsTo p s o at None → o < length p.values
-    → r ≡ cond (is_among o p.written) p.reads (with_object o p.reads) → m ≡ given_words s (words_of p.values o)
-    → Turns programs p (Calls s (Read o at)) None m (record p { reads = r })
-unfolding Turns
-reads programs p s m o at r t l a g = λ set objects e k h.
-    let f : Effects = record e { reads = reads_after (written e.writes o) o e.reads } in
-    let words : List ℕ = unwrap_or (written e.writes o) (words_of objects o) in
-    let same : words_of p.values o ≡ words = ap (λ v. words_of v o) h.values ∙ seen e.writes objects o (inside set objects e p o h l) in
-    let there : m ≡ given_words s words = g ∙ ap (λ w. given_words s w) same in
-    let now : r ≡ f.reads =
-    a ∙ ap (λ w. cond (is_among o w) p.reads (with_object o p.reads)) h.written ∙ ap (λ x. cond (is_among o (objects_in e.writes)) x (with_object o x)) h.reads
-    ∙ sym (reads_after-is e.writes o e.reads) in (
-      f,
-      record { values = h.values; shape = h.shape; reads = now; written = h.written; increasing = h.increasing; spawns = h.spawns },
-      λ n. ap (λ x. run_from (task_steps set) objects (suc n) e (unless x (Reads s o))) (sym (t set h.shape)) ∙ ap (λ x. run_from (task_steps set) objects n f (served set (step_of x))) (sym there),
-    )
 
 -- the words at the address are the object's from now on
 pub writes : (programs : ℕ) (p : Progress) (s m : MachineState) (o at : ℕ) (v : List (List ℕ)) (w : List ℕ) → TestsTo p s o at None → o < length p.values
@@ -141,21 +115,11 @@ spawns programs p s m program arg x spawn l room same a g = λ set objects e k h
 
 -- the same, with what the code has: the number of the object that was tested, and the machine's states in between
 
-next_is : (s t : MachineState) → Next s ≡ Next t → t ≡ s
+pub next_is : (s t : MachineState) → Next s ≡ Next t → t ≡ s
 next_is s t e = cc
 
 tested : (p : Progress) (s : MachineState) (o x at : ℕ) → x ≡ o → TestsTo p s o at None → TestsTo p s x at None
 tested p s o x at e t = λ set h. t set h ∙ ap (λ y. refusal set s y at) (sym e)
-
-pub reads_object : (programs : ℕ) (p : Progress) (s g m : MachineState) (o x at : ℕ) (words r : List ℕ) (b : Bool) → x ≡ o → TestsTo p s o at None → o < length p.values → at ≡ address_of s
-    → words ≡ words_of p.values x → g ≡ record s { memory = put_words s.memory at words } → Next (past g) ≡ Next m
-    → b ≡ is_among x p.written → r ≡ cond b p.reads (with_object x p.reads)
-    → Turns programs p (Calls s (Read o at)) None m (record p { reads = r })
-reads_object programs p s g m o x at words r b e t l a w gives goes among is =
-    let given : m ≡ given_words s (words_of p.values x) =
-    next_is (past g) m goes ∙ ap past (gives ∙ ap (λ y. record s { memory = put_words s.memory y words }) a) ∙ ap (given_words s) w in
-    let now : r ≡ cond (is_among x p.written) p.reads (with_object x p.reads) = is ∙ ap (λ c. cond c p.reads (with_object x p.reads)) among in
-    subst (λ y. Turns programs p (Calls s (Read y at)) None m (record p { reads = r })) e (reads programs p s m x at r (tested p s o x at e t) (omega (arith, l, e)) now given)
 
 pub writes_object : (programs : ℕ) (p : Progress) (s m : MachineState) (o x at : ℕ) (v : List (List ℕ)) (w : List ℕ) → x ≡ o → TestsTo p s o at None → o < length p.values
     → v ≡ set p.values x (words_at s.memory at (length (words_of p.values x))) → w ≡ with_object x p.written → IsIncreasing w → Next (past s) ≡ Next m

@@ -1,16 +1,14 @@
--- A step that does not trap counts one instruction, and had fuel for it. A call names the address in a1.
+-- A step that does not trap counts one instruction, and had fuel for it. The registers name a call.
 use Rattle.std.proofs.Common.{◌≡◌, ℕ, ◌+◌, ◌%◌, ◌<◌, Bool, true, false, length, Option, Some, None, refl, subst}
 use Rattle.std.specs.Prelude.{◌==◌, nat_le, slice_set, if◌then◌else◌}
 use Rattle.std.proofs.lemmas.Bool.{leb-false}
 use Rattle.nv_base.specs.declared.causes.TrapCause.TheVariants as cause
 use Rattle.rv_core.specs.State.{MachineState, StepResult, Next, Calls, Traps}
 use Rattle.rv_core.specs.Operations.{register, with_register, sum_of, place_of, is_taken, load_size, store_size, read_at, put_at}
-use Rattle.rv_core.specs.Execution.{goes_on, jumps, loads, stores, calls, executed}
+use Rattle.rv_core.specs.Execution.{goes_on, jumps, loads, stores, calls, service_of, executed}
 use Rattle.rv_core.specs.Stepping.{executed_or_illegal, fetched, step_of}
 use Rattle.rv_core.specs.Bytes.{word_at}
 use Rattle.rv_core.specs.declared.services.Service.{Service}
-use Rattle.rv_core.specs.declared.services.Service.TheVariants.{Read, Write, Spawn, Finish}
-use Rattle.task_model.specs.TaskSteps.{address_of}
 use Rattle.rv_isa.specs.Table.{instruction_of}
 use Rattle.rv_isa.specs.declared.instruction.LoadOp.{LoadOp}
 use Rattle.rv_isa.specs.declared.instruction.StoreOp.{StoreOp}
@@ -22,17 +20,10 @@ pub record Alike (s t : MachineState) : Type 0 where
   pub count : t.count ≡ s.count
   pub fuel : t.fuel ≡ s.fuel
 
--- the address of a service is in a1
-abbrev pub NamesAddress : MachineState → Service → Type 0
-NamesAddress s (Read object at) = at ≡ address_of s
-NamesAddress s (Write object at) = at ≡ address_of s
-NamesAddress s (Spawn program arg) = Unit {0}
-NamesAddress s (Finish code) = Unit {0}
-
 -- what an instruction leaves, where it does not trap
 abbrev Leaves : MachineState → StepResult → Type 0
 Leaves s (Next t) = Alike s t
-Leaves s (Calls t service) = Alike s t × NamesAddress t service
+Leaves s (Calls t service) = Alike s t × (service_of t ≡ Some service)
 Leaves s (Traps t cause) = Unit {0}
 
 same : (s : MachineState) → Alike s s
@@ -68,15 +59,9 @@ store s op at word =
     let fits : Leaves s inner = either s (nat_le (at + store_size op) (length s.memory)) done (Traps s cause.Store) (record { count = refl; fuel = refl }) tt in
     either s (at % store_size op == 0) inner (Traps s cause.StoreAlign) fits tt
 
-call : (s : MachineState) (n a0 a1 : ℕ) → a1 ≡ address_of s → Leaves s (calls s n a0 a1)
-call s n a0 a1 e =
-    let four : StepResult = if n == 4 then Calls s (Finish a0) else Traps s cause.Call in
-    let three : StepResult = if n == 3 then Calls s (Spawn a0 a1) else four in
-    let two : StepResult = if n == 2 then Calls s (Write a0 a1) else three in
-    let h4 : Leaves s four = either s (n == 4) (Calls s (Finish a0)) (Traps s cause.Call) (same s, tt) tt in
-    let h3 : Leaves s three = either s (n == 3) (Calls s (Spawn a0 a1)) four (same s, tt) h4 in
-    let h2 : Leaves s two = either s (n == 2) (Calls s (Write a0 a1)) three (same s, e) h3 in
-    either s (n == 1) (Calls s (Read a0 a1)) two (same s, e) h2
+call : (s : MachineState) (service : Option Service) → service_of s ≡ service → Leaves s (calls s service)
+call s None e = tt
+call s (Some service) e = (same s, e)
 
 instruction : (s : MachineState) (i : Instr) → Leaves s (executed s i)
 unfolding executed
@@ -90,7 +75,7 @@ instruction s (Store op rs1 rs2 imm) = store s op (sum_of s rs1 imm) (register s
 instruction s (OpImm op rd rs1 imm) = goes s _ (with_register_alike s _ _)
 instruction s (Op op rd rs1 rs2) = goes s _ (with_register_alike s _ _)
 instruction s (Fence rd rs1 bits) = goes s s (same s)
-instruction s Ecall = call s (register s 17) (register s 10) (register s 11) refl
+instruction s Ecall = call s (service_of s) refl
 instruction s Ebreak = tt
 
 decoded : (s : MachineState) (i : Option Instr) → Leaves s (executed_or_illegal s i)
@@ -105,7 +90,7 @@ pub record IsCounted (s t : MachineState) : Type 0 where
 
 abbrev pub Counts : MachineState → StepResult → Type 0
 Counts s (Next t) = IsCounted s t
-Counts s (Calls t service) = IsCounted s t × NamesAddress t service
+Counts s (Calls t service) = IsCounted s t × (service_of t ≡ Some service)
 Counts s (Traps t cause) = Unit {0}
 
 counted : (s : MachineState) (r : StepResult) → s.count < s.fuel → Leaves (record s { count = s.count + 1 }) r → Counts s r
@@ -122,5 +107,5 @@ step_counts s = by_test (nat_le s.fuel s.count) refl
         let t : MachineState = record s { count = s.count + 1 } in
         counted s (fetched t) (leb-false s.fuel s.count e) (either t (nat_le (t.pc + 4) (length t.memory)) _ _ (decoded t (instruction_of (word_at t.memory t.pc))) tt)
 
-pub read_names_address : (m s : MachineState) (o at : ℕ) → step_of m ≡ Calls s (Read o at) → at ≡ address_of s
-read_names_address m s o at e = (subst (Counts m) e (step_counts m)).1
+pub registers_name_call : (m s : MachineState) (service : Service) → step_of m ≡ Calls s service → service_of s ≡ Some service
+registers_name_call m s service e = (subst (Counts m) e (step_counts m)).1

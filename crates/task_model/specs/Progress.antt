@@ -1,6 +1,6 @@
 -- How the code's progress stands for what a run of the model has done. This project's own.
-use Rattle.std.specs.Prelude.{◌≡◌, ℕ, suc, length, map, Option, Some, None}
-use Rattle.object_sets.specs.ObjectSets.{IsIncreasing}
+use Rattle.std.specs.Prelude.{◌≡◌, ℕ, suc, List, length, map, Option, Some, None, if◌then◌else◌}
+use Rattle.object_sets.specs.ObjectSets.{IsIncreasing, is_among, with_object}
 use Rattle.rv_core.specs.State.{MachineState, StepResult}
 use Rattle.rv_core.specs.Machine.{step_of}
 use Rattle.nv_base.specs.declared.lines.Outcome.{Outcome}
@@ -20,6 +20,10 @@ pub record Stands (set : TaskSet) (objects : Objects) (e : Effects) (p : Progres
   pub written : p.written ≡ map (λ w. w.object) e.writes
   pub increasing : IsIncreasing p.written
   pub spawns : map spawn_of p.spawns ≡ e.spawns
+
+-- the objects read from outside, with one that is read now: it is among them, unless the task wrote it
+abbrev pub reads_noted : Progress → ℕ → List ℕ
+reads_noted p o = if is_among o p.written then p.reads else with_object o p.reads
 
 -- the run goes on behind the step with what was done then, or it ends
 abbrev pub LeadsTo : TaskSet → Objects → Effects → Step MachineState → Option Outcome → MachineState → Progress → Type 0

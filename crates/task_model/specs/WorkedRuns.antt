@@ -27,6 +27,30 @@ asks_for_another = 1299 ∷ 3147923 ∷ 115 ∷ 2098451 ∷ 115 ∷ []
 abbrev pub spawns_on : List ℕ
 spawns_on = 3147923 ∷ 1299 ∷ 115 ∷ 4288671855 ∷ []
 
+-- sw a0, 512(zero); li a0, 1; li a1, 512; li a2, 1; li a3, 1; li a7, 6; ecall (WRITEPART)
+abbrev pub writes_part : List ℕ
+writes_part = 547364899 ∷ 1049875 ∷ 536872339 ∷ 1050131 ∷ 1050259 ∷ 6293651 ∷ 115 ∷ []
+
+-- li a0, 1; li a1, 512; li a2, 1; li a3, 1; li a7, 5; ecall (READPART); lw a0, 512(zero)
+abbrev pub reads_part : List ℕ
+reads_part = 1049875 ∷ 536872339 ∷ 1050131 ∷ 1050259 ∷ 5245075 ∷ 115 ∷ 536880387 ∷ []
+
+-- writes_part with li a2, 2
+abbrev pub writes_past_end : List ℕ
+writes_past_end = 547364899 ∷ 1049875 ∷ 536872339 ∷ 2098707 ∷ 1050259 ∷ 6293651 ∷ 115 ∷ []
+
+-- reads_part with li a2, -1; li a3, 2, which would wrap to one word from 1 on
+abbrev pub reads_around : List ℕ
+reads_around = 1049875 ∷ 536872339 ∷ 4293920275 ∷ 2098835 ∷ 5245075 ∷ 115 ∷ []
+
+-- reads_part with li a2, 0; li a3, 0
+abbrev pub reads_none : List ℕ
+reads_none = 1049875 ∷ 536872339 ∷ 1555 ∷ 1683 ∷ 5245075 ∷ 115 ∷ []
+
+-- sw a0, 512(zero); li a0, 1; li a1, 516; li a7, 2; ecall (WRITE); li a0, 1; li a1, 512; li a2, 0; li a3, 1; li a7, 6; ecall (WRITEPART)
+abbrev pub writes_all_then_part : List ℕ
+writes_all_then_part = 547364899 ∷ 1049875 ∷ 541066643 ∷ 2099347 ∷ 115 ∷ 1049875 ∷ 536872339 ∷ 1555 ∷ 1050259 ∷ 6293651 ∷ 115 ∷ []
+
 -- li a7, 4; ecall (FINISH)
 abbrev pub finishes : List ℕ
 finishes = 4196499 ∷ 115 ∷ []
@@ -76,3 +100,21 @@ AsksForAnother = run_of asks_for_another ≡ record { outcome = trap_of cause.Pr
 -- the ninth spawn is one too many
 abbrev pub SpawnsOn : Type 0
 SpawnsOn = run_of spawns_on ≡ record { outcome = trap_of cause.Spawns; reads = []; writes = []; spawns = [] }
+
+-- a part is written, with the other words as they are: the object is read, too
+abbrev pub WritesPart : Type 0
+WritesPart = run_of (writes_part ++ finishes) ≡ record { outcome = Exit 1; reads = 1 ∷ []; writes = record { object = 1; words = 8 ∷ 7 ∷ [] } ∷ []; spawns = [] }
+
+-- a part is read
+abbrev pub ReadsPart : Type 0
+ReadsPart = run_of (reads_part ++ finishes) ≡ record { outcome = Exit 9; reads = 1 ∷ []; writes = []; spawns = [] }
+
+-- a part that is not whole in the object, whose numbers would wrap, or of no words: the trap comes before the read
+abbrev pub PartsRefused : Type 0
+PartsRefused =
+    let refused : Run = record { outcome = trap_of cause.CallRange; reads = []; writes = []; spawns = [] } in
+    (run_of writes_past_end ≡ refused) × (run_of reads_around ≡ refused) × (run_of reads_none ≡ refused)
+
+-- a part of the task's own last write: nothing is read from outside
+abbrev pub PartOfOwnWrite : Type 0
+PartOfOwnWrite = run_of (writes_all_then_part ++ finishes) ≡ record { outcome = Exit 1; reads = []; writes = record { object = 1; words = 7 ∷ 0 ∷ [] } ∷ []; spawns = [] }

@@ -1,16 +1,16 @@
 //! The machine of a task set is one that the kernel's model speaks of.
 
-ghost use Rattle.std.specs.Prelude.{◌≡◌, ℕ};
+ghost use Rattle.std.specs.Prelude.{◌≡◌, ℕ, Some};
 ghost use Rattle.rv_core.specs.State.{MachineState, Calls};
-ghost use Rattle.rv_core.specs.Machine.{step_of};
-ghost use Rattle.rv_core.specs.declared.services.Service.TheVariants.{Read};
+ghost use Rattle.rv_core.specs.Machine.{service_of, step_of};
+ghost use Rattle.rv_core.specs.declared.services.Service.{Service};
 ghost use Rattle.kernel_model.specs.Fit.{IsSetUp, IsMachine};
 ghost use Rattle.set_model.specs.Sets.{TaskSet};
 ghost use Rattle.set_model.specs.Limits.{IsTaskSet};
 ghost use Rattle.set_model.specs.Numbers.{sizes_of};
 ghost use Rattle.set_model.specs.Formatted.{formatted};
-ghost use Rattle.task_model.specs.TaskSteps.{address_of, task_steps};
-ghost use Rattle.task_model.specs.WorkedRuns.{AddsToObject, AsksForAnother, SpawnsOn, SpawnsTwo, SumsUp, TrapsAfterWrite};
+ghost use Rattle.task_model.specs.TaskSteps.{task_steps};
+ghost use Rattle.task_model.specs.WorkedRuns.{AddsToObject, AsksForAnother, PartOfOwnWrite, PartsRefused, ReadsPart, SpawnsOn, SpawnsTwo, SumsUp, TrapsAfterWrite, WritesPart};
 
 use set_model::laws::{formatted_state_is_fit, numbers_are_fit};
 
@@ -28,12 +28,12 @@ pub fn task_set_is_set_up()
     formatted_state_is_fit();
 }
 
-/// A READ names the address that a1 holds, where its words are put when they are given.
-pub fn read_names_address()
-    ensures { (m s : MachineState) (o at : ℕ) → step_of m ≡ Calls s (Read o at) → at ≡ address_of s }
+/// While a call waits, the registers name it, with all its arguments: so the machine alone says what it makes of the words that it is given.
+pub fn registers_name_call()
+    ensures { (m s : MachineState) (service : Service) → step_of m ≡ Calls s service → service_of s ≡ Some service }
 {}
 
-/// Worked runs: tasks that read, add and write, from one object to another too, and that spawn. Where one traps, it has written and spawned nothing.
+/// Worked runs: tasks that read, add and write, from one object to another too, that spawn, and that read and write a part of an object. Where one traps, it has written and spawned nothing.
 pub fn worked()
     ensures adds { AddsToObject }
     ensures traps { TrapsAfterWrite }
@@ -41,4 +41,8 @@ pub fn worked()
     ensures spawns { SpawnsTwo }
     ensures asks { AsksForAnother }
     ensures forks { SpawnsOn }
+    ensures writes_part { WritesPart }
+    ensures reads_part { ReadsPart }
+    ensures refused { PartsRefused }
+    ensures own { PartOfOwnWrite }
 {}

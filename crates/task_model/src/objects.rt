@@ -1,9 +1,10 @@
 //! The words of the objects.
 
-ghost use Rattle.std.specs.Prelude.{◌≡◌, ◌<◌, ◌≤◌, ◌++◌, ◌∷◌, [], IfOk, MatchResult, length, slice_set};
+ghost use Rattle.std.specs.Prelude.{◌≡◌, ◌<◌, ◌≤◌, ◌+◌, ◌++◌, ◌∷◌, [], IfOk, MatchResult, length, slice_set};
 ghost use Rattle.rv_core.specs.Machine.{words_at, IsPlace};
 ghost use Rattle.kernel_model.specs.Effects.{words_of};
 ghost use Rattle.set_model.specs.Formatted.{formatted};
+ghost use Rattle.task_model.specs.TaskSteps.{with_part};
 ghost use Rattle.task_model.specs.Shape.{AreAlike, HasShape};
 
 use nv_base::{NoMemory, ObjId};
@@ -52,6 +53,15 @@ impl Words {
         ensures { self.new ≡ words_at machine.now.memory at (length self.old) }
     {
         machine.copy_out(at, self.items.as_mut_slice());
+    }
+
+    // So many words, in place of those from number first on, from an address of a machine's memory.
+    fn take_part(&mut self, first: usize, count: usize, machine: &Machine, at: u32)
+        requires place { IsPlace machine.now at count }
+        requires inside { first + count ≤ length self.old }
+        ensures { self.new ≡ with_part first (words_at machine.now.memory at count) self.old }
+    {
+        machine.copy_out(at, &mut self.items.as_mut_slice()[first..first + count]);
     }
 
     fn take(&mut self, words: &[u32])
@@ -135,6 +145,23 @@ impl Objects {
         ensures { self.new ≡ slice_set self.old object (words_at machine.now.memory at (length (words_of self.old object))) }
     {
         self.items[object].take_from(machine, at);
+    }
+
+    /// Takes so many of an object's words, from number first on, from an address of a machine's memory.
+    pub(crate) fn take_part(
+        &mut self,
+        object: usize,
+        first: usize,
+        count: usize,
+        machine: &Machine,
+        at: u32,
+    )
+        requires inside { object < length self.old }
+        requires place { IsPlace machine.now at count }
+        requires range { first + count ≤ length (words_of self.old object) }
+        ensures { self.new ≡ slice_set self.old object (with_part first (words_at machine.now.memory at count) (words_of self.old object)) }
+    {
+        self.items[object].take_part(first, count, machine, at);
     }
 
     /// Takes the words of other objects, as many of each.

@@ -1,15 +1,15 @@
 //! How far a run has come, and what its services make of it.
 
-ghost use Rattle.std.specs.Prelude.{◌≡◌, ◌+◌, ◌*◌, ◌<◌, ◌≤◌, [], IfOk, OnOk, ℕ, length};
+ghost use Rattle.std.specs.Prelude.{◌≡◌, ◌+◌, ◌*◌, ◌<◌, ◌≤◌, [], IfOk, OnOk, Some, ℕ, length};
 ghost use Rattle.std.specs.Result.{result_err};
 ghost use Rattle.rv_core.specs.State.{Calls};
-ghost use Rattle.rv_core.specs.Machine.{put_words, step_of, IsPlace, Keeps};
-ghost use Rattle.rv_core.specs.declared.services.Service.TheVariants.{Read, Write, Spawn as AsksFor};
+ghost use Rattle.rv_core.specs.Machine.{put_words, service_of, step_of, IsPlace, Keeps};
+ghost use Rattle.rv_core.specs.declared.services.Service.TheVariants.{Read, ReadPart, Write, WritePart, Spawn as AsksFor};
 ghost use Rattle.kernel_model.specs.Effects.{words_of};
 ghost use Rattle.set_model.specs.Sets.{TaskSet};
-ghost use Rattle.task_model.specs.TaskSteps.{address_of, refusal};
+ghost use Rattle.task_model.specs.TaskSteps.{part_refusal, refusal};
 ghost use Rattle.task_model.specs.Shape.{HasShape};
-ghost use Rattle.task_model.specs.Progress.{Turns};
+ghost use Rattle.task_model.specs.Progress.{Turns, reads_noted};
 
 use crate::objects::Objects;
 use crate::spawns::{MAX_SPAWNS, Spawns};
@@ -70,6 +70,22 @@ impl Progress {
             Step::Call(Service::Spawn { program, arg }) => {
                 self.spawn_task(machine, programs, program, arg)
             }
+            Step::Call(
+                Service::ReadPart {
+                    object,
+                    at,
+                    first,
+                    count,
+                },
+            ) => self.read_part(machine, object, at, first, count),
+            Step::Call(
+                Service::WritePart {
+                    object,
+                    at,
+                    first,
+                    count,
+                },
+            ) => self.write_part(machine, object, at, first, count),
         }
     }
 
@@ -89,9 +105,104 @@ impl Progress {
         Ok(ObjId(object as u8))
     }
 
+    /// The tests of a READPART or a WRITEPART, in order: Object, CallRange, CallAlign, CallRange.
+    fn place_part(
+        &self,
+        machine: &Machine,
+        object: u32,
+        at: u32,
+        first: u32,
+        count: u32,
+    ) -> Result<ObjId, TrapCause>
+        ensures refusal { (set : TaskSet) → HasShape set self.now.values → result_err result ≡ part_refusal set machine.now object at first count }
+        ensures object { IfOk result (λ o. o.0 ≡ object) }
+        ensures inside { OnOk result (object < length self.now.values) }
+        ensures few { OnOk result (object < 64) }
+        ensures range { OnOk result (first + count ≤ length (words_of self.now.values object)) }
+        ensures place { OnOk result (IsPlace machine.now at count) }
+    {
+        if self.values.len() <= object as usize {
+            return Err(TrapCause::Object);
+        }
+        let words = self.values.get(object as usize);
+        if count == 0 || first as u64 + count as u64 > words.len() as u64 {
+            return Err(TrapCause::CallRange);
+        }
+        machine.fits(at, count)?;
+        Ok(ObjId(object as u8))
+    }
+
+    /// The objects read from outside, with this one, unless the task wrote it.
+    fn reads_with(&self, object: ObjId) -> Set64
+        requires { object.0 < 64 }
+        ensures { result ≡ reads_noted self.now object.0 }
+    {
+        let mut reads = self.reads;
+        if !self.written.has(object) {
+            reads.add(object);
+        }
+        reads
+    }
+
+    /// Gives some of the object's words as the task sees them.
+    fn read_part(
+        &mut self,
+        machine: &mut Machine,
+        object: u32,
+        at: u32,
+        first: u32,
+        count: u32,
+    ) -> Option<Outcome>
+        requires called { service_of machine.old ≡ Some (ReadPart object at first count) }
+        requires waits { machine.old.pc + 4 ≤ length machine.old.memory }
+        ensures turns { (programs : ℕ) → Turns programs self.old (Calls machine.old (ReadPart object at first count)) result machine.new self.new }
+        ensures kept { Keeps machine.old machine.new }
+    {
+        let o = match self.place_part(machine, object, at, first, count) {
+            Ok(o) => o,
+            Err(cause) => return Some(Outcome::Trap(cause)),
+        };
+        let words = self.values.get(o.0 as usize);
+        give_words(
+            machine,
+            at,
+            &words[first as usize..first as usize + count as usize],
+        );
+        machine.resume(None);
+        self.reads = self.reads_with(o);
+        None
+    }
+
+    /// The words at the address take the place of some of the object's, as the task sees it.
+    fn write_part(
+        &mut self,
+        machine: &mut Machine,
+        object: u32,
+        at: u32,
+        first: u32,
+        count: u32,
+    ) -> Option<Outcome>
+        requires called { service_of machine.old ≡ Some (WritePart object at first count) }
+        requires waits { machine.old.pc + 4 ≤ length machine.old.memory }
+        ensures turns { (programs : ℕ) → Turns programs self.old (Calls machine.old (WritePart object at first count)) result machine.new self.new }
+        ensures kept { Keeps machine.old machine.new }
+    {
+        let o = match self.place_part(machine, object, at, first, count) {
+            Ok(o) => o,
+            Err(cause) => return Some(Outcome::Trap(cause)),
+        };
+        let reads = self.reads_with(o);
+        self.reads = reads;
+        self.values
+            .take_part(o.0 as usize, first as usize, count as usize, machine, at);
+        self.written.add(o);
+        machine.resume(None);
+        None
+    }
+
     /// Gives the object's words as the task sees them. They are read from outside, unless the task wrote them.
     fn read_object(&mut self, machine: &mut Machine, object: u32, at: u32) -> Option<Outcome>
-        requires address { at ≡ address_of machine.old }
+        requires called { service_of machine.old ≡ Some (Read object at) }
         requires waits { machine.old.pc + 4 ≤ length machine.old.memory }
         ensures turns { (programs : ℕ) → Turns programs self.old (Calls machine.old (Read object at)) result machine.new self.new }
         ensures kept { Keeps machine.old machine.new }
@@ -102,9 +213,7 @@ impl Progress {
         };
         give_words(machine, at, self.values.get(object.0 as usize));
         machine.resume(None);
-        if !self.written.has(object) {
-            self.reads.add(object);
-        }
+        self.reads = self.reads_with(object);
         None
     }
 

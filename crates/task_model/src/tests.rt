@@ -73,6 +73,28 @@ const ENDS: [u32; 2] = [0x00400893, 0x00000073];
 // jumps to itself
 const WAITS: [u32; 1] = [0x0000006f];
 
+// writes the argument as the first word of object 1, and finishes with 1
+const WRITES_PART: [u32; 9] = [
+    0x20a02023, 0x00100513, 0x20000593, 0x00000613, 0x00100693, 0x00600893, 0x00000073, 0x00400893,
+    0x00000073,
+];
+
+// reads the last word of object 1, and finishes with it
+const READS_PART: [u32; 9] = [
+    0x00100513, 0x20000593, 0x00100613, 0x00100693, 0x00500893, 0x00000073, 0x20002503, 0x00400893,
+    0x00000073,
+];
+
+// asks for a word behind the last one of object 1
+const PAST_END: [u32; 7] = [
+    0x20a02023, 0x00100513, 0x20000593, 0x00200613, 0x00100693, 0x00600893, 0x00000073,
+];
+
+// asks for two words of object 1, from number 2^32 - 1 on
+const AROUND: [u32; 6] = [
+    0x00100513, 0x20000593, 0xfff00613, 0x00200693, 0x00500893, 0x00000073,
+];
+
 fn object(rt: &HostRuntime, name: &[u8], size: u8, words: &[u32]) -> Result<ObjPart, NoMemory> {
     Ok(ObjPart {
         name: Name::from_slice(rt.alloc(), name)?,
@@ -231,5 +253,35 @@ fn fuel_ends(rt: HostRuntime) -> Result<(), Fail> {
     assert!(rt; whole.outcome == Outcome::Exit(7));
     let whole = run(&rt, &ENDS, 1)?;
     assert!(rt; whole.outcome == Outcome::Trap(TrapCause::Fuel));
+    Ok(())
+}
+
+#[test]
+fn a_task_writes_a_part(rt: HostRuntime) -> Result<(), Fail> {
+    let whole = run(&rt, &WRITES_PART, 100)?;
+    assert!(rt; whole.outcome == Outcome::Exit(1));
+    assert!(rt; whole.reads == only(ObjId(1)));
+    assert!(rt; whole.written == only(ObjId(1)));
+    assert!(rt; has_words(&whole.values, 5, [7, 7]));
+    Ok(())
+}
+
+#[test]
+fn a_task_reads_a_part(rt: HostRuntime) -> Result<(), Fail> {
+    let whole = run(&rt, &READS_PART, 100)?;
+    assert!(rt; whole.outcome == Outcome::Exit(7));
+    assert!(rt; whole.reads == only(ObjId(1)));
+    assert!(rt; whole.written == Set64::empty());
+    Ok(())
+}
+
+#[test]
+fn a_part_is_tested(rt: HostRuntime) -> Result<(), Fail> {
+    let whole = run(&rt, &PAST_END, 100)?;
+    assert!(rt; whole.outcome == Outcome::Trap(TrapCause::CallRange));
+    assert!(rt; whole.reads == Set64::empty());
+    let whole = run(&rt, &AROUND, 100)?;
+    assert!(rt; whole.outcome == Outcome::Trap(TrapCause::CallRange));
+    assert!(rt; whole.reads == Set64::empty());
     Ok(())
 }

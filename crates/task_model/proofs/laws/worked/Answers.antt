@@ -26,3 +26,19 @@ returns-clause-asks c = refl
 pub returns-clause-forks : goal.returns-clause-forks
 unfolding executed instruction_of
 returns-clause-forks c = refl
+
+pub returns-clause-writes_part : goal.returns-clause-writes_part
+unfolding executed instruction_of
+returns-clause-writes_part c = refl
+
+pub returns-clause-reads_part : goal.returns-clause-reads_part
+unfolding executed instruction_of
+returns-clause-reads_part c = refl
+
+pub returns-clause-refused : goal.returns-clause-refused
+unfolding executed instruction_of
+returns-clause-refused c = (refl, refl, refl)
+
+pub returns-clause-own : goal.returns-clause-own
+unfolding executed instruction_of
+returns-clause-own c = refl

@@ -1,0 +1,92 @@
+-- What a service that waits makes of the words that it is given, by what it wants of them.
+use Rattle.std.proofs.Common.{◌≡◌, ℕ, ◌+◌, ◌<◌, ◌≤◌, List, [], ◌∷◌, length, take, Option, Some, None, refl, ap, ap₂, ◌∙◌, subst, sym, arith}
+use Rattle.object_sets.specs.ObjectSets.{IsIncreasing}
+use Rattle.rv_core.specs.State.{MachineState}
+use Rattle.rv_core.specs.Machine.{IsPlace, put_words, service_of, words_at}
+use Rattle.rv_core.specs.declared.services.Service.{Service}
+use Rattle.rv_core.specs.declared.services.Service.TheVariants as service
+use Rattle.kernel_model.specs.Effects.{Objects, also_written}
+use Rattle.kernel_model.specs.Items.{Item}
+use Rattle.kernel_model.specs.Cores.{Attempt, Running}
+use Rattle.kernel_model.specs.Turns.{Turn, quiet}
+use Rattle.set_model.specs.Sets.{TaskSet}
+use Rattle.task_model.specs.TaskSteps.{given_words, memory_given, part_of, past, rewritten_by, rewritten_words, with_part}
+use Rattle.task_model.proofs.MachineFacts.{length-with_part, length-words_at}
+use Rattle.kernel_core.specs.Stands.{HasDone, Hidden}
+use Rattle.kernel_core.specs.Wants.{Awaits, memory_wanted, part_in, rewritten_wanted, with_rewritten}
+use Rattle.kernel_core.specs.declared.attempt.Attempt as own
+use Rattle.kernel_core.specs.declared.kernel.Kernel.{Kernel}
+use Rattle.kernel_core.specs.declared.part.Part.{Part}
+use Rattle.kernel_core.specs.declared.part.Want.{Want}
+use Rattle.kernel_core.specs.declared.part.Want.TheVariants as want
+use Rattle.kernel_core.proofs.Tables.{written_more}
+
+-- the attempt goes on with this machine, and with new words of an object if there are some
+abbrev pub told : Hidden → ℕ → Option (List ℕ) → MachineState → Turn MachineState
+told h o new m = let a : Attempt MachineState = record h.attempt { writes = also_written o new h.attempt.writes; state = m } in quiet (Running a)
+
+pub wanted_turn : (k : Kernel) (h : Hidden) (o size : ℕ) (w : Want) (words : List ℕ) → Awaits k.machine size w → length words ≡ size
+    → told h o (rewritten_words k.machine words) (given_words k.machine words) ≡ told h o (rewritten_wanted w k.machine.memory words) (past (record k.machine { memory = memory_wanted w k.machine.memory words }))
+wanted_turn k h o size w words a l = ap₂ (told h o) (a.rewritten words l) (a.given words l)
+
+-- what was done, with the object's new words
+pub done_more : (set : TaskSet) (history : List Item) (objects : Objects) (kept : own.Attempt) (a : Attempt MachineState) (o : ℕ) (new : Option (List ℕ)) → IsIncreasing kept.written → o < length kept.words
+    → HasDone set history objects kept a → HasDone set history objects (with_rewritten kept o new) (record a { writes = also_written o new a.writes })
+done_more set history objects kept a o None i l d = record { reads = d.reads; current = d.current; writes = d.writes; spawns = d.spawns }
+done_more set history objects kept a o (Some words) i l d = record {
+  reads = d.reads;
+  current = d.current;
+  writes = written_more a.writes kept.written kept.words o words d.writes i l;
+  spawns = d.spawns;
+}
+
+-- new words are as many as the object has
+pub new_size : (w : Want) (memory words : List ℕ) (size : ℕ) → (part_in w).first + (part_in w).count ≤ size → length words ≡ size → (new : List ℕ) → rewritten_wanted w memory words ≡ Some new → length new ≡ size
+new_size (want.Give p) memory words size r l new e = absurd (cc e)
+new_size (want.Take p) memory words size r l new e =
+    let same : with_part p.first (words_at memory p.at p.count) words ≡ new = cc e in
+    ap length (sym same) ∙ length-with_part p.first (words_at memory p.at p.count) words (omega (arith, r, l, length-words_at memory p.at p.count)) ∙ l
+
+take_all : (words : List ℕ) (n : ℕ) → length words ≡ n → take n words ≡ words
+take_all [] n e = subst (λ k. take k (let none : List ℕ = [] in none) ≡ []) e refl
+take_all (x ∷ words) n e = subst (λ k. take k (x ∷ words) ≡ x ∷ words) e (ap (λ xs. x ∷ xs) (take_all words (length words) refl))
+
+-- READ wants all words at the address, READPART a part of them, and WRITEPART a part from there
+module _ (m : MachineState) (o at first count size : ℕ) where
+  abbrev part : Part
+  part = record { at = at; first = first; count = count }
+
+  as_named : (s : Service) (words : List ℕ) → service_of m ≡ Some s → given_words m words ≡ past (record m { memory = memory_given (Some s) m.memory words })
+  as_named s words e = ap (λ x. past (record m { memory = memory_given x m.memory words })) e
+
+  rewrites_as_named : (s : Service) (words : List ℕ) → service_of m ≡ Some s → rewritten_words m words ≡ rewritten_by (Some s) m.memory words
+  rewrites_as_named s words e = ap (λ x. rewritten_by x m.memory words) e
+
+  pub awaits_part : service_of m ≡ Some (service.ReadPart o at first count) → first + count ≤ size → IsPlace m at count → m.pc + 4 ≤ length m.memory → Awaits m size (want.Give part)
+  awaits_part e r p w = record {
+    inside = r;
+    place = p;
+    waits = w;
+    given = λ words l. as_named (service.ReadPart o at first count) words e;
+    rewritten = λ words l. rewrites_as_named (service.ReadPart o at first count) words e;
+  }
+
+  pub awaits_to_write : service_of m ≡ Some (service.WritePart o at first count) → first + count ≤ size → IsPlace m at count → m.pc + 4 ≤ length m.memory → Awaits m size (want.Take part)
+  awaits_to_write e r p w = record {
+    inside = r;
+    place = p;
+    waits = w;
+    given = λ words l. as_named (service.WritePart o at first count) words e;
+    rewritten = λ words l. rewrites_as_named (service.WritePart o at first count) words e;
+  }
+
+  pub awaits_all : service_of m ≡ Some (service.Read o at) → first ≡ 0 → count ≡ size → IsPlace m at size → m.pc + 4 ≤ length m.memory → Awaits m size (want.Give part)
+  awaits_all e z c p w = record {
+    inside = omega (arith, z, c);
+    place = subst (IsPlace m at) (sym c) p;
+    waits = w;
+    given = λ words l.
+        as_named (service.Read o at) words e
+        ∙ ap (λ x. past (record m { memory = put_words m.memory at x })) (sym (ap₂ (λ n f. part_of f n words) c z ∙ take_all words size l));
+    rewritten = λ words l. rewrites_as_named (service.Read o at) words e;
+  }
