@@ -1,0 +1,76 @@
+-- What stands goes on through any events, and at first the base's versions stand.
+use Rattle.std.proofs.Common.{◌≡◌, ℕ, ◌+◌, ◌<◌, ◌≤◌, List, [], ◌∷◌, get_or, length, replicate, take, arith, length-take}
+use Rattle.kernel_model.specs.Sizes.{Sizes}
+use Rattle.kernel_model.specs.Effects.{words_of}
+use Rattle.kernel_model.specs.Runs.{Steps}
+use Rattle.kernel_model.specs.Replay.{Base}
+use Rattle.kernel_model.specs.Cores.{Core, Idle}
+use Rattle.kernel_model.specs.Room.{is_needed}
+use Rattle.kernel_model.specs.Events.{Event, Power, State, event_step, opened, state_after}
+use Rattle.kernel_model.specs.Fit.{HasIds, IsSetUp}
+use Rattle.kernel_model.specs.Sound.{IsSound}
+use Rattle.kernel_model.specs.Execution.{Execution, start_of, state_at}
+use Rattle.kernel_model.proofs.ChainLaws.{floor_of_idle}
+use Rattle.kernel_model.proofs.CoreLaws.{get_or-replicate_idle}
+use Rattle.kernel_model.proofs.LiveNeeded.{base_chain}
+use Rattle.kernel_model.proofs.StepLaws.{all_sound, history-step, next_sound, opened_sound, sound-ids}
+use Rattle.slot_model.specs.Slots.{Image, IsSized}
+use Rattle.slot_model.specs.Changes.{Beside, beside_after, beside_event, first_kept}
+use Rattle.slot_model.specs.Standing.{IsLawful, StandsFor}
+use Rattle.slot_model.proofs.EventLaws.{event_stands}
+
+lawful : {M : Type 0} → (steps : Steps M) (sizes : Sizes) (base : Base) → IsSetUp steps sizes base → (s : State M) (n : ℕ) → HasIds base (length s.history + n) → IsSound steps sizes base s → IsLawful steps sizes base s
+lawful steps sizes base set_up s n l h = record { set_up = set_up; sound = h; ids = sound-ids steps sizes base set_up s.history h.history (omega (arith, l)) }
+
+-- any events
+pub events_stand : {M : Type 0} → (steps : Steps M) (sizes : Sizes) (base : Base) → IsSetUp steps sizes base → (events : List Event) (s : State M) (b : Beside) → HasIds base (length s.history + length events) → IsSound steps sizes base s → StandsFor sizes base b.floor s b.kept b.image →
+    (let a : Beside = beside_after steps sizes base s events b in StandsFor sizes base a.floor (state_after steps sizes base s events) a.kept a.image)
+events_stand steps sizes base set_up [] s b l h f = f
+events_stand steps sizes base set_up (e ∷ events) s b l h f =
+    events_stand steps sizes base set_up events (event_step steps sizes base s e).0 (beside_event steps sizes base s e b) (omega (arith, l, history-step steps sizes base s e))
+    (next_sound steps sizes base set_up s h (sound-ids steps sizes base set_up s.history h.history (omega (arith, l))) e)
+    (event_stands steps sizes base b.floor s b.kept b.image e (lawful steps sizes base set_up s (length (e ∷ events)) l h) f)
+
+few : (n : ℕ) (events : List Event) → length (take n events) ≤ length events
+few n events = let e = length-take n events in omega (arith, e)
+
+-- the first events of a run
+pub run_stands : {M : Type 0} → (x : Execution M) (n : ℕ) (b : Beside) → StandsFor x.sizes x.base b.floor (start_of x) b.kept b.image →
+    (let a : Beside = beside_after x.steps x.sizes x.base (start_of x) (take n x.events) b in StandsFor x.sizes x.base a.floor (state_at x n) a.kept a.image)
+run_stands {M} x n b f =
+    events_stand x.steps x.sizes x.base x.set_up (take n x.events) (start_of x) b (let k = few n x.events in let l : HasIds x.base (length x.events) = x.ids in omega (arith, l, k)) (opened_sound x.steps x.sizes x.base x.set_up x.cores x.power x.boots) f
+
+-- so many events, so many finishes at most
+grows : {M : Type 0} → (steps : Steps M) (sizes : Sizes) (base : Base) (events : List Event) (s : State M) → length (state_after steps sizes base s events).history ≤ length s.history + length events
+grows steps sizes base [] s = omega arith
+grows steps sizes base (e ∷ events) s = let l = grows steps sizes base events (event_step steps sizes base s e).0 in let k = history-step steps sizes base s e in omega (arith, l, k)
+
+-- in each state of a run the laws hold
+pub run_lawful : {M : Type 0} → (x : Execution M) (n : ℕ) → IsLawful x.steps x.sizes x.base (state_at x n)
+run_lawful {M} x n = record {
+  set_up = x.set_up;
+  sound = sound;
+  ids = sound-ids x.steps x.sizes x.base x.set_up (state_at x n).history sound.history (omega (arith, grows x.steps x.sizes x.base (take n x.events) (start_of x), ids));
+}
+  where
+    ids : HasIds x.base (length (take n x.events))
+    ids = let k = few n x.events in let l : HasIds x.base (length x.events) = x.ids in omega (arith, l, k)
+
+    sound : IsSound x.steps x.sizes x.base (state_at x n)
+    sound = all_sound x.steps x.sizes x.base x.set_up (take n x.events) (start_of x) (omega (arith, ids)) (opened_sound x.steps x.sizes x.base x.set_up x.cores x.power x.boots)
+
+-- at first the base's versions stand, in the slots that the device names
+pub first_stands : (M : Type 0) (sizes : Sizes) (base : Base) (cores : ℕ) (power : Power) (boots : ℕ) (named : ℕ → ℕ) (image : Image) → IsSized sizes image →
+    ((o : ℕ) → o < sizes.objects → (named o < sizes.slots o) × (image o (named o) ≡ words_of base.objects o)) → StandsFor {M = M} sizes base base.clock (opened cores power boots) (first_kept base named) image
+first_stands M sizes base cores power boots named image sized h = record {
+  since = floor_of_idle base (opened cores power boots) idle;
+  stands = record {
+    starts = λ k i e. absurd (let g = idle k in cc (g, e));
+    sized = sized;
+    objects = λ o l. record { chained = base_chain base o (is_needed base [] o (replicate cores (let c : Core M = Idle in c))); places = ((h o l).0, tt); apart = (tt, tt); words = (λ e. (h o l).1, tt) };
+    served = λ k. let e = idle k in rw e tt;
+  };
+}
+  where
+    idle : (k : ℕ) → (let c : Core M = Idle in get_or (replicate cores c) k c ≡ c)
+    idle k = get_or-replicate_idle M cores k

@@ -1,0 +1,6 @@
+use Rattle.slot_model.proofs.Fresh.{boot_idle}
+use Rattle.slot_model.proofs.CodeSide.{afresh_named}
+use Rattle.slot_model.proofs.durable_slots.afresh_names_same.Goals as goal
+
+pub returns : goal.returns
+returns g c = λ steps sizes base s kept left clock o h off. afresh_named s kept clock o (boot_idle steps sizes base s left h off)

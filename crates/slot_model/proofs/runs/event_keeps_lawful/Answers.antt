@@ -1,0 +1,5 @@
+use Rattle.slot_model.proofs.Going.{lawful_next}
+use Rattle.slot_model.proofs.runs.event_keeps_lawful.Goals as goal
+
+pub returns : goal.returns
+returns g c = λ steps sizes base s e h l. lawful_next steps sizes base s e h l

@@ -1,0 +1,5 @@
+use Rattle.slot_model.proofs.Reading.{tables_finish}
+use Rattle.slot_model.proofs.verdicts.finish_changes_tables.Goals as goal
+
+pub returns : goal.returns
+returns g c = λ steps sizes base floor s kept t n left i h at p. tables_finish steps sizes base floor s kept t n left i h at p

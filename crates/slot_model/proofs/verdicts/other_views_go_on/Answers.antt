@@ -1,0 +1,5 @@
+use Rattle.slot_model.proofs.Going.{others_on}
+use Rattle.slot_model.proofs.verdicts.other_views_go_on.Goals as goal
+
+pub returns : goal.returns
+returns g c = λ steps sizes base s kept n k h ne. others_on steps sizes base s kept n k h ne
