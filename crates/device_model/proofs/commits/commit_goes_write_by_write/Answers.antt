@@ -1,0 +1,16 @@
+use Rattle.device_model.proofs.LaidOut.{laid_out_set}
+use Rattle.device_model.specs.Layouts.{layout_of}
+use Rattle.device_model.proofs.UnderWay.{begins, one_more, cut, ends}
+use Rattle.device_model.proofs.commits.commit_goes_write_by_write.Goals as goal
+
+pub returns-clause-begins : goal.returns-clause-begins
+returns-clause-begins g = begins
+
+pub returns-clause-goes_on : goal.returns-clause-goes_on
+returns-clause-goes_on g = one_more
+
+pub returns-clause-cut : goal.returns-clause-cut
+returns-clause-cut g = λ kind set h c count words t a u. cut set (layout_of kind set) h c count words (laid_out_set kind set t) a u
+
+pub returns-clause-ends : goal.returns-clause-ends
+returns-clause-ends g = λ kind set h c count words t a u. ends set (layout_of kind set) h c count words (laid_out_set kind set t) a u

@@ -1,0 +1,5 @@
+use Rattle.device_model.proofs.Decoded.{goes_on}
+use Rattle.device_model.proofs.journals.cut_commit_goes_on.Goals as goal
+
+pub returns : goal.returns
+returns g = goes_on

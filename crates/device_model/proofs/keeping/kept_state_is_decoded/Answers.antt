@@ -1,0 +1,5 @@
+use Rattle.device_model.proofs.Decoded.{decoded}
+use Rattle.device_model.proofs.keeping.kept_state_is_decoded.Goals as goal
+
+pub returns : goal.returns
+returns g = decoded

@@ -1,0 +1,89 @@
+//! A commit, write by write.
+
+ghost use Rattle.std.specs.Prelude.{ℕ, ◌≡◌, ◌≢◌, ◌<◌, ◌+◌, ◌∷◌, ◌≤◌, Bool, true, if◌then◌else◌, List, get_or, take, length, slice_index, Option};
+ghost use Rattle.std.specs.List.{AllByRecursion};
+ghost use Rattle.kernel_model.specs.Effects.{Objects, written};
+ghost use Rattle.kernel_model.specs.Items.{Entry, Item};
+ghost use Rattle.kernel_model.specs.OpenTasks.{open_tasks};
+ghost use Rattle.kernel_model.specs.Replay.{Base};
+ghost use Rattle.kernel_model.specs.Turns as turns;
+ghost use Rattle.kernel_model.specs.Durable.{last_of, state_left};
+ghost use Rattle.kernel_model.specs.Fit.{InObjectOrder, IsBase, IsLast, IsSizes, IsWrite};
+ghost use Rattle.set_model.specs.Sets.{TaskSet, object_at};
+ghost use Rattle.set_model.specs.Limits.{IsTaskSet};
+ghost use Rattle.set_model.specs.Numbers.{sizes_of};
+ghost use Rattle.device_model.specs.Words.{Words, made, with_word};
+ghost use Rattle.device_model.specs.Layouts.{IsKindOf, Kind, Layout, layout_of, slot_place};
+ghost use Rattle.device_model.specs.IndexWords.{Index, IsIndex, base_of};
+ghost use Rattle.device_model.specs.Decoding.{Held, Stored, decode, durable_of};
+ghost use Rattle.device_model.specs.Keeping.{IsHeld, Keeps, KeepsIn};
+ghost use Rattle.device_model.specs.Commits.{Commit, IsNext, IsUnderWay, commit_of, commit_turns, commit_writes, committed, writes_by};
+ghost use Rattle.device_model.specs.Counting.{sizes_on};
+
+/// Each image of a commit before its last write keeps the state before.
+pub fn cut_commit_keeps_state()
+    ensures keeps { (kind : Kind) (set : TaskSet) (h : Held) (c : Commit) (words : Words) (k : ℕ) → IsTaskSet set → IsNext set h c → Keeps kind set h words
+        → k < length (commit_writes (layout_of kind set) set h c) → Keeps kind set h (made (take k (commit_writes (layout_of kind set) set h c)) words) }
+    ensures decodes { (format : ℕ) (kind : Kind) (set : TaskSet) (h : Held) (c : Commit) (words : Words) (k : ℕ) → IsTaskSet set → IsKindOf format kind → IsNext set h c → decode format set words ≡ Stored.Holds kind h
+        → k < length (commit_writes (layout_of kind set) set h c) → decode format set (made (take k (commit_writes (layout_of kind set) set h c)) words) ≡ Stored.Holds kind h }
+{}
+
+/// After the last write they keep the state after.
+pub fn whole_commit_keeps_next_state()
+    ensures keeps { (kind : Kind) (set : TaskSet) (h : Held) (c : Commit) (words : Words) → IsTaskSet set → IsNext set h c → Keeps kind set h words
+        → Keeps kind set (committed (layout_of kind set) set h c) (made (commit_writes (layout_of kind set) set h c) words) }
+    ensures decodes { (format : ℕ) (kind : Kind) (set : TaskSet) (h : Held) (c : Commit) (words : Words) → IsTaskSet set → IsKindOf format kind → IsNext set h c → decode format set words ≡ Stored.Holds kind h
+        → decode format set (made (commit_writes (layout_of kind set) set h c) words) ≡ Stored.Holds kind (committed (layout_of kind set) set h c) }
+{}
+
+/// A commit has as many writes as its turns. The commit of a finish has as many as the kernel's model counts, by the numbers of the set on its device; in format 1 these are the set's own.
+pub fn commit_has_turns()
+    ensures writes { (l : Layout) (set : TaskSet) (h : Held) (c : Commit) → length (commit_writes l set h c) ≡ commit_turns l set h c }
+    ensures counted { (l : Layout) (set : TaskSet) (h : Held) (i : Item) (slots : List ℕ) (base : Base) (history : List Item) → h.index.tasks ≡ open_tasks base history → length h.index.slots ≡ length set.objects → length slots ≡ length set.objects
+        → AllByRecursion (IsWrite (sizes_on l set)) i.run.writes → commit_turns l set h (commit_of h i slots) ≡ turns.commit_writes (sizes_on l set) base history i }
+    ensures format_1 { (set : TaskSet) (h : Held) (i : Item) (slots : List ℕ) (base : Base) (history : List Item) → AllByRecursion (IsWrite (sizes_of set)) i.run.writes → commit_turns (layout_of Kind.Plain set) set h (commit_of h i slots) ≡ turns.commit_writes (sizes_of set) base history i }
+{}
+
+/// The numbers of a set on a device are fit for the kernel's model; on a device of format 1 they are those of the set.
+pub fn numbers_on_device_are_fit()
+    ensures fit { (l : Layout) (set : TaskSet) → IsTaskSet set → IsSizes (sizes_on l set) }
+    ensures format_1 { (set : TaskSet) → sizes_on (layout_of Kind.Plain set) set ≡ sizes_of set }
+{}
+
+/// A slot that is not written keeps its words in each image.
+pub fn other_slot_keeps_words()
+    ensures { (kind : Kind) (set : TaskSet) (h : Held) (c : Commit) (words : Words) (k o slot i : ℕ) → IsTaskSet set → IsHeld set (layout_of kind set) h → IsNext set h c
+        → o < length set.objects → slot < (object_at set o).slots → i < (object_at set o).size → ((wds : List ℕ) → written c.writes o ≡ Option.Some wds → slice_index c.after.slots o ≢ slot)
+        → made (take k (commit_writes (layout_of kind set) set h c)) words (slot_place (layout_of kind set) set o slot + i) ≡ words (slot_place (layout_of kind set) set o slot + i) }
+{}
+
+/// The commit of a finish leaves what is durable after that finish.
+pub fn commit_lists_finish()
+    ensures { (l : Layout) (set : TaskSet) (h : Held) (i : Item) (slots : List ℕ) (base : Base) (last : Option Entry) (history : List Item) (boots : ℕ)
+        → durable_of h ≡ record { state = state_left base history; last = last_of last history; boots = boots }
+        → durable_of (committed l set h (commit_of h i slots)) ≡ record { state = state_left base (i ∷ history); last = last_of last (i ∷ history); boots = boots } }
+{}
+
+/// A state of the kernel's model, with slots that there are, has an index that a device may have.
+pub fn fit_state_has_index()
+    ensures { (set : TaskSet) (x : Index) (objects : Objects) → IsBase (sizes_of set) (base_of x objects) → IsLast (base_of x objects) x.last → length x.slots ≡ length set.objects
+        → ((o : ℕ) → o < length set.objects → slice_index x.slots o < (object_at set o).slots) → IsIndex set x }
+{}
+
+/// A commit is under way from its first write to its last: each write is the next of the list, a cut leaves the state before, and the end the state after.
+pub fn commit_goes_write_by_write()
+    ensures begins { (set : TaskSet) (l : Layout) (h : Held) (c : Commit) (words : Words) → IsNext set h c → KeepsIn set l h words → IsUnderWay set l h c 0 words }
+    ensures goes_on { (set : TaskSet) (l : Layout) (h : Held) (c : Commit) (count : ℕ) (words : Words) → count < length (commit_writes l set h c) → IsUnderWay set l h c count words
+        → IsUnderWay set l h c (count + 1) (with_word (get_or (commit_writes l set h c) count (0, 0)) words) }
+    ensures cut { (kind : Kind) (set : TaskSet) (h : Held) (c : Commit) (count : ℕ) (words : Words) → IsTaskSet set → count < length (commit_writes (layout_of kind set) set h c) → IsUnderWay set (layout_of kind set) h c count words → Keeps kind set h words }
+    ensures ends { (kind : Kind) (set : TaskSet) (h : Held) (c : Commit) (count : ℕ) (words : Words) → IsTaskSet set → length (commit_writes (layout_of kind set) set h c) ≤ count → IsUnderWay set (layout_of kind set) h c count words
+        → Keeps kind set (committed (layout_of kind set) set h c) words }
+{}
+
+/// The writes by a test of each object are in order, of the objects' sizes, and of just these objects.
+pub fn writes_by_objects()
+    ensures order { (is_written : ℕ → Bool) (words : ℕ → List ℕ) (n : ℕ) → InObjectOrder (writes_by is_written words 0 n) }
+    ensures sizes { (set : TaskSet) (is_written : ℕ → Bool) (words : ℕ → List ℕ) → ((p : ℕ) → p < length set.objects → is_written p ≡ true → length (words p) ≡ (object_at set p).size)
+        → AllByRecursion (IsWrite (sizes_of set)) (writes_by is_written words 0 (length set.objects)) }
+    ensures written { (is_written : ℕ → Bool) (words : ℕ → List ℕ) (n p : ℕ) → p < n → written (writes_by is_written words 0 n) p ≡ (if is_written p then Option.Some (words p) else Option.None) }
+{}
