@@ -1,0 +1,11 @@
+pub mod Orders
+pub mod Counts
+pub mod Installs
+pub mod Shown
+pub mod Reopens
+pub mod HeldLaws
+pub mod StandLaws
+pub mod SpareLaws
+pub mod PinLaws
+pub mod GoesOn
+pub mod PinStays

@@ -1,0 +1,4 @@
+pub mod Chains
+pub mod Slots
+pub mod Places
+pub mod StandsFor
