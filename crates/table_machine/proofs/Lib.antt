@@ -1,0 +1,17 @@
+pub mod SeatLists
+pub mod CoreTurns
+pub mod OnPower
+pub mod Joins
+pub mod PowerTurns
+pub mod CoreSteps
+pub mod CommitLists
+pub mod DeviceTurns
+pub mod Fittings
+pub mod SlotWords
+pub mod DeviceSteps
+pub mod Simulated
+pub mod Opened
+pub mod Courses
+pub mod Untouched
+pub mod EachImage
+pub mod Rooms
