@@ -12,19 +12,23 @@ use Rattle.kernel_model.proofs.FirstEvents.{count_reached}
 use Rattle.device_model.specs.IndexWords.{Index, base_of}
 use Rattle.kernel_model.specs.Replay.{Base}
 use Rattle.kernel_model.specs.Events.{Power, On, Boot, State, Event, state_after, still_owed, opened}
-use Rattle.kernel_model.specs.Durable.{durable, writes_after}
 use Rattle.kernel_model.specs.Fit.{HasIds, IsMachine}
 use Rattle.device_model.specs.Words.{Change, Words, made}
-use Rattle.device_model.specs.Decoding.{durable_of}
+use Rattle.device_model.specs.Decoding.{Stored, decode, durable_of}
 use Rattle.device_model.specs.Decoding as decoding
 use Rattle.device_model.specs.Keeping.{KeepsIn}
+use Rattle.device_model.specs.Layouts.{IsKindOf, Kind, layout_of}
+use Rattle.device_model.specs.Places.{IsLaidOut}
+use Rattle.device_model.proofs.KeepsDecodes.{keeps_decodes}
 use Rattle.device_model.proofs.Writes.{made-append}
 use Rattle.table_machine.specs.Tables.{Setting, Tables, sizes_in}
 use Rattle.table_machine.specs.Events.{Answer, Course, course, no_index, table_step, untold}
 use Rattle.table_machine.specs.Represents.{Represents, index_of, seat_of, tables_on}
 use Rattle.table_machine.specs.Simulates.{IsCourse, IsSetting, opened_tables}
+use Rattle.table_machine.specs.Configurations.{Configuration, HasIdsBy, HasIdsFor, Holds, IsRepresented, answer_at, course_at, durable_in, image_at, state_at, state_by, writes_at}
 use Rattle.table_machine.proofs.SeatLists.{length-seats, saved-same}
 use Rattle.table_machine.proofs.Courses.{course_simulates, words_hold}
+use Rattle.table_machine.proofs.Simulated.{event_simulates}
 
 -- one course after another
 abbrev pub and_then : {M : Type 0} → Course M → Course M → Course M
@@ -57,35 +61,53 @@ one_event {M} x words t events n e h = ap (course x words t) (first_events n eve
     ∙ (let c : Course M = course x words t (take n events) in let a : Answer M = table_step x (made c.log words) c.tables e in
     ap (λ (log : List Change). let r : Course M = record { tables = a.tables; log = c.log ++ log; lines = c.lines ++ a.line ∷ [] } in r) (append-nil a.writes))
 
--- each image
-pub each_image : {M : Type 0} → (x : Setting M) (base : Base) (last : Option Entry) (t : Tables M) (words : Words) (s : State M) (events : List Event) (k : ℕ) → IsSetting x → Represents x base last t words s → HasIds base (length s.history + length events) → k ≤ length (course x words t events).log →
-    (n : ℕ) × (n ≤ length events) × (writes_after x.steps (sizes_in x) base s (take n events) ≡ k) × (h : decoding.Held) × KeepsIn x.set x.layout h (made (take k (course x words t events).log) words) × (durable_of h ≡ durable base last (state_after x.steps (sizes_in x) base s (take n events)))
-each_image {M} x base last t words s events k fit r ids l = (n, p.1, p.2, held.0, subst (λ (log : List Change). KeepsIn x.set x.layout held.0 (made log words)) (sym same) held.1, held.2)
+-- words that stand for a state hold what is durable in it
+pub holds : {M : Type 0} → (d : Configuration M) → IsRepresented d → Holds d d.words d.state
+holds d r = let h = words_hold d.setting d.base d.last d.tables d.words d.state r.setting r.represents in record { held = h.0; keeps = h.1; is_durable = h.2 }
+
+-- what they hold is what they decode to
+pub holding_decodes : {M : Type 0} → (format : ℕ) (kind : Kind) (d : Configuration M) (words : Words) (s : State M) → IsSetting d.setting → d.setting.layout ≡ layout_of kind d.setting.set → IsKindOf format kind → Holds d words s →
+    (h : decoding.Held) × (decode format d.setting.set words ≡ Stored.Holds kind h) × (durable_of h ≡ durable_in d s)
+holding_decodes format kind d words s fit e k h =
+    (h.held, keeps_decodes format kind d.setting.set h.held words k (subst (IsLaidOut d.setting.set) e fit.laid_out) (subst (λ l. KeepsIn d.setting.set l h.held words) e h.keeps), h.is_durable)
+
+-- after one event more
+pub holds_after : {M : Type 0} → (d : Configuration M) (e : Event) → IsRepresented d → HasIdsBy d e → Holds d (made (answer_at d e).writes d.words) (state_by d e)
+holds_after d e r ids =
+    let a = answer_at d e in
+    let now = event_simulates d.setting d.base d.last d.tables d.words d.state e r.setting r.represents ids in
+    let h = words_hold d.setting d.base d.last a.tables (made a.writes d.words) (state_by d e) r.setting now.state in
+    record { held = h.0; keeps = h.1; is_durable = h.2 }
+
+-- each number of writes is reached
+pub image_reached : {M : Type 0} → (d : Configuration M) (events : List Event) (k : ℕ) → IsRepresented d → HasIdsFor d events → k ≤ length (course_at d events).log → (n : ℕ) × (n ≤ length events) × (writes_at d events n ≡ k)
+image_reached {M} d events k r ids l = count_reached d.setting.steps (sizes_in d.setting) d.base events d.state k (omega (arith, l, whole.writes))
   where
-    whole : IsCourse x base last t words s events
-    whole = course_simulates x base last fit events t words s ids r
+    whole : IsCourse d.setting d.base d.last d.tables d.words d.state events
+    whole = course_simulates d.setting d.base d.last r.setting events d.tables d.words d.state ids r.represents
 
-    p : (n : ℕ) × (n ≤ length events) × (writes_after x.steps (sizes_in x) base s (take n events) ≡ k)
-    p = count_reached x.steps (sizes_in x) base events s k (omega (arith, l, whole.writes))
-
-    n : ℕ
-    n = p.0
+-- the image after the writes of n events
+pub image_holds : {M : Type 0} → (d : Configuration M) (events : List Event) (n k : ℕ) → IsRepresented d → HasIdsFor d events → n ≤ length events → writes_at d events n ≡ k → Holds d (image_at d events k) (state_at d events n)
+image_holds {M} d events n k r ids few w = record { held = h.0; keeps = subst (λ (log : List Change). KeepsIn x.set x.layout h.0 (made log d.words)) (sym same) h.1; is_durable = h.2 }
+  where
+    x : Setting M
+    x = d.setting
 
     first : Course M
-    first = course x words t (take n events)
+    first = course x d.words d.tables (take n events)
 
-    begun : IsCourse x base last t words s (take n events)
-    begun = course_simulates x base last fit (take n events) t words s (omega (arith, ids, length-take-le n events p.1, p.1)) r
+    begun : IsCourse x d.base d.last d.tables d.words d.state (take n events)
+    begun = course_simulates x d.base d.last r.setting (take n events) d.tables d.words d.state (omega (arith, ids, length-take-le n events few, few)) r.represents
 
-    held : (h : decoding.Held) × KeepsIn x.set x.layout h (made first.log words) × (durable_of h ≡ durable base last (state_after x.steps (sizes_in x) base s (take n events)))
-    held = words_hold x base last first.tables (made first.log words) (state_after x.steps (sizes_in x) base s (take n events)) fit begun.state
+    h : (h : decoding.Held) × KeepsIn x.set x.layout h (made first.log d.words) × (durable_of h ≡ durable_in d (state_at d events n))
+    h = words_hold x d.base d.last first.tables (made first.log d.words) (state_at d events n) r.setting begun.state
 
-    parts : (course x words t events).log ≡ first.log ++ (course x (made first.log words) first.tables (drop n events)).log
-    parts = ap (λ (c : Course M). c.log) (ap (course x words t) (sym (take-append-drop n events)) ∙ course-append x (take n events) (drop n events) words t)
+    parts : (course_at d events).log ≡ first.log ++ (course x (made first.log d.words) first.tables (drop n events)).log
+    parts = ap (λ (c : Course M). c.log) (ap (course x d.words d.tables) (sym (take-append-drop n events)) ∙ course-append x (take n events) (drop n events) d.words d.tables)
 
-    same : take k (course x words t events).log ≡ first.log
-    same = ap (take k) parts ∙ (let z : k ≡ length first.log = sym (begun.writes ∙ p.2) in ap (λ m. take m (first.log ++ (course x (made first.log words) first.tables (drop n events)).log)) z)
-        ∙ take-append_seam first.log (course x (made first.log words) first.tables (drop n events)).log
+    same : take k (course_at d events).log ≡ first.log
+    same = ap (take k) parts ∙ (let z : k ≡ length first.log = sym (begun.writes ∙ w) in ap (λ m. take m (first.log ++ (course x (made first.log d.words) first.tables (drop n events)).log)) z)
+        ∙ take-append_seam first.log (course x (made first.log d.words) first.tables (drop n events)).log
 
 -- what the tables tell
 pub tables_tell : {M : Type 0} → (x : Setting M) (base : Base) (last : Option Entry) (t : Tables M) (words : Words) (s : State M) → Represents x base last t words s →

@@ -8,5 +8,8 @@ pub mod Events
 pub mod Represents
 -- What is to be proved, and what must be true of the device's layout.
 pub mod Simulates
+-- What the laws speak of: tables and words beside a state.
+pub mod Configurations
 -- Worked examples.
 pub mod Worked
+pub mod WorkedKinds

@@ -1,8 +1,5 @@
-use Rattle.std.proofs.Common.{subst, sym}
-use Rattle.table_machine.specs.Tables.{sizes_in}
-use Rattle.table_machine.specs.Represents.{IsFitting}
 use Rattle.table_machine.proofs.CoreSteps.{step_follows}
 use Rattle.table_machine.proofs.arms.copy_follows.Goals as goal
 
 pub returns : goal.returns
-returns g c = λ x base last ghost words s n copied a fit h f on at k. step_follows x base last ghost words s n fit h f (subst (IsFitting x.steps (sizes_in x)) (sym at) k) on
+returns g c = λ m n copied a h on at k. step_follows m.setting m.base m.last m.ghost m.words m.state n h.setting h.lawful h.slots k on

@@ -5,4 +5,4 @@ use Rattle.table_machine.proofs.CoreSteps.{step_follows}
 use Rattle.table_machine.proofs.arms.start_follows.Goals as goal
 
 pub returns : goal.returns
-returns g c = λ x base last ghost words s n fit h f on at. step_follows x base last ghost words s n fit h f (subst (IsFitting x.steps (sizes_in x)) (sym at) tt) on
+returns g c = λ m n h on at. step_follows m.setting m.base m.last m.ghost m.words m.state n h.setting h.lawful h.slots (subst (IsFitting m.setting.steps (sizes_in m.setting)) (sym at) tt) on

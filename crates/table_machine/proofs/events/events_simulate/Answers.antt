@@ -2,4 +2,4 @@ use Rattle.table_machine.proofs.Courses.{course_simulates}
 use Rattle.table_machine.proofs.events.events_simulate.Goals as goal
 
 pub returns : goal.returns
-returns g c = λ x base last t words s events fit r ids. course_simulates x base last fit events t words s ids r
+returns g c = λ d events r ids. course_simulates d.setting d.base d.last r.setting events d.tables d.words d.state ids r.represents

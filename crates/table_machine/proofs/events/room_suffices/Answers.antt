@@ -2,4 +2,4 @@ use Rattle.table_machine.proofs.Rooms.{room_suffices}
 use Rattle.table_machine.proofs.events.room_suffices.Goals as goal
 
 pub returns : goal.returns
-returns g c = λ x base last t words s e r room. room_suffices x base last t words s e r room
+returns g c = λ d e r room. room_suffices d.setting d.base d.last d.tables d.words d.state e r.represents room

@@ -7,4 +7,4 @@ use Rattle.table_machine.proofs.rows.smallest_course.Goals as goal
 
 pub returns : goal.returns
 unfolding index_word read_index is_faulty decode decode_kind fresh_word commit_writes
-returns c = ((refl, refl, refl, refl, refl), (refl, refl, refl, refl))
+returns c = (refl, refl, refl, refl, refl)
