@@ -75,6 +75,11 @@ abbrev pub words_written : List Write → ℕ
 words_written [] = 0
 words_written (w ∷ ws) = length w.words + words_written ws
 
+-- how many of these words come before those of an object
+abbrev pub words_before_object : ℕ → List Write → ℕ
+words_before_object o [] = 0
+words_before_object o (w ∷ ws) = if w.object == o then 0 else length w.words + words_before_object o ws
+
 -- all but the last write
 abbrev pub commit_body : Layout → TaskSet → Held → Commit → List Change
 commit_body l set h c = object_changes l set c.after.slots c.writes ++ page_changes l h.root c.after (is_changed l set h.index c) 0 l.pages

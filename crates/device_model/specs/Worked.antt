@@ -1,14 +1,17 @@
 -- Worked devices, computed. This project's own.
-use Rattle.std.specs.Prelude.{◌≡◌, ℕ, List, [], ◌∷◌, ◌++◌, length, codes, map, replicate, take, Some}
+use Rattle.std.specs.Prelude.{◌≡◌, ℕ, ◌+◌, List, [], ◌∷◌, ◌++◌, length, codes, map, replicate, take, Some}
 use Rattle.std.specs.List.{range_with_len}
-use Rattle.kernel_model.specs.Effects.{Exit}
+use Rattle.kernel_model.specs.Effects.{Exit, Spawn, Write}
+use Rattle.kernel_model.specs.Turns as turns
 use Rattle.set_model.specs.Sets.{TaskSet}
+use Rattle.set_model.specs.Formatted.{formatted}
 use Rattle.set_model.specs.Numbers.{index_words, first_index}
 use Rattle.device_model.specs.Words.{Words, Change, made}
-use Rattle.device_model.specs.Layouts.{Kind, Plain, Paged, Migrated, layout_of, boot_turns_of, need}
+use Rattle.device_model.specs.Layouts.{Kind, Layout, Plain, Paged, Migrated, layout_of, boot_turns_of, need}
 use Rattle.device_model.specs.Decoding.{Stored, Blank, Damaged, Holds, Held, decode}
 use Rattle.device_model.specs.Formats.{format_writes, formatted_held}
 use Rattle.device_model.specs.Commits.{Commit, commit_writes, committed}
+use Rattle.device_model.specs.Counting.{sizes_on}
 use Rattle.device_model.specs.Migrations.{migration_writes, moved_held}
 use Rattle.device_model.specs.Journals.{booted, boot_writes}
 
@@ -38,6 +41,12 @@ finish = record {
 abbrev pub no_words : Words
 no_words place = 7
 
+-- how many writes the kernel's model counts for a finish of a task as the first one, by the numbers of a set on a device
+abbrev pub counted : Layout → TaskSet → (task : ℕ) → List Write → List Spawn → ℕ
+counted l set task writes spawns =
+    turns.commit_writes (sizes_on l set) (formatted set) []
+    (record { number = 1; task = task; point = 1; first = length set.tasks + 1; run = record { outcome = Exit 0; reads = []; writes = writes; spawns = spawns } })
+
 -- its formatted state, and the words of it
 abbrev pub at_first : Kind → Held
 at_first kind = formatted_held (layout_of kind adding) adding
@@ -63,6 +72,12 @@ abbrev pub MigratedNumbers : Type 0
 MigratedNumbers =
     (need (layout_of Migrated adding) adding ≡ 117) × (boot_turns_of (layout_of Migrated adding) ≡ 56) × (length (migration_writes adding (at_first Plain)) ≡ 68)
     × (length (commit_writes (layout_of Migrated adding) adding (moved_held adding (at_first Plain)) finish) ≡ 34)
+
+-- these are what the kernel's model counts
+abbrev pub CountedNumbers : Type 0
+CountedNumbers =
+    (counted (layout_of Plain adding) adding 1 finish.writes [] ≡ 15) × (counted (layout_of Paged adding) adding 1 finish.writes [] ≡ 34)
+    × (counted (layout_of Migrated adding) adding 1 finish.writes [] ≡ 34)
 
 abbrev pub GreatestNumbers : Type 0
 GreatestNumbers = (index_words greatest ≡ 3209) × ((layout_of Paged greatest).page_words ≡ 128) × ((layout_of Paged greatest).pages ≡ 26)

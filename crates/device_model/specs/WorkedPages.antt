@@ -9,8 +9,8 @@ use Rattle.device_model.specs.Layouts.{Plain, Paged, layout_of, boot_turns_of, n
 use Rattle.device_model.specs.Decoding.{Stored, Holds, Held, decode}
 use Rattle.device_model.specs.Formats.{format_writes, formatted_held}
 use Rattle.device_model.specs.Commits.{Commit, commit_writes, committed}
-use Rattle.device_model.specs.Journals.{Act, Commits, Boots, journal, held_at}
-use Rattle.device_model.specs.Worked.{adding, at_first, finish, first_words, images_from, no_words}
+use Rattle.device_model.specs.Journals.{Act, Commits, Cuts, Boots, booted, journal}
+use Rattle.device_model.specs.Worked.{adding, at_first, counted, finish, first_words, images_from, no_words}
 
 -- a task of the one program
 abbrev pub spawn : Spawn
@@ -65,6 +65,12 @@ BranchingNumbers =
     × (need (layout_of Paged branching) branching ≡ 212) × (boot_turns_of (layout_of Paged branching) ≡ 110)
     × (turns_and_root first_task ≡ (1 + 64 + 1, 0x80000003)) × (turns_and_root last_task ≡ (2 + 64 + 1, 0x80000003)) × (turns_and_root last_forks ≡ (96 + 1, 0x80000007))
 
+-- these are what the kernel's model counts
+abbrev pub CountedPages : Type 0
+CountedPages =
+    (counted (layout_of Paged branching) branching 1 first_task.writes [] ≡ 66) × (counted (layout_of Paged branching) branching 12 last_task.writes [] ≡ 67)
+    × (counted (layout_of Paged branching) branching 12 [] (replicate 8 spawn) ≡ 97)
+
 -- after so many writes of a commit
 abbrev pub branching_image : Commit → ℕ → Stored
 branching_image c k = decode 2 branching (made (take k (commit_writes (layout_of Paged branching) branching branching_held c)) branching_words)
@@ -77,12 +83,13 @@ BranchingImages =
     × (branching_image last_forks 96 ≡ Holds Paged branching_held)
     × (branching_image last_forks 97 ≡ Holds Paged (committed (layout_of Paged branching) branching branching_held last_forks))
 
--- a boot, a commit and a boot: each image
+-- a boot, a commit that is cut after 14 of its 15 writes, a boot, and a commit: each image
 abbrev pub acts : List Act
-acts = Boots ∷ Commits finish ∷ Boots ∷ []
+acts = Boots ∷ Cuts finish 14 ∷ Boots ∷ Commits finish ∷ []
 
 abbrev pub JournalImages : Type 0
 JournalImages =
-    images_from 1 adding (journal (layout_of Plain adding) adding (at_first Plain) acts) (first_words Plain) 0 18
-    ≡ Holds Plain (at_first Plain) ∷ replicate 15 (Holds Plain (held_at (layout_of Plain adding) adding (at_first Plain) acts 1))
-    ++ Holds Plain (held_at (layout_of Plain adding) adding (at_first Plain) acts 16) ∷ Holds Plain (held_at (layout_of Plain adding) adding (at_first Plain) acts 17) ∷ []
+    images_from 1 adding (journal (layout_of Plain adding) adding (at_first Plain) acts) (first_words Plain) 0 32
+    ≡ Holds Plain (at_first Plain) ∷ replicate 15 (Holds Plain (booted (at_first Plain)))
+    ++ replicate 15 (Holds Plain (booted (booted (at_first Plain))))
+    ++ Holds Plain (committed (layout_of Plain adding) adding (booted (booted (at_first Plain))) finish) ∷ []
