@@ -1,5 +1,8 @@
 -- A device of a kind, for a task set, and what the laws say of it in few words. This project's own.
-use Rattle.std.specs.Prelude.{◌≡◌, ℕ, ◌+◌, ◌<◌, Bool, List, length, take}
+use Rattle.std.specs.Prelude.{◌≡◌, ℕ, ◌+◌, ◌<◌, Bool, List, length, take, Option}
+use Rattle.kernel_model.specs.Items.{Entry, Item}
+use Rattle.kernel_model.specs.Replay.{Base}
+use Rattle.kernel_model.specs.Durable.{Durable, last_of, state_left}
 use Rattle.set_model.specs.Sets.{TaskSet, object_at}
 use Rattle.device_model.specs.Words.{Change, Words, made, words_from}
 use Rattle.device_model.specs.Layouts.{Kind, Plain, Migrated, Layout, layout_of, need, read_place, slot_place}
@@ -101,6 +104,10 @@ journal_on d h acts = journal (layout_on d) d.set h acts
 
 abbrev pub reached_on : Device → Held → List Act → ℕ → Held
 reached_on d h acts k = held_at (layout_on d) d.set h acts k
+
+-- what is durable after a history, on a base with its last finish
+abbrev pub left_after : Base → Option Entry → (boots : ℕ) → List Item → Durable
+left_after base last boots history = record { state = state_left base history; last = last_of last history; boots = boots }
 
 -- the words after the first k writes of a list
 abbrev pub image_after : (k : ℕ) → List Change → Words → Words

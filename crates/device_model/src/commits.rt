@@ -7,7 +7,6 @@ ghost use Rattle.kernel_model.specs.Items.{Entry, Item};
 ghost use Rattle.kernel_model.specs.OpenTasks.{open_tasks};
 ghost use Rattle.kernel_model.specs.Replay.{Base};
 ghost use Rattle.kernel_model.specs.Turns as turns;
-ghost use Rattle.kernel_model.specs.Durable.{last_of, state_left, Durable};
 ghost use Rattle.kernel_model.specs.Fit.{InObjectOrder, IsBase, IsLast, IsSizes, IsWrite};
 ghost use Rattle.set_model.specs.Sets.{TaskSet, object_at};
 ghost use Rattle.set_model.specs.Limits.{IsTaskSet};
@@ -19,7 +18,7 @@ ghost use Rattle.device_model.specs.Decoding.{Held, durable_of};
 ghost use Rattle.device_model.specs.Keeping.{KeepsIn};
 ghost use Rattle.device_model.specs.Commits.{Commit, IsNext, IsUnderWay, commit_of, commit_turns, commit_writes, committed, writes_by, words_before_object, words_written};
 ghost use Rattle.device_model.specs.Counting.{sizes_on};
-ghost use Rattle.device_model.specs.Devices.{Device, HoldsOn, IsHeldOn, IsSlotWord, IsUnderWayOn, KeepsOn, commit_on, committed_on, image_after, layout_on, slot_on, slot_words_on};
+ghost use Rattle.device_model.specs.Devices.{Device, HoldsOn, IsHeldOn, IsSlotWord, IsUnderWayOn, KeepsOn, commit_on, committed_on, image_after, layout_on, left_after, slot_on, slot_words_on};
 ghost use Rattle.device_model.specs.Places.{IsLaidOut};
 
 /// Each image of a commit before its last write keeps the state before.
@@ -104,13 +103,9 @@ pub fn write_changes_one_slot()
 pub fn commit_lists_finish()
     ensures { (l : Layout) (set : TaskSet) (h : Held) (i : Item) (slots : List ℕ) (base : Base)
         → (last : Option Entry) (history : List Item) (boots : ℕ)
-        → (let left = λ (listed : List Item). let d : Durable = record {
-          state = state_left base listed;
-          last = last_of last listed;
-          boots = boots;
-        } in d in
-        durable_of h ≡ left history
-        → durable_of (committed l set h (commit_of h i slots)) ≡ left (i ∷ history)) }
+        → durable_of h ≡ left_after base last boots history
+        → durable_of (committed l set h (commit_of h i slots))
+        ≡ left_after base last boots (i ∷ history) }
 {}
 
 /// A state of the kernel's model, with slots that there are, has an index that a device may have.
