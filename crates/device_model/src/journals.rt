@@ -1,4 +1,4 @@
-//! Commits and boots, one after another, write by write.
+//! Commits, whole or cut, and boots, one after another, write by write.
 
 ghost use Rattle.std.specs.Prelude.{ℕ, ◌<◌, List, length};
 ghost use Rattle.set_model.specs.Limits.{IsTaskSet};

@@ -1,4 +1,4 @@
--- What was read keeps its words when a finish joins.
+-- What was read keeps its words at each event.
 use Rattle.std.proofs.Common.{◌≡◌, ℕ, List, [], ◌∷◌, get_or, Option, Some, None, refl, sym, subst}
 use Rattle.std.specs.List.{AllByRecursion}
 use Rattle.kernel_model.specs.Sizes.{Sizes}
