@@ -36,7 +36,8 @@ need_on d = need (layout_on d) d.set
 
 -- there is such a word of such a slot
 abbrev pub IsSlotWord : TaskSet → (object slot i : ℕ) → Type 0
-IsSlotWord set o slot i = (o < length set.objects) × (slot < (object_at set o).slots) × (i < (object_at set o).size)
+IsSlotWord set o slot i =
+    (o < length set.objects) × (slot < (object_at set o).slots) × (i < (object_at set o).size)
 
 -- its place
 abbrev pub slot_on : Device → (object slot i : ℕ) → ℕ
@@ -44,7 +45,8 @@ slot_on d o slot i = slot_place (layout_on d) d.set o slot + i
 
 -- all words of a slot
 abbrev pub slot_words_on : Device → Words → (object slot : ℕ) → List ℕ
-slot_words_on d words o slot = words_from words (slot_place (layout_on d) d.set o slot) (object_at d.set o).size
+slot_words_on d words o slot =
+    words_from words (slot_place (layout_on d) d.set o slot) (object_at d.set o).size
 
 -- the place of the word that is read as number j, by the root that stands there
 abbrev pub read_on : Device → Words → (j : ℕ) → ℕ
@@ -107,7 +109,11 @@ reached_on d h acts k = held_at (layout_on d) d.set h acts k
 
 -- what is durable after a history, on a base with its last finish
 abbrev pub left_after : Base → Option Entry → (boots : ℕ) → List Item → Durable
-left_after base last boots history = record { state = state_left base history; last = last_of last history; boots = boots }
+left_after base last boots history = record {
+  state = state_left base history;
+  last = last_of last history;
+  boots = boots;
+}
 
 -- the words after the first k writes of a list
 abbrev pub image_after : (k : ℕ) → List Change → Words → Words

@@ -52,7 +52,8 @@ AreLiveTables m t = AreTables m.sizes m.base m.base.clock m.state.history m.kept
 
 -- a slot has what a listing leaves of an object
 abbrev pub HoldsLeft : LiveMoment → List Item → (o slot : ℕ) → Type 0
-HoldsLeft m history o slot = (slot < m.sizes.slots o) × (m.image o slot ≡ words_of (state_left m.base history).objects o)
+HoldsLeft m history o slot =
+    (slot < m.sizes.slots o) × (m.image o slot ≡ words_of (state_left m.base history).objects o)
 
 -- ---- what there is at it
 
@@ -66,7 +67,8 @@ other_callers m n = all_but n (cores_of m.state.marks)
 
 -- what is kept of their attempts
 abbrev pub caller_views : LiveMoment → ℕ → List View
-caller_views m n = views_of m.base m.state.history m.kept.pins 0 (cores_of (set m.state.marks n None))
+caller_views m n =
+    views_of m.base m.state.history m.kept.pins 0 (cores_of (set m.state.marks n None))
 
 -- the interval of what a task has read
 abbrev pub mark_interval : LiveMoment → Mark → Interval

@@ -60,7 +60,9 @@ IsNamedIn m o = IsNamed m.sizes m.base m.state m.kept m.image o
 
 -- the slots that are named at first have the base's objects
 abbrev pub HoldBase : Sizes → Base → (named : ℕ → ℕ) → Image → Type 0
-HoldBase sizes base named image = (o : ℕ) → o < sizes.objects → (named o < sizes.slots o) × (image o (named o) ≡ words_of base.objects o)
+HoldBase sizes base named image =
+    (o : ℕ) → o < sizes.objects → (named o < sizes.slots o)
+    × (image o (named o) ≡ words_of base.objects o)
 
 -- ---- what there is at it
 
@@ -105,7 +107,9 @@ planned_in m n = planned m.sizes m.base m.state.history (others_in m n) m.kept
 
 -- the image after the next write of a commit that has so many left
 abbrev pub written_in : {M : Type 0} → Moment M → Item → (left : ℕ) → Image
-written_in m i left = after_write m.kept.plan (target m.sizes (commit_writes m.sizes m.base m.state.history i - left) i.run.writes) m.image
+written_in m i left =
+    after_write m.kept.plan
+    (target m.sizes (commit_writes m.sizes m.base m.state.history i - left) i.run.writes) m.image
 
 -- how many writes of a commit are beside its objects' words
 abbrev pub late_in : {M : Type 0} → Moment M → Item → ℕ
@@ -139,14 +143,27 @@ stepped m n = record m { state = (event_step m.steps m.sizes m.base m.state (Cor
 
 -- all is kept anew, from the clock on
 abbrev pub begun_afresh : {M : Type 0} → Moment M → Moment M
-begun_afresh m = record m { floor = clock_of m.base m.state.history; kept = afresh (clock_of m.base m.state.history) m.kept }
+begun_afresh m = record m {
+  floor = clock_of m.base m.state.history;
+  kept = afresh (clock_of m.base m.state.history) m.kept;
+}
 
 -- the start of a run, with this beside it, and the moment after n of its events
 abbrev pub moment_of : {M : Type 0} → Execution M → Beside → State M → Moment M
-moment_of x b s = record { steps = x.steps; sizes = x.sizes; base = x.base; floor = b.floor; state = s; kept = b.kept; image = b.image }
+moment_of x b s = record {
+  steps = x.steps;
+  sizes = x.sizes;
+  base = x.base;
+  floor = b.floor;
+  state = s;
+  kept = b.kept;
+  image = b.image;
+}
 
 abbrev pub moment_first : {M : Type 0} → Execution M → Beside → Moment M
 moment_first x first = moment_of x first (start_of x)
 
 abbrev pub moment_at : {M : Type 0} → Execution M → Beside → ℕ → Moment M
-moment_at x first n = moment_of x (beside_after x.steps x.sizes x.base (start_of x) (take n x.events) first) (state_at x n)
+moment_at x first n =
+    moment_of x (beside_after x.steps x.sizes x.base (start_of x) (take n x.events) first)
+    (state_at x n)
