@@ -56,10 +56,11 @@ read_on d words j = read_place (layout_on d) (words (layout_on d).root) j
 abbrev pub is_faulty_on : Device → Words → (j : ℕ) → Bool
 is_faulty_on d words j = is_faulty_read (layout_on d) d.set words j
 
--- the index that its words tell, and the state
+-- the index that its words tell
 abbrev pub index_on : Device → Words → Index
 index_on d words = read_index (length d.set.objects) (index_in (layout_on d) words)
 
+-- the state that they tell
 abbrev pub held_on : Device → Words → Held
 held_on d words = held_by (layout_on d) d.set words (index_on d words)
 
@@ -79,17 +80,19 @@ HoldsOn format d h words = decode format d.set words ≡ Holds d.kind h
 abbrev pub IsFreeOn : Device → Held → ℕ → Type 0
 IsFreeOn d h p = IsFree d.set (layout_on d) h p
 
--- the writes of a format, and the state that they leave
+-- the writes of a format
 abbrev pub format_on : Device → List Change
 format_on d = format_writes (layout_on d) d.set
 
+-- the state that they leave
 abbrev pub first_on : Device → Held
 first_on d = formatted_held (layout_on d) d.set
 
--- the writes of a commit, and the state that they leave
+-- the writes of a commit
 abbrev pub commit_on : Device → Held → Commit → List Change
 commit_on d h c = commit_writes (layout_on d) d.set h c
 
+-- the state that they leave
 abbrev pub committed_on : Device → Held → Commit → Held
 committed_on d h c = committed (layout_on d) d.set h c
 
@@ -97,13 +100,15 @@ committed_on d h c = committed (layout_on d) d.set h c
 abbrev pub IsUnderWayOn : Device → Held → Commit → ℕ → Words → Type 0
 IsUnderWayOn d h c count words = IsUnderWay d.set (layout_on d) h c count words
 
--- commits and boots that may follow one another, their writes, and the state after k of these
+-- commits, cut commits and boots that may follow one another
 abbrev pub AreNextOn : Device → Held → List Act → Type 0
 AreNextOn d h acts = AreNext (layout_on d) d.set h acts
 
+-- their writes
 abbrev pub journal_on : Device → Held → List Act → List Change
 journal_on d h acts = journal (layout_on d) d.set h acts
 
+-- the state after k of these
 abbrev pub reached_on : Device → Held → List Act → ℕ → Held
 reached_on d h acts k = held_at (layout_on d) d.set h acts k
 

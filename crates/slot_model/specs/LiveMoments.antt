@@ -86,10 +86,11 @@ live_free m n o = free_slot m.sizes m.base m.state.history (other_callers m n) m
 abbrev pub live_newest : LiveMoment → ℕ → ℕ
 live_newest m o = newest_slot (m.kept.chains o)
 
--- how many writes a commit has, and how many of them beside its objects' words
+-- how many writes a commit has
 abbrev pub live_writes : LiveMoment → Item → ℕ
 live_writes m i = commit_writes m.sizes m.base m.state.history i
 
+-- how many of them are beside its objects' words
 abbrev pub live_late : LiveMoment → Item → ℕ
 live_late m i = late_writes m.sizes m.base m.state.history i
 

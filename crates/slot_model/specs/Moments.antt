@@ -90,10 +90,11 @@ reads_in m start reads = read_interval m.base m.state.history start reads
 abbrev pub all_versions : {M : Type 0} → Moment M → ℕ → List Version
 all_versions m o = versions m.base o m.state.history
 
--- the slot of an object's newest version, and the one that the durable index names
+-- the slot of an object's newest version
 abbrev pub newest_in : {M : Type 0} → Moment M → ℕ → ℕ
 newest_in m o = newest_slot (m.kept.chains o)
 
+-- the slot that the durable index names of an object
 abbrev pub named_in : {M : Type 0} → Moment M → ℕ → ℕ
 named_in m o = named_slot m.state m.kept o
 
@@ -115,10 +116,11 @@ written_in m i left =
 abbrev pub late_in : {M : Type 0} → Moment M → Item → ℕ
 late_in m i = late_writes m.sizes m.base m.state.history i
 
--- what is kept of core k's attempt, and of the attempts of all but core n
+-- what tables keep of core k's attempt
 abbrev pub view_in : {M : Type 0} → Moment M → ℕ → Option View
 view_in m k = view_of m.base m.state.history (m.kept.pins k) (core_in m k)
 
+-- what they keep of the attempts of all but core n
 abbrev pub views_in : {M : Type 0} → Moment M → ℕ → List View
 views_in m n = views_of m.base m.state.history m.kept.pins 0 (set m.state.cores n Idle)
 
@@ -148,7 +150,7 @@ begun_afresh m = record m {
   kept = afresh (clock_of m.base m.state.history) m.kept;
 }
 
--- the start of a run, with this beside it, and the moment after n of its events
+-- a state of a run, with this beside it
 abbrev pub moment_of : {M : Type 0} → Execution M → Beside → State M → Moment M
 moment_of x b s = record {
   steps = x.steps;
@@ -160,9 +162,11 @@ moment_of x b s = record {
   image = b.image;
 }
 
+-- the start of a run
 abbrev pub moment_first : {M : Type 0} → Execution M → Beside → Moment M
 moment_first x first = moment_of x first (start_of x)
 
+-- after n of its events
 abbrev pub moment_at : {M : Type 0} → Execution M → Beside → ℕ → Moment M
 moment_at x first n =
     moment_of x (beside_after x.steps x.sizes x.base (start_of x) (take n x.events) first)
