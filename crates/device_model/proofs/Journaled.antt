@@ -1,7 +1,7 @@
 -- The images of commits and boots, one after another.
 use Rattle.std.proofs.Common.{◌≡◌, ◌≢◌, ℕ, zero, suc, ◌+◌, ◌-◌, ◌<◌, ◌≤◌, ⊎_elim, List, [], ◌∷◌, ◌++◌, length, slice_index, take, arith, refl, ap, sym, ◌∙◌}
 use Rattle.std.proofs.lemmas.Bool.{cases_lt}
-use Rattle.std.proofs.lemmas.List.{take-append-le}
+use Rattle.std.proofs.lemmas.List.{length-take, take-append-le, take-take}
 use Rattle.std.proofs.Math.Seq.{take-append-add}
 use Rattle.set_model.specs.Sets.{TaskSet}
 use Rattle.device_model.specs.Words.{Words, made, with_word}
@@ -9,7 +9,8 @@ use Rattle.device_model.specs.Layouts.{Layout, index_place, slot_place}
 use Rattle.device_model.specs.Decoding.{Held}
 use Rattle.device_model.specs.Keeping.{KeepsIn}
 use Rattle.device_model.specs.Places.{IsLaidOut}
-use Rattle.device_model.specs.Journals.{Act, AreNext, Boots, Commits, IsNextAct, act_writes, acted, booted, boot_writes, held_at, journal}
+use Rattle.device_model.specs.Journals.{Act, AreNext, Boots, Commits, Cuts, IsNextAct, act_writes, acted, booted, boot_writes, held_at, journal}
+use Rattle.device_model.specs.Commits.{commit_writes}
 use Rattle.device_model.proofs.PlaceLaws.{slot_place-low}
 use Rattle.device_model.proofs.Writes.{made-append, with_word-other, with_word-same}
 use Rattle.device_model.proofs.Free.{header-root, in_page}
@@ -32,13 +33,17 @@ boot_whole set l h words d s = record {
 
 -- ---- one act
 
-pub act_prefix : (set : TaskSet) (l : Layout) (h : Held) (a : Act) (words : Words) (k : ℕ) → IsLaidOut set l → IsNextAct set h a → KeepsIn set l h words → k < length (act_writes l set h a) → KeepsIn set l h (made (take k (act_writes l set h a)) words)
+pub act_prefix : (set : TaskSet) (l : Layout) (h : Held) (a : Act) (words : Words) (k : ℕ) → IsLaidOut set l → IsNextAct l set h a → KeepsIn set l h words → k < length (act_writes l set h a) → KeepsIn set l h (made (take k (act_writes l set h a)) words)
 act_prefix set l h (Commits c) words k d n s b = commit_prefix set l h c words k d n s b
+act_prefix set l h (Cuts c count) words k d n s b =
+    let e : take k (take count (commit_writes l set h c)) ≡ take k (commit_writes l set h c) = take-take k count (commit_writes l set h c) (omega (arith, b, length-take count (commit_writes l set h c))) in
+    rw e (commit_prefix set l h c words k d n.0 s (omega (arith, b, length-take count (commit_writes l set h c))))
 act_prefix set l h Boots words zero d n s b = s
 act_prefix set l h Boots words (suc k) d n s b = absurd (omega arith)
 
-pub act_whole : (set : TaskSet) (l : Layout) (h : Held) (a : Act) (words : Words) → IsLaidOut set l → IsNextAct set h a → KeepsIn set l h words → KeepsIn set l (acted l set h a) (made (act_writes l set h a) words)
+pub act_whole : (set : TaskSet) (l : Layout) (h : Held) (a : Act) (words : Words) → IsLaidOut set l → IsNextAct l set h a → KeepsIn set l h words → KeepsIn set l (acted l set h a) (made (act_writes l set h a) words)
 act_whole set l h (Commits c) words d n s = commit_whole set l h c words d n s
+act_whole set l h (Cuts c count) words d n s = commit_prefix set l h c words count d n.0 s n.1
 act_whole set l h Boots words d n s = boot_whole set l h words d s
 
 -- ---- all of them

@@ -1,10 +1,11 @@
 -- No two things stand at one place.
-use Rattle.std.proofs.Common.{◌≡◌, ◌≢◌, ℕ, zero, suc, ◌+◌, ◌-◌, ◌*◌, ◌/◌, ◌%◌, ◌<◌, ◌≤◌, ⊎_elim, List, [], ◌∷◌, length, get_or, sum_by, arith, refl, ap, sym, ◌∙◌}
+use Rattle.std.proofs.Common.{◌≡◌, ◌≢◌, ℕ, zero, suc, ◌+◌, ◌-◌, ◌*◌, ◌/◌, ◌%◌, ◌<◌, ◌≤◌, ⊎_elim, List, [], ◌∷◌, length, get_or, sum_by, true, arith, refl, ap, ap₂, sym, ◌∙◌}
 use Rattle.std.proofs.lemmas.Bool.{cases_lt, cases_eq}
 use Rattle.std.proofs.lemmas.List.Sums.{sum_by-cons}
-use Rattle.std.proofs.lemmas.Nat.{same_from_place, row_fits, row_below_turned, mod_below}
+use Rattle.std.proofs.lemmas.Nat.{div-add-mod', same_from_place, row_fits, row_below_turned, mod_below}
 use Rattle.set_model.specs.Sets.{ObjectPart, TaskSet, object_at}
-use Rattle.device_model.specs.Layouts.{Layout, copy_place, index_reads, slots_at, slots_words, slot_place, words_before, need}
+use Rattle.device_model.specs.Layouts.{Layout, copy_place, index_place, index_reads, slots_at, slots_words, slot_place, words_before, need}
+use Rattle.device_model.specs.Places.{IsLaidOut}
 
 -- ---- pages
 
@@ -27,6 +28,16 @@ copy_place-apart l p c i q d j hc hd hi hj e =
 -- index word i is word i % page_words of page i / page_words
 pub page_of : (l : Layout) (i : ℕ) → i < index_reads l → 0 < l.page_words → (i / l.page_words < l.pages) × (i % l.page_words < l.page_words)
 page_of l i h z = ((row_below_turned i l.page_words l.pages l.page_words h (omega arith)).1, mod_below i l.page_words z)
+
+-- one place is one index word
+pub index_place-apart : (set : TaskSet) (l : Layout) (root i j : ℕ) → IsLaidOut set l → l.is_root root ≡ true → i < index_reads l → j < index_reads l → index_place l root i ≡ index_place l root j → i ≡ j
+index_place-apart set l root i j d r a b e =
+    let z = d.page_words in
+    let p = page_of l i a (omega (arith, z)) in
+    let q = page_of l j b (omega (arith, z)) in
+    let apart = copy_place-apart l (i / l.page_words) (l.copy root (i / l.page_words)) (i % l.page_words) (j / l.page_words) (l.copy root (j / l.page_words)) (j % l.page_words)
+    (d.copies root (i / l.page_words) r p.0) (d.copies root (j / l.page_words) r q.0) p.1 q.1 e in
+    sym (div-add-mod' i l.page_words) ∙ ap₂ (λ (m n : ℕ). m * l.page_words + n) apart.0 apart.2 ∙ div-add-mod' j l.page_words
 
 -- ---- slots
 

@@ -14,13 +14,18 @@ abbrev pub record_word : TaskSet → List TaskRec → Words
 record_word set tasks i = slice_index (task_words tasks) (i - (9 + length set.objects))
 
 -- whether a commit with these open tasks before and after it, and these writes, writes a page
-abbrev pub is_page_written : Layout → TaskSet → (before after : List TaskRec) → List Write → ℕ → Bool
+abbrev pub is_page_written : Layout → TaskSet → (before after : List TaskRec) → List Write → ℕ
+    → Bool
 is_page_written l set before after ws page =
-    (page == 0) || (names_slot l ws page || differs (9 + length set.objects) (record_word set before) (record_word set after) (page * l.page_words) l.page_words)
+    (page == 0)
+    || (names_slot l ws page
+    || differs (9 + length set.objects) (record_word set before) (record_word set after)
+    (page * l.page_words) l.page_words)
 
 -- how many words it writes beside the objects' words: those pages, and the root
 abbrev pub index_writes_on : Layout → TaskSet → (before after : List TaskRec) → List Write → ℕ
-index_writes_on l set before after ws = count_changed (is_page_written l set before after ws) 0 l.pages * l.page_words + 1
+index_writes_on l set before after ws =
+    count_changed (is_page_written l set before after ws) 0 l.pages * l.page_words + 1
 
 -- the numbers of a set on a device
 abbrev pub sizes_on : Layout → TaskSet → Sizes

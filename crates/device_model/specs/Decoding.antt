@@ -50,25 +50,36 @@ first_fault l set words = first_true (is_faulty_read l set words) 0 (reads l)
 abbrev pub read_objects : Layout → TaskSet → Words → List ℕ → ℕ → ℕ → Objects
 read_objects l set words slots o zero = []
 read_objects l set words slots o (suc n) =
-    words_from words (slot_place l set o (slice_index slots o)) (object_at set o).size ∷ read_objects l set words slots (o + 1) n
+    words_from words (slot_place l set o (slice_index slots o)) (object_at set o).size
+    ∷ read_objects l set words slots (o + 1) n
 
 -- a state, by words of which none is faulty
 abbrev pub held_by : Layout → TaskSet → Words → Index → Held
-held_by l set words x = record { index = x; objects = read_objects l set words x.slots 0 (length set.objects); boots = words 2; root = words l.root }
+held_by l set words x = record {
+  index = x;
+  objects = read_objects l set words x.slots 0 (length set.objects);
+  boots = words 2;
+  root = words l.root;
+}
 
 -- what stands in words of a kind, by the first faulty one
 abbrev pub decided : Kind → TaskSet → Words → Option ℕ → Stored
-decided kind set words None = Holds kind (held_by (layout_of kind set) set words (read_index (length set.objects) (index_in (layout_of kind set) words)))
-decided kind set words (Some j) = Damaged (read_place (layout_of kind set) (words (layout_of kind set).root) j)
+decided kind set words None =
+    let l = layout_of kind set in
+    Holds kind (held_by l set words (read_index (length set.objects) (index_in l words)))
+decided kind set words (Some j) =
+    Damaged (read_place (layout_of kind set) (words (layout_of kind set).root) j)
 
 -- what stands in words whose first one names a kind
 unfoldable pub decode_kind : TaskSet → Words → Option Kind → Stored
 decode_kind set words None = Damaged 0
-decode_kind set words (Some kind) = decided kind set words (first_fault (layout_of kind set) set words)
+decode_kind set words (Some kind) =
+    decided kind set words (first_fault (layout_of kind set) set words)
 
 -- what stands on a device of a format
 unfoldable pub decode : (format : ℕ) → TaskSet → Words → Stored
-decode format set words = if words 0 == 0 then Blank else decode_kind set words (kind_named format (words 0))
+decode format set words =
+    if words 0 == 0 then Blank else decode_kind set words (kind_named format (words 0))
 
 -- the kernel's model of what a device holds
 abbrev pub durable_of : Held → Durable
@@ -80,4 +91,5 @@ most_worn = 4000000000
 
 -- so much has happened on a device that numbers could run out
 abbrev pub is_worn : Durable → Bool
-is_worn d = nat_lt most_worn d.state.number || (nat_lt most_worn d.state.next || nat_lt most_worn d.boots)
+is_worn d =
+    nat_lt most_worn d.state.number || (nat_lt most_worn d.state.next || nat_lt most_worn d.boots)

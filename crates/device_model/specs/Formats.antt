@@ -12,11 +12,15 @@ use Rattle.device_model.specs.Decoding.{Held}
 -- word p of the slots of some objects, the first of them number o: the objects' words in slot 0, and 0 in the others
 abbrev pub fresh_slot_word : List ObjectPart → Objects → ℕ → ℕ → ℕ
 fresh_slot_word [] objects o p = 0
-fresh_slot_word (part ∷ parts) objects o p = if nat_lt p (slots_words part) then slice_index (words_of objects o) p else fresh_slot_word parts objects (o + 1) (p - slots_words part)
+fresh_slot_word (part ∷ parts) objects o p =
+    if nat_lt p (slots_words part) then slice_index (words_of objects o) p
+    else fresh_slot_word parts objects (o + 1) (p - slots_words part)
 
 -- word p of the pages: the index in copy 0 of each page, and 0 in copy 1
 abbrev pub fresh_page_word : Layout → Index → ℕ → ℕ
-fresh_page_word l x p = if p / l.page_words % 2 == 0 then index_word x (p / l.page_words / 2 * l.page_words + p % l.page_words) else 0
+fresh_page_word l x p =
+    if p / l.page_words % 2 == 0
+    then index_word x (p / l.page_words / 2 * l.page_words + p % l.page_words) else 0
 
 -- the word at each place where a state is written anew
 unfoldable pub fresh_word : Layout → TaskSet → Index → Objects → Words
@@ -28,7 +32,12 @@ fresh_word l set x objects place =
 
 -- the state that is written anew: each object in slot 0, copy 0 of each page
 abbrev pub fresh_held : Layout → Index → Objects → ℕ → Held
-fresh_held l x objects boots = record { index = x; objects = objects; boots = boots; root = l.first_root }
+fresh_held l x objects boots = record {
+  index = x;
+  objects = objects;
+  boots = boots;
+  root = l.first_root;
+}
 
 -- the first slot of each object
 abbrev pub first_slots : TaskSet → List ℕ
@@ -36,7 +45,14 @@ first_slots set = replicate (length set.objects) 0
 
 -- the index that a format leaves
 abbrev pub formatted_index : TaskSet → Index
-formatted_index set = record { clock = 0; number = 0; next = length set.tasks + 1; last = None; slots = first_slots set; tasks = (formatted set).tasks }
+formatted_index set = record {
+  clock = 0;
+  number = 0;
+  next = length set.tasks + 1;
+  last = None;
+  slots = first_slots set;
+  tasks = (formatted set).tasks;
+}
 
 -- the state that a format leaves
 abbrev pub formatted_held : Layout → TaskSet → Held

@@ -20,7 +20,13 @@ pub record Index : Type 0 where
 
 -- the state that an index and some objects are
 abbrev pub base_of : Index → Objects → Base
-base_of x objects = record { objects = objects; tasks = x.tasks; clock = x.clock; number = x.number; next = x.next }
+base_of x objects = record {
+  objects = objects;
+  tasks = x.tasks;
+  clock = x.clock;
+  number = x.number;
+  next = x.next;
+}
 
 -- an outcome's trap number, 0 for an exit
 abbrev pub trap_word : Outcome → ℕ
@@ -39,7 +45,8 @@ outcome_of trap exit = if trap == 0 then Exit exit else Trap trap
 -- the words 3 to 7, and those behind them
 abbrev pub with_last : Option Entry → List ℕ → List ℕ
 with_last None words = 0 ∷ 0 ∷ 0 ∷ 0 ∷ 0 ∷ words
-with_last (Some e) words = e.task ∷ e.point ∷ trap_word e.outcome ∷ exit_word e.outcome ∷ e.first ∷ words
+with_last (Some e) words =
+    e.task ∷ e.point ∷ trap_word e.outcome ∷ exit_word e.outcome ∷ e.first ∷ words
 
 -- three words for each open task
 abbrev pub task_words : List TaskRec → List ℕ
@@ -48,7 +55,9 @@ task_words (t ∷ tasks) = t.id ∷ t.program ∷ t.arg ∷ task_words tasks
 
 -- the words of an index, up to its last open task's
 abbrev pub words_of_index : Index → List ℕ
-words_of_index x = x.clock ∷ x.number ∷ x.next ∷ with_last x.last (length x.tasks ∷ (x.slots ++ task_words x.tasks))
+words_of_index x =
+    x.clock ∷ x.number ∷ x.next
+    ∷ with_last x.last (length x.tasks ∷ (x.slots ++ task_words x.tasks))
 
 -- word i of the index: later records, and the padding, are 0
 unfoldable pub index_word : Index → ℕ → ℕ
@@ -56,16 +65,27 @@ index_word x i = slice_index (words_of_index x) i
 
 -- the last finish, by its words
 abbrev pub read_last : Words → Option Entry
-read_last w = if w 1 == 0 then None else Some (record { number = w 1; task = w 3; point = w 4; first = w 7; outcome = outcome_of (w 5) (w 6) })
+read_last w =
+    let outcome = outcome_of (w 5) (w 6) in
+    if w 1 == 0 then None
+    else Some (record { number = w 1; task = w 3; point = w 4; first = w 7; outcome = outcome })
 
 -- so many tasks, by their words from place i on
 abbrev pub read_tasks : Words → ℕ → ℕ → List TaskRec
 read_tasks w i zero = []
-read_tasks w i (suc n) = record { id = w i; program = w (i + 1); arg = w (i + 2) } ∷ read_tasks w (i + 3) n
+read_tasks w i (suc n) =
+    record { id = w i; program = w (i + 1); arg = w (i + 2) } ∷ read_tasks w (i + 3) n
 
 -- the index of n objects, by its words
 unfoldable pub read_index : ℕ → Words → Index
-read_index n w = record { clock = w 0; number = w 1; next = w 2; last = read_last w; slots = words_from w 9 n; tasks = read_tasks w (9 + n) (w 8) }
+read_index n w = record {
+  clock = w 0;
+  number = w 1;
+  next = w 2;
+  last = read_last w;
+  slots = words_from w 9 n;
+  tasks = read_tasks w (9 + n) (w 8);
+}
 
 -- whether word i of the last finish is faulty, by the words before it
 abbrev pub is_faulty_last : (clock next task trap i word : ℕ) → Bool
@@ -90,7 +110,8 @@ is_faulty_number records before i word =
 abbrev pub is_faulty_record : (count next id_before programs k word : ℕ) → Bool
 is_faulty_record count next id_before programs k word =
     if nat_le count (k / 3) then not (word == 0)
-    else if k % 3 == 0 then (word == 0) || (nat_le next word || (nat_le 3 k && nat_le word id_before))
+    else if k % 3 == 0
+    then (word == 0) || (nat_le next word || (nat_le 3 k && nat_le word id_before))
     else if k % 3 == 1 then nat_le programs word
     else false
 
@@ -99,7 +120,9 @@ unfoldable pub is_faulty : TaskSet → Words → ℕ → ℕ → Bool
 is_faulty set before i word =
     if nat_lt i 9 then is_faulty_number set.records before i word
     else if nat_lt i (9 + length set.objects) then nat_le (object_at set (i - 9)).slots word
-    else if nat_lt i (9 + length set.objects + 3 * set.records) then is_faulty_record (before 8) (before 2) (before (i - 3)) (length set.programs) (i - (9 + length set.objects)) word
+    else if nat_lt i (9 + length set.objects + 3 * set.records)
+    then is_faulty_record (before 8) (before 2) (before (i - 3)) (length set.programs)
+    (i - (9 + length set.objects)) word
     else not (word == 0)
 
 -- what holds of an index that a device may have

@@ -12,7 +12,8 @@ use Rattle.device_model.specs.Decoding.{Held}
 pub record IsHeld (set : TaskSet) (l : Layout) (h : Held) : Type 0 where
   pub index : IsIndex set h.index
   pub objects : length h.objects ≡ length set.objects
-  pub words : (o : ℕ) → o < length set.objects → length (words_of h.objects o) ≡ (object_at set o).size
+  pub words : (o : ℕ) → o < length set.objects
+      → length (words_of h.objects o) ≡ (object_at set o).size
   pub root : l.is_root h.root ≡ true
 
 -- the words that are read keep the state
@@ -22,7 +23,9 @@ pub record KeepsIn (set : TaskSet) (l : Layout) (h : Held) (words : Words) : Typ
   pub boots : words 2 ≡ h.boots
   pub root : words l.root ≡ h.root
   pub index : (i : ℕ) → i < index_reads l → words (index_place l h.root i) ≡ index_word h.index i
-  pub objects : (o i : ℕ) → o < length set.objects → i < (object_at set o).size → words (slot_place l set o (slice_index h.index.slots o) + i) ≡ slice_index (words_of h.objects o) i
+  pub objects : (o i : ℕ) → o < length set.objects → i < (object_at set o).size
+      → words (slot_place l set o (slice_index h.index.slots o) + i)
+      ≡ slice_index (words_of h.objects o) i
 
 abbrev pub Keeps : Kind → TaskSet → Held → Words → Type 0
 Keeps kind set h words = KeepsIn set (layout_of kind set) h words
@@ -32,4 +35,5 @@ pub record IsFree (set : TaskSet) (l : Layout) (h : Held) (p : ℕ) : Type 0 whe
   pub header : first_index set ≤ p
   pub root : p ≢ l.root
   pub index : (i : ℕ) → i < index_reads l → p ≢ index_place l h.root i
-  pub objects : (o i : ℕ) → o < length set.objects → i < (object_at set o).size → p ≢ slot_place l set o (slice_index h.index.slots o) + i
+  pub objects : (o i : ℕ) → o < length set.objects → i < (object_at set o).size
+      → p ≢ slot_place l set o (slice_index h.index.slots o) + i

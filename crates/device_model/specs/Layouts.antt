@@ -46,7 +46,9 @@ bit number k = number / 2 ^ k % 2
 -- a number with some of its first n bits turned: bit k of it is numbered from + k
 abbrev pub turned_bits : (ℕ → Bool) → ℕ → ℕ → ℕ → ℕ
 turned_bits turns from zero number = number
-turned_bits turns from (suc n) number = (if turns from then 1 - number % 2 else number % 2) + 2 * turned_bits turns (from + 1) n (number / 2)
+turned_bits turns from (suc n) number =
+    (if turns from then 1 - number % 2 else number % 2)
+    + 2 * turned_bits turns (from + 1) n (number / 2)
 
 -- a device of a format may be of a kind
 abbrev pub IsKindOf : (format : ℕ) → Kind → Type 0
@@ -108,7 +110,8 @@ copy_place l page copy i = l.pages_at + (2 * page + copy) * l.page_words + i
 
 -- the place of index word i, by the root
 abbrev pub index_place : Layout → (root i : ℕ) → ℕ
-index_place l root i = copy_place l (i / l.page_words) (l.copy root (i / l.page_words)) (i % l.page_words)
+index_place l root i =
+    copy_place l (i / l.page_words) (l.copy root (i / l.page_words)) (i % l.page_words)
 
 -- where the slots begin: behind both copies of all pages
 abbrev pub slots_at : Layout → ℕ
@@ -144,7 +147,8 @@ program_words p = p.fuel ∷ length p.code ∷ []
 abbrev pub header : ℕ → TaskSet → List ℕ
 header magic set =
     magic ∷ 0 ∷ 0 ∷ length set.objects ∷ set.records ∷ length set.programs ∷ set.memory
-    ∷ (map object_word set.objects ++ (flat_map program_words set.programs ++ flat_map (λ p. p.code) set.programs))
+    ∷ (map object_word set.objects
+    ++ (flat_map program_words set.programs ++ flat_map (λ p. p.code) set.programs))
 
 -- word j of these
 abbrev pub header_word : Layout → TaskSet → ℕ → ℕ
@@ -166,7 +170,9 @@ reads l = l.head_reads + index_reads l
 
 -- the place of the word that is read as number j
 abbrev pub read_place : Layout → (root j : ℕ) → ℕ
-read_place l root j = if nat_lt j l.head_reads then (if j == l.root_read then l.root else j) else index_place l root (j - l.head_reads)
+read_place l root j =
+    if nat_lt j l.head_reads then (if j == l.root_read then l.root else j)
+    else index_place l root (j - l.head_reads)
 
 -- how many turns a boot takes: one for each word that is read, and one that writes the boots
 abbrev pub boot_turns_of : Layout → ℕ

@@ -12,6 +12,8 @@ pub mod Commits
 pub mod Counting
 pub mod Migrations
 pub mod Journals
+-- Short names for the laws.
+pub mod Devices
 -- Worked examples.
 pub mod Worked
 pub mod WorkedPages

@@ -10,7 +10,14 @@ use Rattle.device_model.specs.Formats.{first_slots, fresh_held, fresh_word}
 
 -- the index that a migration leaves: each object is put in slot 0
 abbrev pub moved_index : TaskSet → Index → Index
-moved_index set x = record { clock = x.clock; number = x.number; next = x.next; last = x.last; slots = first_slots set; tasks = x.tasks }
+moved_index set x = record {
+  clock = x.clock;
+  number = x.number;
+  next = x.next;
+  last = x.last;
+  slots = first_slots set;
+  tasks = x.tasks;
+}
 
 -- the state that a migration leaves
 abbrev pub moved_held : TaskSet → Held → Held
@@ -22,7 +29,10 @@ moved_word set h = fresh_word (layout_of Migrated set) set (moved_index set h.in
 
 -- all but the last write: the root, the pages and the slots behind the old words, in order of place
 abbrev pub migration_body : TaskSet → Held → List Change
-migration_body set h = written_at (words_needed set) (words_from (moved_word set h) (words_needed set) (need (layout_of Migrated set) set - words_needed set))
+migration_body set h =
+    written_at (words_needed set)
+    (words_from (moved_word set h) (words_needed set)
+    (need (layout_of Migrated set) set - words_needed set))
 
 -- the writes of a migration: the magic comes last
 unfoldable pub migration_writes : TaskSet → Held → List Change

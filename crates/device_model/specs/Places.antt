@@ -20,5 +20,8 @@ pub record IsLaidOut (set : TaskSet) (l : Layout) : Type 0 where
   pub is_first_root : l.is_root l.first_root ≡ true
   pub first_copy : (page : ℕ) → page < l.pages → l.copy l.first_root page ≡ 0
   pub copies : (root page : ℕ) → l.is_root root ≡ true → page < l.pages → l.copy root page < 2
-  pub is_flipped : (turns : ℕ → Bool) (root : ℕ) → l.is_root root ≡ true → l.is_root (l.flipped turns root) ≡ true
-  pub other_copy : (turns : ℕ → Bool) (root page : ℕ) → l.is_root root ≡ true → page < l.pages → l.copy (l.flipped turns root) page ≡ (if turns page then 1 - l.copy root page else l.copy root page)
+  pub is_flipped : (turns : ℕ → Bool) (root : ℕ) → l.is_root root ≡ true
+      → l.is_root (l.flipped turns root) ≡ true
+  pub other_copy : (turns : ℕ → Bool) (root page : ℕ) → l.is_root root ≡ true → page < l.pages
+      → l.copy (l.flipped turns root) page
+      ≡ (if turns page then 1 - l.copy root page else l.copy root page)

@@ -1,16 +1,23 @@
 -- Worked devices, computed. This project's own.
-use Rattle.std.specs.Prelude.{◌≡◌, ℕ, List, [], ◌∷◌, ◌++◌, length, codes, map, replicate, take, Some}
+use Rattle.std.specs.Prelude.{◌≡◌, ℕ, ◌+◌, List, [], ◌∷◌, ◌++◌, length, codes, map, replicate, take, Some}
 use Rattle.std.specs.List.{range_with_len}
-use Rattle.kernel_model.specs.Effects.{Exit}
-use Rattle.set_model.specs.Sets.{TaskSet}
+use Rattle.kernel_model.specs.Effects.{Exit, Run, Spawn, Write}
+use Rattle.kernel_model.specs.Turns as turns
+use Rattle.set_model.specs.Sets.{ObjectPart, TaskSet}
+use Rattle.set_model.specs.Formatted.{formatted}
 use Rattle.set_model.specs.Numbers.{index_words, first_index}
 use Rattle.device_model.specs.Words.{Words, Change, made}
-use Rattle.device_model.specs.Layouts.{Kind, Plain, Paged, Migrated, layout_of, boot_turns_of, need}
+use Rattle.device_model.specs.Layouts.{Kind, Layout, Plain, Paged, Migrated, layout_of, boot_turns_of, need}
 use Rattle.device_model.specs.Decoding.{Stored, Blank, Damaged, Holds, Held, decode}
 use Rattle.device_model.specs.Formats.{format_writes, formatted_held}
 use Rattle.device_model.specs.Commits.{Commit, commit_writes, committed}
+use Rattle.device_model.specs.Counting.{sizes_on}
 use Rattle.device_model.specs.Migrations.{migration_writes, moved_held}
 use Rattle.device_model.specs.Journals.{booted, boot_writes}
+
+-- an object of one word
+abbrev pub word_object : ObjectPart
+word_object = record { name = codes "x"; size = 1; slots = 2; first = 5 ∷ [] }
 
 -- one object, one program of twelve words, one task
 abbrev pub adding : TaskSet
@@ -18,25 +25,43 @@ adding = record {
   cores = 1;
   memory = 1024;
   records = 1;
-  objects = record { name = codes "x"; size = 1; slots = 2; first = 5 ∷ [] } ∷ [];
+  objects = word_object ∷ [];
   programs = record { name = codes "add"; fuel = 100; code = replicate 12 115 } ∷ [];
   tasks = record { program = 0; arg = 7 } ∷ [];
 }
 
 -- many objects and records
 abbrev pub greatest : TaskSet
-greatest = record adding { records = 1024; objects = replicate 128 (record { name = codes "x"; size = 1; slots = 2; first = 5 ∷ [] }) }
+greatest = record adding {
+  records = 1024;
+  objects = replicate 128 word_object;
+}
 
 -- its task finishes at point 1, and writes 12 to x
 abbrev pub finish : Commit
 finish = record {
   writes = record { object = 0; words = 12 ∷ [] } ∷ [];
-  after = record { clock = 1; number = 1; next = 2; last = Some (record { number = 1; task = 1; point = 1; first = 2; outcome = Exit 0 }); slots = 1 ∷ []; tasks = [] };
+  after = record {
+    clock = 1;
+    number = 1;
+    next = 2;
+    last = Some (record { number = 1; task = 1; point = 1; first = 2; outcome = Exit 0 });
+    slots = 1 ∷ [];
+    tasks = [];
+  };
 }
 
 -- a device that holds no state
 abbrev pub no_words : Words
 no_words place = 7
+
+-- how many writes the kernel's model counts for a finish of a task as the first one, by the numbers of a set on a device
+abbrev pub counted : Layout → TaskSet → (task : ℕ) → List Write → List Spawn → ℕ
+counted l set task writes spawns =
+    let run : Run = record { outcome = Exit 0; reads = []; writes = writes; spawns = spawns } in
+    let first = length set.tasks + 1 in
+    turns.commit_writes (sizes_on l set) (formatted set) []
+    (record { number = 1; task = task; point = 1; first = first; run = run })
 
 -- its formatted state, and the words of it
 abbrev pub at_first : Kind → Held
@@ -45,41 +70,67 @@ at_first kind = formatted_held (layout_of kind adding) adding
 abbrev pub first_words : Kind → Words
 first_words kind = made (format_writes (layout_of kind adding) adding) no_words
 
+-- that state, migrated
+abbrev pub moved_first : Held
+moved_first = moved_held adding (at_first Plain)
+
 -- what the images of some writes decode to, from the first write on
 abbrev pub images_from : (format : ℕ) → TaskSet → List Change → Words → ℕ → ℕ → List Stored
-images_from format set log words k n = map (λ i. decode format set (made (take i log) words)) (range_with_len k n)
+images_from format set log words k n =
+    map (λ i. decode format set (made (take i log) words)) (range_with_len k n)
 
 abbrev pub PlainNumbers : Type 0
 PlainNumbers =
-    (index_words adding ≡ 13) × (first_index adding ≡ 22) × (need (layout_of Plain adding) adding ≡ 50) × (boot_turns_of (layout_of Plain adding) ≡ 36)
-    × (length (format_writes (layout_of Plain adding) adding) ≡ 51) × (length (commit_writes (layout_of Plain adding) adding (at_first Plain) finish) ≡ 15)
+    (index_words adding ≡ 13) × (first_index adding ≡ 22)
+    × (need (layout_of Plain adding) adding ≡ 50) × (boot_turns_of (layout_of Plain adding) ≡ 36)
+    × (length (format_writes (layout_of Plain adding) adding) ≡ 51)
+    × (length (commit_writes (layout_of Plain adding) adding (at_first Plain) finish) ≡ 15)
 
 abbrev pub PagedNumbers : Type 0
 PagedNumbers =
-    ((layout_of Paged adding).page_words ≡ 32) × ((layout_of Paged adding).pages ≡ 1) × (need (layout_of Paged adding) adding ≡ 89) × (boot_turns_of (layout_of Paged adding) ≡ 56)
-    × (length (format_writes (layout_of Paged adding) adding) ≡ 90) × (length (commit_writes (layout_of Paged adding) adding (at_first Paged) finish) ≡ 34)
+    ((layout_of Paged adding).page_words ≡ 32) × ((layout_of Paged adding).pages ≡ 1)
+    × (need (layout_of Paged adding) adding ≡ 89) × (boot_turns_of (layout_of Paged adding) ≡ 56)
+    × (length (format_writes (layout_of Paged adding) adding) ≡ 90)
+    × (length (commit_writes (layout_of Paged adding) adding (at_first Paged) finish) ≡ 34)
 
 abbrev pub MigratedNumbers : Type 0
 MigratedNumbers =
-    (need (layout_of Migrated adding) adding ≡ 117) × (boot_turns_of (layout_of Migrated adding) ≡ 56) × (length (migration_writes adding (at_first Plain)) ≡ 68)
-    × (length (commit_writes (layout_of Migrated adding) adding (moved_held adding (at_first Plain)) finish) ≡ 34)
+    (need (layout_of Migrated adding) adding ≡ 117)
+    × (boot_turns_of (layout_of Migrated adding) ≡ 56)
+    × (length (migration_writes adding (at_first Plain)) ≡ 68)
+    × (length (commit_writes (layout_of Migrated adding) adding moved_first finish) ≡ 34)
+
+-- these are what the kernel's model counts
+abbrev pub CountedNumbers : Type 0
+CountedNumbers =
+    (counted (layout_of Plain adding) adding 1 finish.writes [] ≡ 15)
+    × (counted (layout_of Paged adding) adding 1 finish.writes [] ≡ 34)
+    × (counted (layout_of Migrated adding) adding 1 finish.writes [] ≡ 34)
 
 abbrev pub GreatestNumbers : Type 0
-GreatestNumbers = (index_words greatest ≡ 3209) × ((layout_of Paged greatest).page_words ≡ 128) × ((layout_of Paged greatest).pages ≡ 26)
+GreatestNumbers =
+    (index_words greatest ≡ 3209) × ((layout_of Paged greatest).page_words ≡ 128)
+    × ((layout_of Paged greatest).pages ≡ 26)
 
 -- inside a format nothing stands there, and then the first state
 abbrev pub FormatImages : Type 0
 FormatImages =
-    (images_from 1 adding (format_writes (layout_of Plain adding) adding) no_words 1 51 ≡ replicate 50 Blank ++ Holds Plain (at_first Plain) ∷ [])
-    × (images_from 2 adding (format_writes (layout_of Paged adding) adding) no_words 1 90 ≡ replicate 89 Blank ++ Holds Paged (at_first Paged) ∷ [])
+    (images_from 1 adding (format_writes (layout_of Plain adding) adding) no_words 1 51
+    ≡ replicate 50 Blank ++ Holds Plain (at_first Plain) ∷ [])
+    × (images_from 2 adding (format_writes (layout_of Paged adding) adding) no_words 1 90
+    ≡ replicate 89 Blank ++ Holds Paged (at_first Paged) ∷ [])
 
 -- a commit is the state before it, until its last write
 abbrev pub CommitImages : Type 0
 CommitImages =
-    (images_from 1 adding (commit_writes (layout_of Plain adding) adding (at_first Plain) finish) (first_words Plain) 0 16
-    ≡ replicate 15 (Holds Plain (at_first Plain)) ++ Holds Plain (committed (layout_of Plain adding) adding (at_first Plain) finish) ∷ [])
-    × (images_from 2 adding (commit_writes (layout_of Paged adding) adding (at_first Paged) finish) (first_words Paged) 0 35
-    ≡ replicate 34 (Holds Paged (at_first Paged)) ++ Holds Paged (committed (layout_of Paged adding) adding (at_first Paged) finish) ∷ [])
+    (images_from 1 adding (commit_writes (layout_of Plain adding) adding (at_first Plain) finish)
+    (first_words Plain) 0 16
+    ≡ replicate 15 (Holds Plain (at_first Plain))
+    ++ Holds Plain (committed (layout_of Plain adding) adding (at_first Plain) finish) ∷ [])
+    × (images_from 2 adding (commit_writes (layout_of Paged adding) adding (at_first Paged) finish)
+    (first_words Paged) 0 35
+    ≡ replicate 34 (Holds Paged (at_first Paged))
+    ++ Holds Paged (committed (layout_of Paged adding) adding (at_first Paged) finish) ∷ [])
     × ((committed (layout_of Plain adding) adding (at_first Plain) finish).objects ≡ (12 ∷ []) ∷ [])
     × ((committed (layout_of Plain adding) adding (at_first Plain) finish).root ≡ 2)
     × ((committed (layout_of Paged adding) adding (at_first Paged) finish).root ≡ 0x80000001)
@@ -88,11 +139,14 @@ CommitImages =
 abbrev pub MigrationImages : Type 0
 MigrationImages =
     images_from 2 adding (migration_writes adding (at_first Plain)) (first_words Plain) 0 69
-    ≡ replicate 68 (Holds Plain (at_first Plain)) ++ Holds Migrated (moved_held adding (at_first Plain)) ∷ []
+    ≡ replicate 68 (Holds Plain (at_first Plain))
+    ++ Holds Migrated moved_first ∷ []
 
 -- a boot counts
 abbrev pub BootImage : Type 0
-BootImage = decode 1 adding (made (boot_writes (at_first Plain)) (first_words Plain)) ≡ Holds Plain (booted (at_first Plain))
+BootImage =
+    decode 1 adding (made (boot_writes (at_first Plain)) (first_words Plain))
+    ≡ Holds Plain (booted (at_first Plain))
 
 -- a word in place of another, and what is damaged then
 abbrev pub damaged_at : (format place word : ℕ) → Words → Stored
@@ -100,9 +154,19 @@ damaged_at format place word words = decode format adding (made ((place, word) �
 
 abbrev pub Damages : Type 0
 Damages =
-    (damaged_at 1 0 0 (first_words Plain) ≡ Blank) × (damaged_at 1 0 1 (first_words Plain) ≡ Damaged 0) × (damaged_at 1 1 0 (first_words Plain) ≡ Damaged 1)
-    × (damaged_at 1 1 2 (first_words Plain) ≡ Damaged 37) × (damaged_at 1 3 2 (first_words Plain) ≡ Damaged 3) × (damaged_at 1 21 0 (first_words Plain) ≡ Damaged 21)
-    × (damaged_at 1 22 1 (first_words Plain) ≡ Damaged 23) × (damaged_at 1 30 2 (first_words Plain) ≡ Damaged 30) × (damaged_at 1 31 2 (first_words Plain) ≡ Damaged 31)
-    × (damaged_at 1 32 0 (first_words Plain) ≡ Damaged 32) × (damaged_at 1 33 1 (first_words Plain) ≡ Damaged 33)
-    × (damaged_at 2 22 0x80000002 (first_words Paged) ≡ Damaged 22) × (damaged_at 2 22 1 (first_words Paged) ≡ Damaged 22) × (damaged_at 2 22 0x80000001 (first_words Paged) ≡ Damaged 57)
-    × (damaged_at 2 36 1 (first_words Paged) ≡ Damaged 36) × (damaged_at 1 0 0x324B564E (first_words Plain) ≡ Damaged 0)
+    (damaged_at 1 0 0 (first_words Plain) ≡ Blank)
+    × (damaged_at 1 0 1 (first_words Plain) ≡ Damaged 0)
+    × (damaged_at 1 1 0 (first_words Plain) ≡ Damaged 1)
+    × (damaged_at 1 1 2 (first_words Plain) ≡ Damaged 37)
+    × (damaged_at 1 3 2 (first_words Plain) ≡ Damaged 3)
+    × (damaged_at 1 21 0 (first_words Plain) ≡ Damaged 21)
+    × (damaged_at 1 22 1 (first_words Plain) ≡ Damaged 23)
+    × (damaged_at 1 30 2 (first_words Plain) ≡ Damaged 30)
+    × (damaged_at 1 31 2 (first_words Plain) ≡ Damaged 31)
+    × (damaged_at 1 32 0 (first_words Plain) ≡ Damaged 32)
+    × (damaged_at 1 33 1 (first_words Plain) ≡ Damaged 33)
+    × (damaged_at 2 22 0x80000002 (first_words Paged) ≡ Damaged 22)
+    × (damaged_at 2 22 1 (first_words Paged) ≡ Damaged 22)
+    × (damaged_at 2 22 0x80000001 (first_words Paged) ≡ Damaged 57)
+    × (damaged_at 2 36 1 (first_words Paged) ≡ Damaged 36)
+    × (damaged_at 1 0 0x324B564E (first_words Plain) ≡ Damaged 0)

@@ -9,24 +9,37 @@ ghost use Rattle.device_model.specs.Layouts.{Kind, boot_turns_of, header_word, i
 pub fn format_1_begins()
     ensures magic { (set : TaskSet) → header_word (layout_of Kind.Plain set) set 0 ≡ 0x314B564E }
     ensures root { (set : TaskSet) → (layout_of Kind.Plain set).root ≡ 1 }
-    ensures roots { (set : TaskSet) (word : ℕ) → (layout_of Kind.Plain set).is_root word ≡ ((word == 1) || (word == 2)) }
-    ensures numbers { (set : TaskSet) → (header_word (layout_of Kind.Plain set) set 3 ≡ length set.objects) × (header_word (layout_of Kind.Plain set) set 4 ≡ set.records) × (header_word (layout_of Kind.Plain set) set 5 ≡ length set.programs) × (header_word (layout_of Kind.Plain set) set 6 ≡ set.memory) }
+    ensures roots { (set : TaskSet) (word : ℕ)
+        → (layout_of Kind.Plain set).is_root word ≡ ((word == 1) || (word == 2)) }
+    ensures numbers { (set : TaskSet)
+        → (let word = header_word (layout_of Kind.Plain set) set in
+        (word 3 ≡ length set.objects) × (word 4 ≡ set.records) × (word 5 ≡ length set.programs)
+        × (word 6 ≡ set.memory)) }
 {}
 
 /// Root 1 names the index copy behind the code, root 2 the one behind that, and the slots stand behind both, by object, slot 0 first.
 pub fn format_1_goes_on()
-    ensures first { (set : TaskSet) (i : ℕ) → i < index_words set → index_place (layout_of Kind.Plain set) 1 i ≡ first_index set + i }
-    ensures second { (set : TaskSet) (i : ℕ) → i < index_words set → index_place (layout_of Kind.Plain set) 2 i ≡ first_index set + index_words set + i }
-    ensures slots { (set : TaskSet) (o slot : ℕ) → slot_place (layout_of Kind.Plain set) set o slot ≡ first_index set + 2 * index_words set + words_before set.objects o + (object_at set o).size * slot }
+    ensures first { (set : TaskSet) (i : ℕ) → i < index_words set
+        → index_place (layout_of Kind.Plain set) 1 i ≡ first_index set + i }
+    ensures second { (set : TaskSet) (i : ℕ) → i < index_words set
+        → index_place (layout_of Kind.Plain set) 2 i ≡ first_index set + index_words set + i }
+    ensures slots { (set : TaskSet) (o slot : ℕ)
+        → slot_place (layout_of Kind.Plain set) set o slot
+        ≡ first_index set + 2 * index_words set + words_before set.objects o
+        + (object_at set o).size * slot }
 {}
 
 /// The words that a device needs, and the turns of a boot, are those that are counted for the kernel's model.
 pub fn format_1_is_counted()
-    ensures { (set : TaskSet) → (need (layout_of Kind.Plain set) set ≡ words_needed set) × (boot_turns_of (layout_of Kind.Plain set) ≡ boot_turns set) }
+    ensures { (set : TaskSet) → (need (layout_of Kind.Plain set) set ≡ words_needed set)
+        × (boot_turns_of (layout_of Kind.Plain set) ≡ boot_turns set) }
 {}
 
 /// Reading goes in order of place up to the code, and then through the index copy that the root names.
 pub fn format_1_is_read_in_order()
-    ensures head { (set : TaskSet) (root j : ℕ) → j < first_index set → read_place (layout_of Kind.Plain set) root j ≡ j }
-    ensures index { (set : TaskSet) (root i : ℕ) → i < index_words set → read_place (layout_of Kind.Plain set) root (first_index set + i) ≡ first_index set + (root - 1) * index_words set + i }
+    ensures head { (set : TaskSet) (root j : ℕ) → j < first_index set
+        → read_place (layout_of Kind.Plain set) root j ≡ j }
+    ensures index { (set : TaskSet) (root i : ℕ) → i < index_words set
+        → read_place (layout_of Kind.Plain set) root (first_index set + i)
+        ≡ first_index set + (root - 1) * index_words set + i }
 {}

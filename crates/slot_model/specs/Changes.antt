@@ -5,7 +5,7 @@ use Rattle.kernel_model.specs.Effects.{words_of, written}
 use Rattle.kernel_model.specs.Runs.{Steps}
 use Rattle.kernel_model.specs.Items.{Item}
 use Rattle.kernel_model.specs.Replay.{Base, clock_of}
-use Rattle.kernel_model.specs.Versions.{Read}
+use Rattle.kernel_model.specs.Versions.{Read, Version}
 use Rattle.kernel_model.specs.Intervals.{read_interval}
 use Rattle.kernel_model.specs.Cores.{Attempt, Core, Idle, Running, Copying, Ready, Committing, all_but}
 use Rattle.kernel_model.specs.Turns.{core_turn}
@@ -18,7 +18,9 @@ use Rattle.slot_model.specs.Store.{image_turn}
 -- with the versions of a finish in the slots of its plan, if one joins
 abbrev pub with_finished : Option Item → Kept → Kept
 with_finished None kept = kept
-with_finished (Some i) kept = record kept { chains = λ o. with_held i (written i.run.writes o) (kept.plan o) (kept.chains o) }
+with_finished (Some i) kept = record kept {
+  chains = λ o. with_held i (written i.run.writes o) (kept.plan o) (kept.chains o);
+}
 
 -- after a failure: one version an object
 abbrev pub afresh : (clock : ℕ) → Kept → Kept
@@ -31,7 +33,10 @@ put_at n x f k = if k == n then x else f k
 -- core n copies from the slot of the version that it chose, where these are its reads since
 abbrev pub pinned : {M : Type 0} → Base → List Item → ℕ → Attempt M → List Read → Kept → Kept
 pinned base history n a [] kept = kept
-pinned base history n a (r ∷ reads) kept = record kept { pins = put_at n (slot_in (chosen_held (read_interval base history a.start a.reads).hi (kept.chains r.object))) kept.pins }
+pinned base history n a (r ∷ reads) kept =
+    let hi = (read_interval base history a.start a.reads).hi in
+    let chosen = chosen_held hi (kept.chains r.object) in
+    record kept { pins = put_at n (slot_in chosen) kept.pins }
 
 -- where core n ran, and is this now
 abbrev pub kept_run : {M : Type 0} → Base → List Item → ℕ → Attempt M → Core M → Kept → Kept
@@ -39,14 +44,18 @@ kept_run base history n a (Copying b copied) kept = pinned base history n a b.re
 kept_run base history n a _ kept = kept
 
 -- where a core was ready, and is this now
-abbrev pub kept_verdict : {M : Type 0} → Sizes → Base → List Item → List (Core M) → Core M → Kept → Kept
-kept_verdict sizes base history others (Committing i left) kept = planned sizes base history others kept
+abbrev pub kept_verdict : {M : Type 0} → Sizes → Base → List Item → List (Core M) → Core M → Kept
+    → Kept
+kept_verdict sizes base history others (Committing i left) kept =
+    planned sizes base history others kept
 kept_verdict sizes base history others _ kept = kept
 
 -- after core n's turn from the first to the second
-abbrev pub kept_turn : {M : Type 0} → Sizes → Base → List Item → List (Core M) → ℕ → Core M → Core M → Kept → Kept
+abbrev pub kept_turn : {M : Type 0} → Sizes → Base → List Item → List (Core M) → ℕ → Core M → Core M
+    → Kept → Kept
 kept_turn sizes base history others n (Running a) d kept = kept_run base history n a d kept
-kept_turn sizes base history others n (Ready a outcome) d kept = kept_verdict sizes base history others d kept
+kept_turn sizes base history others n (Ready a outcome) d kept =
+    kept_verdict sizes base history others d kept
 kept_turn sizes base history others n (Committing i zero) d kept = with_finished (Some i) kept
 kept_turn sizes base history others n _ d kept = kept
 
@@ -55,7 +64,8 @@ abbrev pub kept_step : {M : Type 0} → Steps M → Sizes → Base → State M �
 kept_step steps sizes base s n On kept =
     let c = get_or s.cores n Idle in
     let others = all_but n s.cores in
-    kept_turn sizes base s.history others n c (core_turn steps sizes base s.history others n c).core kept
+    kept_turn sizes base s.history others n c
+    (core_turn steps sizes base s.history others n c).core kept
 kept_step steps sizes base s n (Boot left) kept = kept
 
 -- the clock at the last boot, after an event
@@ -65,7 +75,9 @@ floor_after base floor s (CoreStep n) = floor
 
 -- what is kept after an event
 abbrev pub kept_after : {M : Type 0} → Steps M → Sizes → Base → State M → Event → Kept → Kept
-kept_after steps sizes base s Fail kept = afresh (clock_of base (with_finish (durable_commit s.cores) s.history)) (with_finished (durable_commit s.cores) kept)
+kept_after steps sizes base s Fail kept =
+    afresh (clock_of base (with_finish (durable_commit s.cores) s.history))
+    (with_finished (durable_commit s.cores) kept)
 kept_after steps sizes base s (CoreStep n) kept = kept_step steps sizes base s n s.power kept
 
 -- the image after an event
@@ -84,17 +96,36 @@ pub record Beside : Type 0 where
 
 -- after an event
 abbrev pub beside_event : {M : Type 0} → Steps M → Sizes → Base → State M → Event → Beside → Beside
-beside_event steps sizes base s e b = record { floor = floor_after base b.floor s e; kept = kept_after steps sizes base s e b.kept; image = image_after sizes base s e b.kept b.image }
+beside_event steps sizes base s e b = record {
+  floor = floor_after base b.floor s e;
+  kept = kept_after steps sizes base s e b.kept;
+  image = image_after sizes base s e b.kept b.image;
+}
 
 -- after some events
-abbrev pub beside_after : {M : Type 0} → Steps M → Sizes → Base → State M → List Event → Beside → Beside
+abbrev pub beside_after : {M : Type 0} → Steps M → Sizes → Base → State M → List Event → Beside
+    → Beside
 beside_after steps sizes base s [] b = b
-beside_after steps sizes base s (e ∷ events) b = beside_after steps sizes base (event_step steps sizes base s e).0 events (beside_event steps sizes base s e b)
+beside_after steps sizes base s (e ∷ events) b =
+    beside_after steps sizes base (event_step steps sizes base s e).0 events
+    (beside_event steps sizes base s e b)
+
+-- the base's version of an object
+abbrev pub first_version : Base → ℕ → Version
+first_version base o = record {
+  writer = base.number;
+  begin = base.clock;
+  end = None;
+  words = words_of base.objects o;
+}
 
 -- what is kept at first: the base's version of each object, in the slot that the device names
 abbrev pub first_kept : Base → (named : ℕ → ℕ) → Kept
 first_kept base named = record {
-  chains = λ o. record { slot = named o; version = record { writer = base.number; begin = base.clock; end = None; words = words_of base.objects o } } ∷ [];
+  chains = λ o. record {
+    slot = named o;
+    version = first_version base o;
+  } ∷ [];
   plan = λ o. 0;
   pins = λ k. 0;
 }

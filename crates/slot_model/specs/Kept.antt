@@ -46,7 +46,8 @@ slot_in (Some h) = h.slot
 abbrev pub chosen_held : Option ℕ → List Held → Option Held
 chosen_held hi [] = None
 chosen_held None (h ∷ chain) = Some h
-chosen_held (Some hi) (h ∷ chain) = if nat_lt h.version.begin hi then Some h else chosen_held (Some hi) chain
+chosen_held (Some hi) (h ∷ chain) =
+    if nat_lt h.version.begin hi then Some h else chosen_held (Some hi) chain
 
 -- without what stands in slot k
 abbrev pub without_slot : ℕ → List Held → List Held
@@ -55,12 +56,15 @@ without_slot k chain = filter (λ h. not (h.slot == k)) chain
 -- the newest version ends at p, and what stood in slot k is gone
 abbrev pub retired : (p k : ℕ) → List Held → List Held
 retired p k [] = []
-retired p k (h ∷ chain) = record h { version = record h.version { end = Some p } } ∷ without_slot k chain
+retired p k (h ∷ chain) =
+    record h { version = record h.version { end = Some p } } ∷ without_slot k chain
 
 -- with the version that a finish makes, in slot k
 abbrev pub with_held : Item → Option (List ℕ) → (k : ℕ) → List Held → List Held
 with_held i None k chain = chain
-with_held i (Some words) k chain = record { slot = k; version = record { writer = i.number; begin = i.point; end = None; words = words } } ∷ retired i.point k chain
+with_held i (Some words) k chain =
+    let made : Version = record { writer = i.number; begin = i.point; end = None; words = words } in
+    record { slot = k; version = made } ∷ retired i.point k chain
 
 -- the newest alone, as it is seen after a boot
 abbrev pub newest_alone : (clock : ℕ) → List Held → List Held

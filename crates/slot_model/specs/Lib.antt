@@ -10,8 +10,10 @@ pub mod Changes
 pub mod Tabled
 -- What must stand, and what must be true of the state.
 pub mod Standing
+pub mod Moments
 -- The same for the calls of threads.
 pub mod Marks
 pub mod LiveStanding
+pub mod LiveMoments
 -- Worked examples.
 pub mod WorkedSlots

@@ -16,10 +16,12 @@ use Rattle.slot_model.specs.Standing.{Stands}
 
 -- between calls. No failure comes between them, so the clock at the last boot is that of the base
 abbrev pub LiveStands : Sizes → Base → Live → Kept → Image → Type 0
-LiveStands sizes base s kept image = Stands sizes base base.clock s.history (cores_of s.marks) kept image
+LiveStands sizes base s kept image =
+    Stands sizes base base.clock s.history (cores_of s.marks) kept image
 
 -- within the finish of caller n, which was granted, while it has so many writes left
-pub record LiveCommits (whole : Programs) (sizes : Sizes) (base : Base) (s : Live) (n : ℕ) (i : Item) (left : ℕ) (kept : Kept) (image : Image) : Type 0 where
+pub record LiveCommits (whole : Programs) (sizes : Sizes) (base : Base) (s : Live) (n : ℕ)
+    (i : Item) (left : ℕ) (kept : Kept) (image : Image) : Type 0 where
   pub caller : n < length s.marks
   pub joins : IsHistory whole base (i ∷ s.history)
   pub was_open : IsOpen base s.history i.task
@@ -28,7 +30,8 @@ pub record LiveCommits (whole : Programs) (sizes : Sizes) (base : Base) (s : Liv
 -- what must be true of the state. Each call keeps it: laws of the kernel's model
 pub record IsLiveLawful (whole : Programs) (sizes : Sizes) (base : Base) (s : Live) : Type 0 where
   pub rests : RestOnReads whole
-  pub fit : (program arg : ℕ) (objects : Objects) → AreSized sizes objects → IsRun sizes (whole program arg objects)
+  pub fit : (program arg : ℕ) (objects : Objects) → AreSized sizes objects
+      → IsRun sizes (whole program arg objects)
   pub based : IsBase sizes base
   pub live : IsLiveState whole base s
   pub ids : next_id base s.history ≤ max_id

@@ -14,4 +14,5 @@ committing s n i left = set (cores_of s.marks) n (Committing i left)
 -- what is kept of a caller's attempt, if it has one
 abbrev pub mark_view : Base → List Item → Option Mark → Option View
 mark_view base history None = None
-mark_view base history (Some m) = Some (record { interval = read_interval base history m.start m.reads; copying = None })
+mark_view base history (Some m) =
+    Some (record { interval = read_interval base history m.start m.reads; copying = None })

@@ -19,8 +19,12 @@ free_from k (suc slots) taken = if taken k then free_from (k + 1) slots taken el
 
 -- the least slot of an object that has neither the newest version nor one that the others need
 abbrev pub free_slot : {M : Type 0} → Sizes → Base → List Item → List (Core M) → Kept → ℕ → Option ℕ
-free_slot sizes base history others kept o = free_from 0 (sizes.slots o) (is_taken (must_stand (is_needed base history o others)) (kept.chains o))
+free_slot sizes base history others kept o =
+    free_from 0 (sizes.slots o)
+    (is_taken (must_stand (is_needed base history o others)) (kept.chains o))
 
 -- the slots for the versions of a finish that is granted
 abbrev pub planned : {M : Type 0} → Sizes → Base → List Item → List (Core M) → Kept → Kept
-planned sizes base history others kept = record kept { plan = λ o. unwrap_or (free_slot sizes base history others kept o) 0 }
+planned sizes base history others kept = record kept {
+  plan = λ o. unwrap_or (free_slot sizes base history others kept o) 0;
+}

@@ -23,11 +23,13 @@ use Rattle.slot_model.specs.Changes.{named_slot}
 use Rattle.slot_model.specs.Tabled.{AreTables, Tables, View, view_of}
 
 -- of these versions of an object those that must stand do, each in a slot of its own. A slot with none of them may hold anything
-pub record AreStanding (slots floor : ℕ) (needed : Version → Bool) (words_at : ℕ → List ℕ) (all : List Version) (chain : List Held) : Type 0 where
+pub record AreStanding (slots floor : ℕ) (needed : Version → Bool) (words_at : ℕ → List ℕ)
+    (all : List Version) (chain : List Held) : Type 0 where
   pub chained : IsChain floor needed (versions_in chain) all
   pub places : AllByRecursion (λ h. h.slot < slots) chain
   pub apart : AreApart chain
-  pub words : AllByRecursion (λ h. must_stand needed h ≡ true → words_at h.slot ≡ h.version.words) chain
+  pub words : AllByRecursion (λ h. must_stand needed h ≡ true
+      → words_at h.slot ≡ h.version.words) chain
 
 -- slot k has no version that must stand
 pub record IsSpare (slots : ℕ) (needed : Version → Bool) (chain : List Held) (k : ℕ) : Type 0 where
@@ -40,48 +42,65 @@ IsPinned chains k [] = Unit {0}
 IsPinned chains k (r ∷ reads) = is_there k r.writer (chains r.object) ≡ true
 
 -- a commit under way with so many writes left: its slots are spare, and its first words stand there
-pub record IsUnderWay {M : Type 0} (sizes : Sizes) (base : Base) (history : List Item) (cores : List (Core M)) (kept : Kept) (image : Image) (i : Item) (left : ℕ) : Type 0 where
+pub record IsUnderWay {M : Type 0} (sizes : Sizes) (base : Base) (history : List Item)
+    (cores : List (Core M)) (kept : Kept) (image : Image) (i : Item) (left : ℕ) : Type 0 where
   pub few : left ≤ commit_writes sizes base history i
-  pub spare : AllByRecursion (λ w. IsSpare (sizes.slots w.object) (is_needed base history w.object cores) (kept.chains w.object) (kept.plan w.object)) i.run.writes
-  pub written : AreWritten sizes kept.plan image (commit_writes sizes base history i - left) i.run.writes
+  pub spare : AllByRecursion
+      (λ w. IsSpare (sizes.slots w.object) (is_needed base history w.object cores)
+      (kept.chains w.object) (kept.plan w.object)) i.run.writes
+  pub written : AreWritten sizes kept.plan image
+      (commit_writes sizes base history i - left) i.run.writes
 
 -- what core n needs of slots
-abbrev pub IsServed : {M : Type 0} → Sizes → Base → List Item → List (Core M) → Kept → Image → ℕ → Core M → Type 0
-IsServed sizes base history cores kept image n (Copying a copied) = IsPinned kept.chains (kept.pins n) a.reads
-IsServed sizes base history cores kept image n (Committing i left) = IsUnderWay sizes base history cores kept image i left
+abbrev pub IsServed : {M : Type 0} → Sizes → Base → List Item → List (Core M) → Kept → Image → ℕ
+    → Core M → Type 0
+IsServed sizes base history cores kept image n (Copying a copied) =
+    IsPinned kept.chains (kept.pins n) a.reads
+IsServed sizes base history cores kept image n (Committing i left) =
+    IsUnderWay sizes base history cores kept image i left
 IsServed sizes base history cores kept image n _ = Unit {0}
 
 -- the image and what is kept stand for a history and what cores do, where the clock at the last boot was floor
-pub record Stands {M : Type 0} (sizes : Sizes) (base : Base) (floor : ℕ) (history : List Item) (cores : List (Core M)) (kept : Kept) (image : Image) : Type 0 where
-  pub starts : (k : ℕ) (i : Interval) → interval_of base history (get_or cores k Idle) ≡ Some i → floor ≤ i.lo
+pub record Stands {M : Type 0} (sizes : Sizes) (base : Base) (floor : ℕ) (history : List Item)
+    (cores : List (Core M)) (kept : Kept) (image : Image) : Type 0 where
+  pub starts : (k : ℕ) (i : Interval) → interval_of base history (get_or cores k Idle) ≡ Some i
+      → floor ≤ i.lo
   pub sized : IsSized sizes image
-  pub objects : (o : ℕ) → o < sizes.objects → AreStanding (sizes.slots o) floor (is_needed base history o cores) (image o) (versions base o history) (kept.chains o)
+  pub objects : (o : ℕ) → o < sizes.objects
+      → AreStanding (sizes.slots o) floor (is_needed base history o cores) (image o)
+      (versions base o history) (kept.chains o)
   pub served : (n : ℕ) → IsServed sizes base history cores kept image n (get_or cores n Idle)
 
 -- they stand for a state
-pub record StandsFor {M : Type 0} (sizes : Sizes) (base : Base) (floor : ℕ) (s : State M) (kept : Kept) (image : Image) : Type 0 where
+pub record StandsFor {M : Type 0} (sizes : Sizes) (base : Base) (floor : ℕ) (s : State M)
+    (kept : Kept) (image : Image) : Type 0 where
   pub since : IsFloor base floor s
   pub stands : Stands sizes base floor s.history s.cores kept image
 
 -- what must be true of the state. It is so after any events of a run: laws of the kernel's model
-pub record IsLawful {M : Type 0} (steps : Steps M) (sizes : Sizes) (base : Base) (s : State M) : Type 0 where
+pub record IsLawful {M : Type 0} (steps : Steps M) (sizes : Sizes) (base : Base) (s : State M)
+    : Type 0 where
   pub set_up : IsSetUp steps sizes base
   pub sound : IsSound steps sizes base s
   pub ids : next_id base s.history ≤ max_id
 
 -- the slots that the durable index names have the durable objects
-pub record IsNamed {M : Type 0} (sizes : Sizes) (base : Base) (s : State M) (kept : Kept) (image : Image) (o : ℕ) : Type 0 where
+pub record IsNamed {M : Type 0} (sizes : Sizes) (base : Base) (s : State M) (kept : Kept)
+    (image : Image) (o : ℕ) : Type 0 where
   pub slot : named_slot s kept o < sizes.slots o
   pub words : image o (named_slot s kept o) ≡ words_of (state_left base (listed s)).objects o
 
 -- a commit may write its version of an object: its slot has no version that must stand, and is not that of the newest
-pub record IsFree {M : Type 0} (sizes : Sizes) (base : Base) (history : List Item) (cores : List (Core M)) (kept : Kept) (w : Write) : Type 0 where
+pub record IsFree {M : Type 0} (sizes : Sizes) (base : Base) (history : List Item)
+    (cores : List (Core M)) (kept : Kept) (w : Write) : Type 0 where
   pub object : w.object < sizes.objects
-  pub spare : IsSpare (sizes.slots w.object) (is_needed base history w.object cores) (kept.chains w.object) (kept.plan w.object)
+  pub spare : IsSpare (sizes.slots w.object) (is_needed base history w.object cores)
+      (kept.chains w.object) (kept.plan w.object)
   pub other : kept.plan w.object ≡ newest_slot (kept.chains w.object) → ⊥
 
 -- the version that an attempt chooses before hi is held, and stands in its slot
-pub record IsChosen (sizes : Sizes) (floor o : ℕ) (hi : Option ℕ) (chain : List Held) (image : Image) (v : Version) : Type 0 where
+pub record IsChosen (sizes : Sizes) (floor o : ℕ) (hi : Option ℕ) (chain : List Held)
+    (image : Image) (v : Version) : Type 0 where
   pub held : Held
   pub chosen_is : chosen_held hi chain ≡ Some held
   pub version_is : held.version ≡ floored floor v
@@ -98,7 +117,8 @@ pub record IsTarget (sizes : Sizes) (kept : Kept) (ws : List Write) (t : Target)
   pub word_is : t.word ≡ get_or words t.place 0
 
 -- what a kernel keeps stands for a state: what must stand does, and its tables and its views of attempts are those of the state
-pub record IsTabled {M : Type 0} (sizes : Sizes) (base : Base) (floor : ℕ) (s : State M) (kept : Kept) (image : Image) (t : Tables) (views : ℕ → Option View) : Type 0 where
+pub record IsTabled {M : Type 0} (sizes : Sizes) (base : Base) (floor : ℕ) (s : State M)
+    (kept : Kept) (image : Image) (t : Tables) (views : ℕ → Option View) : Type 0 where
   pub stands : StandsFor sizes base floor s kept image
   pub tables : AreTables sizes base floor s.history kept t
   pub viewed : (k : ℕ) → views k ≡ view_of base s.history (kept.pins k) (get_or s.cores k Idle)

@@ -34,12 +34,15 @@ places_of chain = map place_of chain
 abbrev pub chosen_place : Option ℕ → List Place → Option Place
 chosen_place hi [] = None
 chosen_place None (p ∷ places) = Some p
-chosen_place (Some hi) (p ∷ places) = if nat_lt p.begin hi then Some p else chosen_place (Some hi) places
+chosen_place (Some hi) (p ∷ places) =
+    if nat_lt p.begin hi then Some p else chosen_place (Some hi) places
 
 -- the chain after a finish at a point, with its version in slot k
 abbrev pub installed : (point k : ℕ) → List Place → List Place
 installed point k [] = record { slot = k; begin = point; end = None } ∷ []
-installed point k (p ∷ places) = record { slot = k; begin = point; end = None } ∷ record p { end = Some point } ∷ filter (λ q. not (q.slot == k)) places
+installed point k (p ∷ places) =
+    record { slot = k; begin = point; end = None } ∷ record p { end = Some point }
+    ∷ filter (λ q. not (q.slot == k)) places
 
 -- an interval once this version was read
 abbrev pub with_place : Place → Interval → Interval
@@ -67,9 +70,13 @@ pin_of slot (r ∷ reads) = Some (record { object = r.object; slot = slot })
 -- what is kept of a core's attempt, if it has one
 abbrev pub view_of : {M : Type 0} → Base → List Item → (slot : ℕ) → Core M → Option View
 view_of base history slot Idle = None
-view_of base history slot (Running a) = Some (record { interval = read_interval base history a.start a.reads; copying = None })
-view_of base history slot (Copying a copied) = Some (record { interval = read_interval base history a.start a.reads; copying = pin_of slot a.reads })
-view_of base history slot (Ready a outcome) = Some (record { interval = read_interval base history a.start a.reads; copying = None })
+view_of base history slot (Running a) =
+    Some (record { interval = read_interval base history a.start a.reads; copying = None })
+view_of base history slot (Copying a copied) =
+    let interval = read_interval base history a.start a.reads in
+    Some (record { interval = interval; copying = pin_of slot a.reads })
+view_of base history slot (Ready a outcome) =
+    Some (record { interval = read_interval base history a.start a.reads; copying = None })
 view_of base history slot (Committing i left) = None
 
 abbrev pub with_view : Option View → List View → List View
@@ -77,9 +84,11 @@ with_view None views = views
 with_view (Some v) views = v ∷ views
 
 -- of all attempts, where the first of these cores has this number
-abbrev pub views_of : {M : Type 0} → Base → List Item → (pins : ℕ → ℕ) → (k : ℕ) → List (Core M) → List View
+abbrev pub views_of : {M : Type 0} → Base → List Item → (pins : ℕ → ℕ) → (k : ℕ) → List (Core M)
+    → List View
 views_of base history pins k [] = []
-views_of base history pins k (c ∷ cores) = with_view (view_of base history (pins k) c) (views_of base history pins (suc k) cores)
+views_of base history pins k (c ∷ cores) =
+    with_view (view_of base history (pins k) c) (views_of base history pins (suc k) cores)
 
 -- whether an attempt copies from a place
 abbrev pub is_copied_from : ℕ → Place → Option Pin → Bool
@@ -96,7 +105,8 @@ is_needed_at o views p = list_any (λ v. is_copied_from o p v.copying || meets_a
 
 -- whether slot k has the newest version, or a needed one
 abbrev pub is_taken_at : ℕ → List View → List Place → ℕ → Bool
-is_taken_at o views places k = list_any (λ p. p.slot == k && (is_none p.end || is_needed_at o views p)) places
+is_taken_at o views places k =
+    list_any (λ p. p.slot == k && (is_none p.end || is_needed_at o views p)) places
 
 -- the least free slot, by tables alone
 abbrev pub free_place : (slots o : ℕ) → List View → List Place → Option ℕ
@@ -112,7 +122,8 @@ pub record Tables : Type 0 where
   pub pending : ℕ  -- as many tasks are open
 
 -- they are those of a history, where the clock at the last boot was floor
-pub record AreTables (sizes : Sizes) (base : Base) (floor : ℕ) (history : List Item) (kept : Kept) (t : Tables) : Type 0 where
+pub record AreTables (sizes : Sizes) (base : Base) (floor : ℕ) (history : List Item) (kept : Kept)
+    (t : Tables) : Type 0 where
   pub places : (o : ℕ) → o < sizes.objects → t.places o ≡ places_of (kept.chains o)
   pub bounds : (o : ℕ) → o < sizes.objects → t.bounds o ≡ bound_of floor o history
   pub clock : t.clock ≡ clock_of base history
@@ -123,27 +134,42 @@ pub record AreTables (sizes : Sizes) (base : Base) (floor : ℕ) (history : List
 -- the least written object that has no free slot
 abbrev pub full_object : Sizes → (ℕ → List Place) → List View → List Write → Option ℕ
 full_object sizes places views [] = None
-full_object sizes places views (w ∷ ws) = if is_some (free_place (sizes.slots w.object) w.object views (places w.object)) then full_object sizes places views ws else Some w.object
+full_object sizes places views (w ∷ ws) =
+    if is_some (free_place (sizes.slots w.object) w.object views (places w.object))
+    then full_object sizes places views ws else Some w.object
 
 -- the finish that is granted
 abbrev pub table_finish : Tables → (task : ℕ) → Run → Interval → Item
-table_finish t task run i = record { number = t.number + 1; task = task; point = point_of t.clock run.writes i; first = t.next; run = run }
+table_finish t task run i = record {
+  number = t.number + 1;
+  task = task;
+  point = point_of t.clock run.writes i;
+  first = t.next;
+  run = run;
+}
 
 -- the verdict where the interval of the finish is not empty
 abbrev pub table_room : Sizes → Tables → (task : ℕ) → Run → Interval → Option ℕ → Verdict
 table_room sizes t task run i (Some o) = Slots o
-table_room sizes t task run i None = if nat_le (t.pending - 1 + length run.spawns) sizes.records then Granted (table_finish t task run i) else Records t.pending (length run.spawns)
+table_room sizes t task run i None =
+    if nat_le (t.pending - 1 + length run.spawns) sizes.records
+    then Granted (table_finish t task run i) else Records t.pending (length run.spawns)
 
 -- the verdict on a ready attempt with this interval of reads and this whole run, by tables alone
-abbrev pub table_verdict : Sizes → Tables → (others : List View) → (task : ℕ) → Interval → Run → Verdict
+abbrev pub table_verdict : Sizes → Tables → (others : List View) → (task : ℕ) → Interval → Run
+    → Verdict
 table_verdict sizes t others task reads run =
     let i = raised_by t.bounds run.writes reads in
-    if is_empty i then Empty i.lo (unwrap_or i.hi 0) else table_room sizes t task run i (full_object sizes t.places others run.writes)
+    if is_empty i then Empty i.lo (unwrap_or i.hi 0)
+    else table_room sizes t task run i (full_object sizes t.places others run.writes)
 
 -- after a finish, with its versions in these slots
 abbrev pub tables_with : Item → (plan : ℕ → ℕ) → Tables → Tables
 tables_with i plan t = record {
-  places = λ o. elim (written i.run.writes o) [ None ↦ t.places o | Some words ↦ installed i.point (plan o) (t.places o) ];
+  places = λ o. elim (written i.run.writes o) [
+    | None ↦ t.places o
+    | Some words ↦ installed i.point (plan o) (t.places o)
+  ];
   bounds = λ o. with_touch (Some i) o (t.bounds o);
   clock = max i.point t.clock;
   number = t.number + 1;
@@ -163,12 +189,14 @@ fresh_tables named state = record {
 }
 
 -- an outside read, by tables: the place that is chosen, and the interval after
-pub record IsRead (sizes : Sizes) (base : Base) (history : List Item) (start : ℕ) (reads : List Read) (o : ℕ) (places : List Place) (image : Image) (v : Version) : Type 0 where
+pub record IsRead (sizes : Sizes) (base : Base) (history : List Item) (start : ℕ)
+    (reads : List Read) (o : ℕ) (places : List Place) (image : Image) (v : Version) : Type 0 where
   pub place : Place
   pub chosen_is : chosen_place (read_interval base history start reads).hi places ≡ Some place
   pub slot : place.slot < sizes.slots o
   pub words : image o place.slot ≡ v.words
-  pub interval : read_interval base history start (record { object = o; writer = v.writer } ∷ reads) ≡ with_place place (read_interval base history start reads)
+  pub interval : read_interval base history start (record { object = o; writer = v.writer } ∷ reads)
+      ≡ with_place place (read_interval base history start reads)
 
 -- the tables after a finish, if one joins
 abbrev pub tables_joined : Option Item → (plan : ℕ → ℕ) → Tables → Tables
@@ -187,9 +215,12 @@ reads_of (Committing i left) = []
 abbrev pub cut_view : Option Item → List Read → Option View → Option View
 cut_view None reads view = view
 cut_view (Some i) reads None = None
-cut_view (Some i) reads (Some v) = Some (record v { interval = cut i.point (is_written_read i reads) v.interval })
+cut_view (Some i) reads (Some v) =
+    Some (record v { interval = cut i.point (is_written_read i reads) v.interval })
 
 -- what is kept of all attempts but core n's, where this is what is kept of each core's, from core k on
 abbrev pub others_views : (ℕ → Option View) → (n k count : ℕ) → List View
 others_views views n k zero = []
-others_views views n k (suc count) = if k == n then others_views views n (suc k) count else with_view (views k) (others_views views n (suc k) count)
+others_views views n k (suc count) =
+    if k == n then others_views views n (suc k) count
+    else with_view (views k) (others_views views n (suc k) count)

@@ -3,98 +3,120 @@
 ghost use Rattle.std.specs.List.{AllByRecursion};
 ghost use Rattle.std.specs.Prelude.{ℕ, ◌≡◌, ◌<◌, ◌∷◌, List, Option, Some, get_or, set, length, false};
 ghost use Rattle.kernel_model.specs.Chain.{cut, joining};
-ghost use Rattle.kernel_model.specs.Cores.{Attempt, Core, all_but, run_of};
+ghost use Rattle.kernel_model.specs.Cores.{Attempt, Core, run_of};
 ghost use Rattle.kernel_model.specs.Effects.{Outcome};
-ghost use Rattle.kernel_model.specs.Events.{Event, State, event_step, opened};
+ghost use Rattle.kernel_model.specs.Events.{Event};
 ghost use Rattle.kernel_model.specs.History.{AreFound};
 ghost use Rattle.kernel_model.specs.Intervals.{is_empty, read_interval};
 ghost use Rattle.kernel_model.specs.Items.{Item};
 ghost use Rattle.kernel_model.specs.Replay.{Base};
-ghost use Rattle.kernel_model.specs.Room.{interval_of, is_needed};
-ghost use Rattle.kernel_model.specs.Runs.{Steps};
+ghost use Rattle.kernel_model.specs.Room.{is_needed};
 ghost use Rattle.kernel_model.specs.Sizes.{Sizes};
 ghost use Rattle.kernel_model.specs.Verdicts.{verdict};
-ghost use Rattle.kernel_model.specs.Versions.{Read, Version, chosen, versions};
-ghost use Rattle.slot_model.specs.Changes.{kept_after, with_finished};
-ghost use Rattle.slot_model.specs.Kept.{Held, Kept, chosen_held, slot_in};
-ghost use Rattle.slot_model.specs.Places.{free_slot};
+ghost use Rattle.kernel_model.specs.Versions.{Read, Version, chosen};
+ghost use Rattle.slot_model.specs.Changes.{with_finished};
+ghost use Rattle.slot_model.specs.Kept.{Held, chosen_held, slot_in};
 ghost use Rattle.slot_model.specs.Slots.{Image};
-ghost use Rattle.slot_model.specs.Standing.{IsLawful, StandsFor};
-ghost use Rattle.slot_model.specs.Tabled.{AreTables, Place, Tables, View, chosen_place, free_place, is_needed_at, is_written_read, place_of, places_of, table_verdict, tables_with, views_of, with_place, IsRead, tables_joined, cut_view, reads_of, view_of, others_views};
+ghost use Rattle.slot_model.specs.Tabled.{Pin, AreTables, Place, Tables, View, chosen_place, free_place, is_needed_at, is_written_read, place_of, places_of, table_verdict, tables_with, views_of, with_place, IsRead, tables_joined, cut_view, reads_of, view_of, others_views};
+ghost use Rattle.slot_model.specs.Moments.{Moment, AreTablesIn, IsLawfulIn, IsStanding, after_event, all_versions, core_in, free_in, interval_in, others_in, reads_in, view_in, views_in};
 
 /// An outside read chooses by the table the slot of the version that the model chooses, and its interval changes by that place alone.
 pub fn read_by_tables<M>()
-    ensures { (steps : Steps M) (sizes : Sizes) (base : Base) (floor : ℕ) (s : State M) (kept : Kept) (image : Image) (t : Tables) (n o start : ℕ) (reads : List Read) (v : Version) → IsLawful steps sizes base s → StandsFor sizes base floor s kept image
-        → AreTables sizes base floor s.history kept t → interval_of base s.history (get_or s.cores n Core.Idle) ≡ Some (read_interval base s.history start reads)
-        → is_empty (read_interval base s.history start reads) ≡ false → o < sizes.objects → chosen (read_interval base s.history start reads).hi (versions base o s.history) ≡ Some v → IsRead sizes base s.history start reads o (t.places o) image v }
+    ensures { (m : Moment M) (t : Tables) (n o start : ℕ) (reads : List Read) (v : Version)
+        → IsStanding m → AreTablesIn m t → interval_in m n ≡ Some (reads_in m start reads)
+        → is_empty (reads_in m start reads) ≡ false → o < m.sizes.objects
+        → chosen (reads_in m start reads).hi (all_versions m o) ≡ Some v
+        → IsRead m.sizes m.base m.state.history start reads o (t.places o) m.image v }
 {}
 
 /// The place that a table chooses is that of the version that is chosen of those held.
 pub fn chosen_place_is_held()
-    ensures { (hi : Option ℕ) (chain : List Held) (p : Place) → chosen_place hi (places_of chain) ≡ Some p → slot_in (chosen_held hi chain) ≡ p.slot }
+    ensures { (hi : Option ℕ) (chain : List Held) (p : Place)
+        → chosen_place hi (places_of chain) ≡ Some p → slot_in (chosen_held hi chain) ≡ p.slot }
 {}
 
 /// The version at a place is needed by others just where what is kept of them says so.
 pub fn needed_by_tables<M>()
-    ensures { (steps : Steps M) (sizes : Sizes) (base : Base) (floor : ℕ) (s : State M) (kept : Kept) (image : Image) (n o : ℕ) → IsLawful steps sizes base s → StandsFor sizes base floor s kept image
-        → o < sizes.objects
-        → AllByRecursion (λ h. is_needed base s.history o (all_but n s.cores) h.version ≡ is_needed_at o (views_of base s.history kept.pins 0 (set s.cores n Core.Idle)) (place_of h)) (kept.chains o) }
+    ensures { (m : Moment M) (n o : ℕ) → IsStanding m → o < m.sizes.objects
+        → (let needed = is_needed m.base m.state.history o (others_in m n) in
+        AllByRecursion (λ h. needed h.version ≡ is_needed_at o (views_in m n) (place_of h))
+        (m.kept.chains o)) }
 {}
 
 /// The tables give the free slot.
 pub fn free_slot_by_tables<M>()
-    ensures { (steps : Steps M) (sizes : Sizes) (base : Base) (floor : ℕ) (s : State M) (kept : Kept) (image : Image) (t : Tables) (n o : ℕ) → IsLawful steps sizes base s → StandsFor sizes base floor s kept image
-        → AreTables sizes base floor s.history kept t → o < sizes.objects
-        → free_place (sizes.slots o) o (views_of base s.history kept.pins 0 (set s.cores n Core.Idle)) (t.places o) ≡ free_slot sizes base s.history (all_but n s.cores) kept o }
+    ensures { (m : Moment M) (t : Tables) (n o : ℕ)
+        → IsStanding m → AreTablesIn m t → o < m.sizes.objects
+        → free_place (m.sizes.slots o) o (views_in m n) (t.places o) ≡ free_in m n o }
 {}
 
 /// The tables give the verdict, with its cause and its point.
 pub fn verdict_by_tables<M>()
-    ensures { (steps : Steps M) (sizes : Sizes) (base : Base) (floor : ℕ) (s : State M) (kept : Kept) (image : Image) (t : Tables) (n : ℕ) (a : Attempt M) (outcome : Outcome) → IsLawful steps sizes base s → StandsFor sizes base floor s kept image
-        → AreTables sizes base floor s.history kept t → get_or s.cores n Core.Idle ≡ Core.Ready a outcome → AllByRecursion (λ w. w.object < sizes.objects) (run_of a outcome).writes
-        → table_verdict sizes t (views_of base s.history kept.pins 0 (set s.cores n Core.Idle)) a.task (read_interval base s.history a.start a.reads) (run_of a outcome) ≡ verdict sizes base s.history (all_but n s.cores) a (run_of a outcome) }
+    ensures { (m : Moment M) (t : Tables) (n : ℕ) (a : Attempt M) (outcome : Outcome)
+        → IsStanding m → AreTablesIn m t → core_in m n ≡ Core.Ready a outcome
+        → AllByRecursion (λ w. w.object < m.sizes.objects) (run_of a outcome).writes
+        → (let run = run_of a outcome in
+        table_verdict m.sizes t (views_in m n) a.task (reads_in m a.start a.reads) run
+        ≡ verdict m.sizes m.base m.state.history (others_in m n) a run) }
 {}
 
 /// An attempt that has opened a read has the interval that the place gives, and copies from there.
 pub fn read_view_by_table<M>()
-    ensures { (sizes : Sizes) (base : Base) (history : List Item) (start o copied : ℕ) (reads : List Read) (places : List Place) (image : Image) (v : Version) (b : Attempt M) → b.start ≡ start → b.reads ≡ record { object = o; writer = v.writer } ∷ reads → (r : IsRead sizes base history start reads o places image v)
-        → view_of base history r.place.slot (Core.Copying b copied) ≡ Some (record { interval = with_place r.place (read_interval base history start reads); copying = Some (record { object = o; slot = r.place.slot }) }) }
+    ensures { (sizes : Sizes) (base : Base) (history : List Item) (start o copied : ℕ)
+        → (reads : List Read) (places : List Place) (image : Image) (v : Version) (b : Attempt M)
+        → b.start ≡ start → b.reads ≡ record { object = o; writer = v.writer } ∷ reads
+        → (r : IsRead sizes base history start reads o places image v)
+        → (let interval = with_place r.place (read_interval base history start reads) in
+        let pin : Pin = record { object = o; slot = r.place.slot } in
+        view_of base history r.place.slot (Core.Copying b copied)
+        ≡ Some (record { interval = interval; copying = Some pin })) }
 {}
 
 /// A finish that joins cuts the intervals of those that read an object that it writes, and leaves the others.
 pub fn finish_cuts_readers<M>()
-    ensures { (steps : Steps M) (sizes : Sizes) (base : Base) (s : State M) (n left start : ℕ) (i : Item) (reads : List Read) → IsLawful steps sizes base s → get_or s.cores n Core.Idle ≡ Core.Committing i left → AreFound base s.history reads
-        → read_interval base (i ∷ s.history) start reads ≡ cut i.point (is_written_read i reads) (read_interval base s.history start reads) }
+    ensures { (m : Moment M) (n left start : ℕ) (i : Item) (reads : List Read)
+        → IsLawfulIn m → core_in m n ≡ Core.Committing i left
+        → AreFound m.base m.state.history reads
+        → read_interval m.base (i ∷ m.state.history) start reads
+        ≡ cut i.point (is_written_read i reads) (reads_in m start reads) }
 {}
 
 /// A finish that joins changes the tables by its point, its writes, its reads and its spawns.
 pub fn finish_changes_tables<M>()
-    ensures { (steps : Steps M) (sizes : Sizes) (base : Base) (floor : ℕ) (s : State M) (kept : Kept) (t : Tables) (n left : ℕ) (i : Item) → IsLawful steps sizes base s → get_or s.cores n Core.Idle ≡ Core.Committing i left
-        → AreTables sizes base floor s.history kept t → AreTables sizes base floor (i ∷ s.history) (with_finished (Some i) kept) (tables_with i kept.plan t) }
+    ensures { (m : Moment M) (t : Tables) (n left : ℕ) (i : Item)
+        → IsLawfulIn m → core_in m n ≡ Core.Committing i left → AreTablesIn m t
+        → AreTables m.sizes m.base m.floor (i ∷ m.state.history) (with_finished (Some i) m.kept)
+        (tables_with i m.kept.plan t) }
 {}
 
 /// A running core whose interval is not empty finds a version at its outside read, and the table has its place.
 pub fn read_finds_place<M>()
-    ensures { (steps : Steps M) (sizes : Sizes) (base : Base) (floor : ℕ) (s : State M) (kept : Kept) (image : Image) (t : Tables) (n o : ℕ) (a : Attempt M) → IsLawful steps sizes base s → StandsFor sizes base floor s kept image
-        → AreTables sizes base floor s.history kept t → get_or s.cores n Core.Idle ≡ Core.Running a → is_empty (read_interval base s.history a.start a.reads) ≡ false → o < sizes.objects
-        → (v : Version) × (chosen (read_interval base s.history a.start a.reads).hi (versions base o s.history) ≡ Some v) × IsRead sizes base s.history a.start a.reads o (t.places o) image v }
+    ensures { (m : Moment M) (t : Tables) (n o : ℕ) (a : Attempt M)
+        → IsStanding m → AreTablesIn m t → core_in m n ≡ Core.Running a
+        → is_empty (reads_in m a.start a.reads) ≡ false → o < m.sizes.objects
+        → (v : Version) × (chosen (reads_in m a.start a.reads).hi (all_versions m o) ≡ Some v)
+        × IsRead m.sizes m.base m.state.history a.start a.reads o (t.places o) m.image v }
 {}
 
 /// The tables change at a step of a core by the finish that joins, if one does.
 pub fn tables_go_on<M>()
-    ensures { (steps : Steps M) (sizes : Sizes) (base : Base) (floor : ℕ) (s : State M) (kept : Kept) (t : Tables) (n : ℕ) → IsLawful steps sizes base s → AreTables sizes base floor s.history kept t
-        → AreTables sizes base floor (event_step steps sizes base s (Event.CoreStep n)).0.history (kept_after steps sizes base s (Event.CoreStep n) kept) (tables_joined (joining s (Event.CoreStep n)) kept.plan t) }
+    ensures { (m : Moment M) (t : Tables) (n : ℕ) → IsLawfulIn m → AreTablesIn m t
+        → AreTablesIn (after_event m (Event.CoreStep n))
+        (tables_joined (joining m.state (Event.CoreStep n)) m.kept.plan t) }
 {}
 
 /// What is kept of the other attempts changes at a step of a core by the finish that joins, if one does: it cuts those that read what it writes.
 pub fn other_views_go_on<M>()
-    ensures { (steps : Steps M) (sizes : Sizes) (base : Base) (s : State M) (kept : Kept) (n k : ℕ) → IsLawful steps sizes base s → (k ≡ n → ⊥)
-        → (let t = (event_step steps sizes base s (Event.CoreStep n)).0 in view_of base t.history ((kept_after steps sizes base s (Event.CoreStep n) kept).pins k) (get_or t.cores k Core.Idle)
-        ≡ cut_view (joining s (Event.CoreStep n)) (reads_of (get_or s.cores k Core.Idle)) (view_of base s.history (kept.pins k) (get_or s.cores k Core.Idle))) }
+    ensures { (m : Moment M) (n k : ℕ) → IsLawfulIn m → (k ≡ n → ⊥)
+        → view_in (after_event m (Event.CoreStep n)) k
+        ≡ cut_view (joining m.state (Event.CoreStep n)) (reads_of (core_in m k)) (view_in m k) }
 {}
 
 /// What is kept of each core's attempt gives what is kept of the others of a core.
 pub fn views_of_others<M>()
-    ensures { (base : Base) (history : List Item) (pins : ℕ → ℕ) (views : ℕ → Option View) (cores : List (Core M)) (n : ℕ) → ((k : ℕ) → views k ≡ view_of base history (pins k) (get_or cores k Core.Idle))
-        → others_views views n 0 (length cores) ≡ views_of base history pins 0 (set cores n Core.Idle) }
+    ensures { (base : Base) (history : List Item) (pins : ℕ → ℕ) (views : ℕ → Option View)
+        → (cores : List (Core M)) (n : ℕ)
+        → ((k : ℕ) → views k ≡ view_of base history (pins k) (get_or cores k Core.Idle))
+        → others_views views n 0 (length cores)
+        ≡ views_of base history pins 0 (set cores n Core.Idle) }
 {}

@@ -14,16 +14,12 @@ use Rattle.kernel_model.proofs.CoreLaws.{durable_commit-idle}
 use Rattle.slot_model.specs.Standing.{IsLawful, StandsFor}
 use Rattle.slot_model.specs.Tabled.{AreTables, Place, fresh_tables, places_of}
 use Rattle.slot_model.proofs.Fresh.{boot_idle, tables_begin}
-use Rattle.set_model.specs.Sets.{TaskSet}
 use Rattle.device_model.specs.Words.{Words}
-use Rattle.device_model.specs.Layouts.{Layout, index_reads}
-use Rattle.device_model.specs.IndexWords.{Index, index_word, read_index}
+use Rattle.device_model.specs.IndexWords.{Index, read_index}
 use Rattle.device_model.specs.Decoding.{index_in}
-use Rattle.device_model.specs.Decoding as decoding
 use Rattle.device_model.specs.Keeping.{KeepsIn}
 use Rattle.device_model.specs.Places.{IsLaidOut}
-use Rattle.device_model.proofs.IndexReading.{read_back}
-use Rattle.device_model.proofs.IndexLists.{read_index-same, word-count}
+use Rattle.device_model.proofs.IndexKept.{index-kept}
 use Rattle.table_machine.specs.Tables.{Chain, Seat, Setting, Tables, Vacant, sizes_in}
 use Rattle.table_machine.specs.Events.{Answer, boot_answer, failed, no_index, reopened, saved_in, with_entry}
 use Rattle.table_machine.specs.Represents.{Ghost, chains_of, held_of, index_of, seat_of, seats_of, slots_in, tables_of, tables_on}
@@ -50,16 +46,6 @@ fail_follows {M} x base last g words s after = record { line = refl; writes = re
     go : (p : Power) → failed x (tables_on x base last g s p) ≡ tables_of x base last after (event_step x.steps (sizes_in x) base s Fail).0
     go On = at (index_of x base last g.kept s.history)
     go (Boot left) = at no_index
-
--- the index is read back from words that keep it
-pub index-read : (set : TaskSet) (l : Layout) (h : decoding.Held) (words : Words) → IsLaidOut set l → KeepsIn set l h words → read_index (length set.objects) (index_in l words) ≡ h.index
-index-read set l h words d k =
-    let count : index_in l words 8 ≡ length h.index.tasks = at 8 (omega (arith, d.fits)) ∙ word-count h.index in
-    let most = k.held.index.records in
-    read_index-same (length set.objects) (index_in l words) (index_word h.index) (λ i a. at i (omega (arith, d.fits))) ∙ read_back (length set.objects) h.index k.held.index.slots k.held.index.last
-  where
-    at : (i : ℕ) → i < index_reads l → index_in l words i ≡ index_word h.index i
-    at i a = rw k.root (k.index i a)
 
 -- the index names the same slots when each object has one version alone
 pub fresh-index : {M : Type 0} → (x : Setting M) (base : Base) (last : Option Entry) (clock : ℕ) (kept : Kept) (history : List Item) → index_of x base last (afresh clock kept) history ≡ index_of x base last kept history
@@ -129,7 +115,7 @@ booted_follows {M} x base last g words s d h f off k = subst (λ p. Follows x ba
     seats = seats-alike (seat_of base s.history g.kept no_index) (seat_of base s.history (afresh (clock_of base s.history) g.kept) later) s.cores (λ j. let e = idle j in rw e refl)
 
     is_read : read ≡ index
-    is_read = index-read x.set x.layout (held_of x base last g s) words d k
+    is_read = index-kept x.set x.layout (held_of x base last g s) words d k
 
     tables : with_parts (seats_of base s.history g.kept no_index s.cores) read (words x.layout.root) (reopened x.set read)
         ≡ with_parts (seats_of base s.history (afresh (clock_of base s.history) g.kept) later s.cores) later g.root (chains_of x (fresh_ghost base g s) s.history)

@@ -2,4 +2,4 @@ use Rattle.device_model.proofs.Decoded.{goes_on}
 use Rattle.device_model.proofs.journals.cut_commit_goes_on.Goals as goal
 
 pub returns : goal.returns
-returns g = goes_on
+returns g = λ format d. goes_on format d.kind d.set

@@ -2,4 +2,4 @@ use Rattle.slot_model.proofs.LiveCalls.{begin_stands}
 use Rattle.slot_model.proofs.calls.begin_keeps_slots.Goals as goal
 
 pub returns : goal.returns
-returns c = λ whole sizes base s kept image n h f. begin_stands whole sizes base s kept image n h.live f
+returns c = λ m n h. begin_stands m.whole m.sizes m.base m.state m.kept m.image n h.lawful.live h.stands

@@ -3,4 +3,4 @@ use Rattle.slot_model.specs.Marks.{committing}
 use Rattle.slot_model.proofs.calls.commit_slots_hold.Goals as goal
 
 pub returns : goal.returns
-returns c = λ whole sizes base s kept image n left o i h c l. (live_named whole sizes base s kept image (committing s n i left) h c.stands o l, λ few. live_commit_named whole sizes base s kept image n i left h c few o l)
+returns c = λ m n left o i h l. (live_named m.whole m.sizes m.base m.state m.kept m.image (committing m.state n i left) h.lawful h.commits.stands o l, λ few. live_commit_named m.whole m.sizes m.base m.state m.kept m.image n i left h.lawful h.commits few o l)

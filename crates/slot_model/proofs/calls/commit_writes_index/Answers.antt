@@ -2,4 +2,4 @@ use Rattle.slot_model.proofs.LiveCalls.{live_late}
 use Rattle.slot_model.proofs.calls.commit_writes_index.Goals as goal
 
 pub returns : goal.returns
-returns c = λ whole sizes base s kept image n left i h c l. live_late whole sizes base s kept image n i left h l c
+returns c = λ m n left i h l. live_late m.whole m.sizes m.base m.state m.kept m.image n i left h.lawful l h.commits

@@ -2,4 +2,4 @@ use Rattle.slot_model.proofs.LiveCalls.{fetch_stands}
 use Rattle.slot_model.proofs.calls.fetch_keeps_slots.Goals as goal
 
 pub returns : goal.returns
-returns c = λ whole sizes base s kept image n o m device h f own. fetch_stands whole sizes base s kept image n m o device h.live own f
+returns c = λ m n o k device h own. fetch_stands m.whole m.sizes m.base m.state m.kept m.image n k o device h.lawful.live own h.stands

@@ -2,4 +2,4 @@ use Rattle.slot_model.proofs.LiveCalls.{live_verdict}
 use Rattle.slot_model.proofs.calls.finish_by_tables.Goals as goal
 
 pub returns : goal.returns
-returns c = λ whole sizes base s kept image t n m run h f p own r. live_verdict whole sizes base s kept image t n m run h.live f p own r
+returns c = λ m t n k run h p own r. live_verdict m.whole m.sizes m.base m.state m.kept m.image t n k run h.lawful.live h.stands p own r

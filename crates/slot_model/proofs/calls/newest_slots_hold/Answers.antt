@@ -3,4 +3,4 @@ use Rattle.kernel_model.specs.Live.{cores_of}
 use Rattle.slot_model.proofs.calls.newest_slots_hold.Goals as goal
 
 pub returns : goal.returns
-returns c = λ whole sizes base s kept image o h f l. live_named whole sizes base s kept image (cores_of s.marks) h f o l
+returns c = λ m o h l. live_named m.whole m.sizes m.base m.state m.kept m.image (cores_of m.state.marks) h.lawful h.stands o l

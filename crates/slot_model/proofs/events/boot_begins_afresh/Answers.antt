@@ -2,4 +2,4 @@ use Rattle.slot_model.proofs.Fresh.{boot_idle, fresh_stands}
 use Rattle.slot_model.proofs.events.boot_begins_afresh.Goals as goal
 
 pub returns : goal.returns
-returns g c = λ steps sizes base floor s kept image left h f off. fresh_stands sizes base floor s kept image (boot_idle steps sizes base s left h off) f
+returns g c = λ m left h off. fresh_stands m.sizes m.base m.floor m.state m.kept m.image (boot_idle m.steps m.sizes m.base m.state left h.lawful off) h.stands

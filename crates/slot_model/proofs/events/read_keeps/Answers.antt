@@ -1,11 +1,10 @@
 use Rattle.slot_model.proofs.Arms.{turn_stands}
 use Rattle.std.proofs.Common.{ap, subst}
 use Rattle.kernel_model.specs.Cores.{Copying, Running}
-use Rattle.kernel_model.specs.Events.{CoreStep, event_step}
 use Rattle.slot_model.specs.Kept.{Kept}
 use Rattle.slot_model.specs.Changes.{pinned}
-use Rattle.slot_model.specs.Standing.{StandsFor}
+use Rattle.slot_model.specs.Moments.{StandsIn, stepped}
 use Rattle.slot_model.proofs.events.read_keeps.Goals as goal
 
 pub returns : goal.returns
-returns g c = λ steps sizes base floor s kept image n copied a b r h f on at turn e. subst (λ (k : Kept). StandsFor sizes base floor (event_step steps sizes base s (CoreStep n)).0 k image) (ap (λ rs. pinned base s.history n a rs kept) e) (turn_stands steps sizes base floor s kept image n (Running a) (Copying b copied) h f on at turn)
+returns g c = λ m n copied a b r h on at turn e. subst (λ (k : Kept). StandsIn (record (stepped m n) { kept = k })) (ap (λ rs. pinned m.base m.state.history n a rs m.kept) e) (turn_stands m.steps m.sizes m.base m.floor m.state m.kept m.image n (Running a) (Copying b copied) h.lawful h.stands on at turn)

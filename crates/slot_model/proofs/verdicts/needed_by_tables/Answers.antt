@@ -2,4 +2,4 @@ use Rattle.slot_model.proofs.Views.{others_needed_at}
 use Rattle.slot_model.proofs.verdicts.needed_by_tables.Goals as goal
 
 pub returns : goal.returns
-returns g c = λ steps sizes base floor s kept image n o h f l. others_needed_at sizes base floor s.history s.cores kept image h.sound.history.numbered f.stands n o l
+returns g c = λ m n o h l. others_needed_at m.sizes m.base m.floor m.state.history m.state.cores m.kept m.image h.lawful.sound.history.numbered h.stands.stands n o l
