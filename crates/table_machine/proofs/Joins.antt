@@ -1,25 +1,23 @@
 -- A finish that joins: the tables of the state with it.
-use Rattle.std.proofs.Common.{◌≡◌, ℕ, zero, suc, ◌+◌, ◌<◌, ◌≤◌, Bool, true, false, cond, eqb, ◌||◌, List, [], ◌∷◌, ◌++◌, get_or, set, map, length, max, Option, Some, None, refl, sym, ap, ap₂, ◌∙◌, subst, arith, slice_index}
+use Rattle.std.proofs.Common.{◌≡◌, ℕ, zero, suc, ◌+◌, ◌<◌, ◌≤◌, Bool, true, false, cond, ◌||◌, List, [], ◌∷◌, ◌++◌, get_or, set, map, length, max, Option, Some, None, refl, sym, ap, ap₂, ◌∙◌, subst, arith, slice_index}
 use Rattle.std.specs.Prelude.{is_some, take}
 use Rattle.std.specs.List.{AllByRecursion, list_any}
 use Rattle.object_sets.specs.ObjectSets.{is_among}
-use Rattle.kernel_model.specs.Effects.{Write, words_of, written}
+use Rattle.kernel_model.proofs.Growth.{reads_kept}
+use Rattle.kernel_model.specs.Effects.{Write, written}
 use Rattle.kernel_model.specs.Items.{Entry, Item, entry_of, listing}
 use Rattle.kernel_model.specs.OpenTasks.{children, others_than}
 use Rattle.kernel_model.specs.Replay.{Base}
-use Rattle.kernel_model.specs.Versions.{Read, Version, find_version, read_words, versions, versions_to, words_in}
+use Rattle.kernel_model.specs.Versions.{Read, read_words}
 use Rattle.kernel_model.specs.Intervals.{Interval, read_interval}
 use Rattle.kernel_model.specs.Cores.{Attempt, Core, Idle, Running, Copying, Ready, Committing}
 use Rattle.kernel_model.specs.Events.{On, State}
 use Rattle.kernel_model.specs.Bounds.{bound_of}
 use Rattle.kernel_model.specs.Chain.{cut}
-use Rattle.kernel_model.specs.History.{AreFound, IsNumbered}
+use Rattle.kernel_model.specs.History.{AreFound}
 use Rattle.kernel_model.specs.Sound.{IsSoundCore}
 use Rattle.kernel_model.proofs.BoundLaws.{bound_raised, commit_above}
-use Rattle.kernel_model.proofs.Growth.{writer_found, writers_below}
 use Rattle.kernel_model.proofs.Points.{found}
-use Rattle.kernel_model.proofs.VersionLaws.{tops}
-use Rattle.std.proofs.lemmas.Bool.{ne_eqb}
 use Rattle.slot_model.specs.Kept.{Kept, newest_slot, with_held}
 use Rattle.slot_model.specs.Changes.{with_finished}
 use Rattle.slot_model.specs.Standing.{IsLawful, StandsFor}
@@ -93,41 +91,6 @@ begun-stay : (base : Base) (i : Item) (history : List Item) (copied : ℕ) (read
 begun-stay base i history copied [] h = refl
 begun-stay base i history copied (r ∷ reads) h = ap₂ (λ (words : List ℕ) (copies : List Copy). let c : Copy = record { object = r.object; words = take copied words } in c ∷ copies) (sym h.0) (copies-stay base i history reads h.1)
 
--- the words of a version rest on its writer, whenever the newest ends
-words-any_end : (n : ℕ) (c d : Option ℕ) (base : Base) (o : ℕ) (history : List Item) → words_in (find_version n (versions_to c base o history)) ≡ words_in (find_version n (versions_to d base o history))
-words-any_end n c d base o [] = go (eqb base.number n)
-  where
-    last : Option ℕ → Version
-    last e = record { writer = base.number; begin = base.clock; end = e; words = words_of base.objects o }
-
-    go : (b : Bool) → words_in (cond b (Some (last c)) None) ≡ words_in (cond b (Some (last d)) None)
-    go true = refl
-    go false = refl
-words-any_end n c d base o (i ∷ history) = by (words-any_end n c d base o history) (written i.run.writes o)
-  where
-    by : words_in (find_version n (versions_to c base o history)) ≡ words_in (find_version n (versions_to d base o history)) → (w : Option (List ℕ)) → words_in (find_version n (tops c base o i history w)) ≡ words_in (find_version n (tops d base o i history w))
-    by rest None = rest
-    by rest (Some words) = go (eqb i.number n)
-      where
-        first : Option ℕ → Version
-        first e = record { writer = i.number; begin = i.point; end = e; words = words }
-
-        go : (b : Bool) → words_in (cond b (Some (first c)) (find_version n (versions_to (Some i.point) base o history))) ≡ words_in (cond b (Some (first d)) (find_version n (versions_to (Some i.point) base o history)))
-        go true = refl
-        go false = refl
-
--- what was read has the same words when one more finish has joined
-reads-stay : (base : Base) (i : Item) (history : List Item) → IsNumbered base (i ∷ history) → (reads : List Read) → AreFound base history reads → AllByRecursion (λ r. read_words base (i ∷ history) r ≡ read_words base history r) reads
-reads-stay base i history h [] k = tt
-reads-stay base i history h (r ∷ reads) k = (at (written i.run.writes r.object), reads-stay base i history h reads k.1)
-  where
-    old : r.writer ≤ base.number + length history
-    old = rw (← writer_found r.writer _ k.0.0 k.0.1) (found (λ v. v.writer ≤ base.number + length history) r.writer (versions base r.object history) k.0.0 (writers_below None base r.object history (h.0.2, h.1.1)) k.0.1)
-
-    at : (w : Option (List ℕ)) → words_in (find_version r.writer (tops None base r.object i history w)) ≡ read_words base history r
-    at None = refl
-    at (Some words) = rw (ne_eqb i.number r.writer (λ f. omega (arith, h.0.0, f, old))) (words-any_end r.writer (Some i.point) None base r.object history)
-
 -- the seat of another core
 other_seat : {M : Type 0} → (x : Setting M) (base : Base) (s : State M) (n : ℕ) (i : Item) (kept after : Kept) (before index : Index) → IsLawful x.steps (sizes_in x) base s → get_or s.cores n Idle ≡ Committing i zero → after.pins ≡ kept.pins →
     (k : ℕ) → (k ≡ n → ⊥) → (c : Core M) → get_or s.cores k Idle ≡ c → cut_seat i (seat_of base s.history kept before k c) ≡ seat_of base (i ∷ s.history) after index k c
@@ -143,7 +106,7 @@ other_seat {M} x base s n i kept after before index h at pins k ne c e = go c e 
         (ap (λ (y : Bool). cut i.point y (read_interval base s.history a.start a.reads)) f ∙ sym (finish_cuts x.steps (sizes_in x) base s n zero a.start i a.reads h at found)) g
 
     stays : (reads : List Read) → AreFound base s.history reads → AllByRecursion (λ r. read_words base (i ∷ s.history) r ≡ read_words base s.history r) reads
-    stays reads found = reads-stay base i s.history committed.0.numbered reads found
+    stays reads found = (reads_kept base i s.history committed.0.numbered reads found).1
 
     go : (c : Core M) → get_or s.cores k Idle ≡ c → IsSoundCore {M = M} x.steps (sizes_in x) base s.history c → cut_seat i (seat_of base s.history kept before k c) ≡ seat_of base (i ∷ s.history) after index k c
     go Idle e sound = refl
