@@ -45,8 +45,8 @@ bit b = if b then 1 else 0
 abbrev pub upper_word : ℤ → ℕ
 upper_word product = cast_unsigned w64 product / 2 ^ 32
 
--- Quotient and remainder of signed words, rounded toward zero, so that the remainder has the dividend's sign.
--- The one quotient that is no signed word, 2 ^ 31 as -2 ^ 31 by -1, has the word of -2 ^ 31.
+-- Quotient and remainder of signed words: the quotient is rounded toward zero, and the remainder has the
+-- dividend's sign. The one quotient that is no signed word is 2 ^ 31, of -2 ^ 31 by -1: it has the word of -2 ^ 31.
 abbrev pub signed_quotient : ℕ → ℕ → ℕ
 signed_quotient a b = cast_unsigned w32 (int_div (cast_signed w32 a) (cast_signed w32 b))
 
