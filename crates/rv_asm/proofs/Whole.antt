@@ -20,7 +20,7 @@ use Rattle.rv_isa.specs.declared.instruction.LoadOp.TheVariants.{Lb, Lh, Lw, Lbu
 use Rattle.rv_isa.specs.declared.instruction.StoreOp.{StoreOp}
 use Rattle.rv_isa.specs.declared.instruction.StoreOp.TheVariants.{Sb, Sh, Sw}
 use Rattle.rv_isa.specs.declared.instruction.RegOp.{RegOp}
-use Rattle.rv_isa.specs.declared.instruction.RegOp.TheVariants.{Add, Sub, Sll, Slt, Sltu, Xor, Srl, Sra, Or, And}
+use Rattle.rv_isa.specs.declared.instruction.RegOp.TheVariants.{Add, Sub, Sll, Slt, Sltu, Xor, Srl, Sra, Or, And, Mul, Mulh, Mulhsu, Mulhu, Div, Divu, Rem, Remu}
 use Rattle.rv_isa.specs.declared.instruction.Instr.{Instr}
 use Rattle.rv_isa.specs.declared.instruction.Instr.TheVariants.{Lui, Auipc, Jal, Jalr, Branch, Load as LoadFrom, Store, OpImm, Op, Fence, Ecall, Ebreak}
 use Rattle.rv_asm.specs.declared.cause.AsmCause.{AsmCause}
@@ -187,7 +187,7 @@ templates_ok =
     let loads : AllByRecursion IsInstr load_templates = all_map load_template load_ok (Lb ∷ Lh ∷ Lw ∷ Lbu ∷ Lhu ∷ []) in
     let stores : AllByRecursion IsInstr store_templates = all_map store_template store_ok (Sb ∷ Sh ∷ Sw ∷ []) in
     let immediates : AllByRecursion IsInstr imm_templates = all_map imm_template imm_ok (Addi ∷ Slti ∷ Sltiu ∷ Xori ∷ Ori ∷ Andi ∷ Slli ∷ Srli ∷ Srai ∷ []) in
-    let ops : AllByRecursion IsInstr op_templates = all_map op_template op_ok (Add ∷ Sub ∷ Sll ∷ Slt ∷ Sltu ∷ Xor ∷ Srl ∷ Sra ∷ Or ∷ And ∷ []) in
+    let ops : AllByRecursion IsInstr op_templates = all_map op_template op_ok (Add ∷ Sub ∷ Sll ∷ Slt ∷ Sltu ∷ Xor ∷ Srl ∷ Sra ∷ Or ∷ And ∷ Mul ∷ Mulh ∷ Mulhsu ∷ Mulhu ∷ Div ∷ Divu ∷ Rem ∷ Remu ∷ []) in
     let two = all_append IsInstr single_templates branch_templates singles_ok branches in
     let three = all_append IsInstr (single_templates ++ branch_templates) load_templates two loads in
     let four = all_append IsInstr (single_templates ++ branch_templates ++ load_templates) store_templates three stores in

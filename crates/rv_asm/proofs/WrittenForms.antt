@@ -9,7 +9,7 @@ use Rattle.rv_isa.specs.declared.instruction.ImmOp.TheVariants.{Addi, Slti, Slti
 use Rattle.rv_isa.specs.declared.instruction.BranchOp.TheVariants.{Beq, Bne, Blt, Bge, Bltu, Bgeu}
 use Rattle.rv_isa.specs.declared.instruction.LoadOp.TheVariants.{Lb, Lh, Lw, Lbu, Lhu}
 use Rattle.rv_isa.specs.declared.instruction.StoreOp.TheVariants.{Sb, Sh, Sw}
-use Rattle.rv_isa.specs.declared.instruction.RegOp.TheVariants.{Add, Sub, Sll, Slt, Sltu, Xor, Srl, Sra, Or, And}
+use Rattle.rv_isa.specs.declared.instruction.RegOp.TheVariants.{Add, Sub, Sll, Slt, Sltu, Xor, Srl, Sra, Or, And, Mul, Mulh, Mulhsu, Mulhu, Div, Divu, Rem, Remu}
 use Rattle.rv_isa.specs.declared.instruction.Instr.{Instr}
 use Rattle.rv_isa.specs.declared.instruction.Instr.TheVariants.{Lui, Auipc, Jal, Jalr, Branch, Load, Store, OpImm, Op, Fence, Ecall, Ebreak}
 use Rattle.rv_asm.specs.Forms.{x0, branch_template, load_template, store_template, imm_template, op_template, single_templates, branch_templates, load_templates, store_templates, imm_templates, op_templates, templates, pseudo_forms, form_named}
@@ -82,6 +82,14 @@ formed (Op Srl rd rs1 rs2) = record { token = refl; unlabelled = refl; no_load =
 formed (Op Sra rd rs1 rs2) = record { token = refl; unlabelled = refl; no_load = refl; no_word = refl; named = refl }
 formed (Op Or rd rs1 rs2) = record { token = refl; unlabelled = refl; no_load = refl; no_word = refl; named = refl }
 formed (Op And rd rs1 rs2) = record { token = refl; unlabelled = refl; no_load = refl; no_word = refl; named = refl }
+formed (Op Mul rd rs1 rs2) = record { token = refl; unlabelled = refl; no_load = refl; no_word = refl; named = refl }
+formed (Op Mulh rd rs1 rs2) = record { token = refl; unlabelled = refl; no_load = refl; no_word = refl; named = refl }
+formed (Op Mulhsu rd rs1 rs2) = record { token = refl; unlabelled = refl; no_load = refl; no_word = refl; named = refl }
+formed (Op Mulhu rd rs1 rs2) = record { token = refl; unlabelled = refl; no_load = refl; no_word = refl; named = refl }
+formed (Op Div rd rs1 rs2) = record { token = refl; unlabelled = refl; no_load = refl; no_word = refl; named = refl }
+formed (Op Divu rd rs1 rs2) = record { token = refl; unlabelled = refl; no_load = refl; no_word = refl; named = refl }
+formed (Op Rem rd rs1 rs2) = record { token = refl; unlabelled = refl; no_load = refl; no_word = refl; named = refl }
+formed (Op Remu rd rs1 rs2) = record { token = refl; unlabelled = refl; no_load = refl; no_word = refl; named = refl }
 formed (Fence rd rs1 bits) = record { token = refl; unlabelled = refl; no_load = refl; no_word = refl; named = refl }
 formed Ecall = record { token = refl; unlabelled = refl; no_load = refl; no_word = refl; named = refl }
 formed Ebreak = record { token = refl; unlabelled = refl; no_load = refl; no_word = refl; named = refl }

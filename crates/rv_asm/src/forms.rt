@@ -47,7 +47,7 @@ const IMMEDIATES: [ImmOp; 9] = [
     ImmOp::Srai,
 ];
 
-const REGISTER_OPS: [RegOp; 10] = [
+const REGISTER_OPS: [RegOp; 18] = [
     RegOp::Add,
     RegOp::Sub,
     RegOp::Sll,
@@ -58,6 +58,14 @@ const REGISTER_OPS: [RegOp; 10] = [
     RegOp::Sra,
     RegOp::Or,
     RegOp::And,
+    RegOp::Mul,
+    RegOp::Mulh,
+    RegOp::Mulhsu,
+    RegOp::Mulhu,
+    RegOp::Div,
+    RegOp::Divu,
+    RegOp::Rem,
+    RegOp::Remu,
 ];
 
 /// The instructions that no other shares its fields with.

@@ -1,4 +1,4 @@
-//! An assembler for RV32I: lines of text as words, and back.
+//! An assembler for RV32IM: lines of text as words, and back.
 #![tactic(auto)]
 
 mod assembler;

@@ -6,7 +6,7 @@ use std::alloc::Global;
 use std::test::Fail;
 
 /// One line and its words.
-const LINES: [(&str, &[u32]); 58] = [
+const LINES: [(&str, &[u32]); 67] = [
     ("lui t0, 1048575", &[0xffff_f2b7]),
     ("auipc x31, 0", &[0x0000_0f97]),
     ("jal ra, -1048576", &[0x8000_00ef]),
@@ -45,6 +45,15 @@ const LINES: [(&str, &[u32]); 58] = [
     ("sra a6, a7, s2", &[0x4128_d833]),
     ("or s3, s4, s5", &[0x015a_69b3]),
     ("and s6, s7, s8", &[0x018b_fb33]),
+    ("mul a0, a0, a1", &[0x02b5_0533]),
+    ("mul t0, t1, t2", &[0x0273_02b3]),
+    ("mulh s3, s4, s5", &[0x035a_19b3]),
+    ("mulhsu s6, s7, s8", &[0x038b_ab33]),
+    ("mulhu a0, a1, a2", &[0x02c5_b533]),
+    ("div a3, a4, a5", &[0x02f7_46b3]),
+    ("divu ra, sp, gp", &[0x0231_50b3]),
+    ("rem t3, t4, t5", &[0x03ee_ee33]),
+    ("remu t6, s10, s11", &[0x03bd_7fb3]),
     ("fence", &[0x0ff0_000f]),
     ("ecall", &[0x0000_0073]),
     ("ebreak", &[0x0010_0073]),
@@ -107,7 +116,7 @@ const TEXTS: [(&str, &[u32]); 29] = [
 ];
 
 /// Faulty texts, with the first faulty line and its cause.
-const FAULTS: [(&str, u32, AsmCause); 71] = [
+const FAULTS: [(&str, u32, AsmCause); 74] = [
     ("foo a0", 1, AsmCause::Mnemonic),
     ("nop\nADD t0, t1, t2", 2, AsmCause::Mnemonic),
     ("foo:nop", 1, AsmCause::Mnemonic),
@@ -118,7 +127,10 @@ const FAULTS: [(&str, u32, AsmCause); 71] = [
     ("a: b: nop", 1, AsmCause::Mnemonic),
     ("a nop", 1, AsmCause::Mnemonic),
     ("nop\rnop", 1, AsmCause::Mnemonic),
+    ("muli t0, t1, 2", 1, AsmCause::Mnemonic),
     ("add t0, t1", 1, AsmCause::Operand),
+    ("div t0, t1", 1, AsmCause::Operand),
+    ("mulhu t0, t1, 7", 1, AsmCause::Operand),
     ("add t0, t1, t2, t3", 1, AsmCause::Operand),
     ("add t0, t1, ", 1, AsmCause::Operand),
     ("add t0,, t2", 1, AsmCause::Operand),

@@ -8,3 +8,4 @@ pub mod Stepping
 pub mod Task
 pub mod Machine
 pub mod Example
+pub mod Products

@@ -1,7 +1,8 @@
 -- What each operation computes (the RISC-V unprivileged ISA manual, sections 2.4 "Integer Computational
--- Instructions", 2.5 "Control Transfer Instructions" and 2.6 "Load and Store Instructions").
-use Rattle.std.specs.Prelude.{ℕ, ◌+◌, ◌-◌, ◌*◌, ◌/◌, ◌%◌, ◌^◌, ◌==◌, ℤ, pos, negsuc, int_lt, bit_and, bit_or, bit_xor, not, Bool, List, nat_lt, slice_index, slice_set, if◌then◌else◌}
-use Rattle.std.specs.Int.{cast_unsigned, cast_signed, w32}
+-- Instructions", 2.5 "Control Transfer Instructions" and 2.6 "Load and Store Instructions", and the chapter
+-- on extension M for integer multiplication and division).
+use Rattle.std.specs.Prelude.{ℕ, ◌+◌, ◌-◌, ◌*◌, ◌/◌, ◌%◌, ◌^◌, ◌==◌, ℤ, pos, negsuc, ◌*ℤ◌, int_lt, int_div, int_rem, bit_and, bit_or, bit_xor, not, Bool, List, nat_lt, slice_index, slice_set, if◌then◌else◌}
+use Rattle.std.specs.Int.{cast_unsigned, cast_signed, w32, w64}
 use Rattle.rv_core.specs.State.{MachineState}
 use Rattle.rv_core.specs.Bytes.{word_at, put_word, half_at, put_half}
 use Rattle.rv_isa.specs.Fields.{signed}
@@ -15,7 +16,7 @@ use Rattle.rv_isa.specs.declared.instruction.LoadOp.TheVariants.{Lb, Lh, Lw, Lbu
 use Rattle.rv_isa.specs.declared.instruction.StoreOp.{StoreOp}
 use Rattle.rv_isa.specs.declared.instruction.StoreOp.TheVariants.{Sb, Sh, Sw}
 use Rattle.rv_isa.specs.declared.instruction.RegOp.{RegOp}
-use Rattle.rv_isa.specs.declared.instruction.RegOp.TheVariants.{Add, Sub, Sll, Slt, Sltu, Xor, Srl, Sra, Or, And}
+use Rattle.rv_isa.specs.declared.instruction.RegOp.TheVariants.{Add, Sub, Sll, Slt, Sltu, Xor, Srl, Sra, Or, And, Mul, Mulh, Mulhsu, Mulhu, Div, Divu, Rem, Remu}
 
 -- register 0 reads as zero, and a write to it is dropped
 abbrev pub register : MachineState → ℕ → ℕ
@@ -40,7 +41,20 @@ shifted (negsuc n) k = negsuc (n / 2 ^ k)
 abbrev pub bit : Bool → ℕ
 bit b = if b then 1 else 0
 
--- what an operation makes of two registers; shifts take the low five bits of the second
+-- the upper of the two words of a product, in two's complement
+abbrev pub upper_word : ℤ → ℕ
+upper_word product = cast_unsigned w64 product / 2 ^ 32
+
+-- Quotient and remainder of signed words: the quotient is rounded toward zero, and the remainder has the
+-- dividend's sign. The one quotient that is no signed word is 2 ^ 31, of -2 ^ 31 by -1: it has the word of -2 ^ 31.
+abbrev pub signed_quotient : ℕ → ℕ → ℕ
+signed_quotient a b = cast_unsigned w32 (int_div (cast_signed w32 a) (cast_signed w32 b))
+
+abbrev pub signed_remainder : ℕ → ℕ → ℕ
+signed_remainder a b = cast_unsigned w32 (int_rem (cast_signed w32 a) (cast_signed w32 b))
+
+-- what an operation makes of two registers; shifts take the low five bits of the second, and a division by
+-- zero gives all ones and leaves the dividend
 abbrev pub computed : RegOp → ℕ → ℕ → ℕ
 computed Add a b = (a + b) % 2 ^ 32
 computed Sub a b = (a + (2 ^ 32 - b)) % 2 ^ 32
@@ -52,6 +66,14 @@ computed Srl a b = a / 2 ^ (b % 32)
 computed Sra a b = cast_unsigned w32 (shifted (cast_signed w32 a) (b % 32))
 computed Or a b = bit_or a b
 computed And a b = bit_and a b
+computed Mul a b = (a * b) % 2 ^ 32
+computed Mulh a b = upper_word (cast_signed w32 a *ℤ cast_signed w32 b)
+computed Mulhsu a b = upper_word (cast_signed w32 a *ℤ pos b)
+computed Mulhu a b = upper_word (pos a *ℤ pos b)
+computed Div a b = if b == 0 then 2 ^ 32 - 1 else signed_quotient a b
+computed Divu a b = if b == 0 then 2 ^ 32 - 1 else a / b
+computed Rem a b = if b == 0 then a else signed_remainder a b
+computed Remu a b = if b == 0 then a else a % b
 
 -- the operation that takes a register in place of the immediate
 abbrev pub with_immediate : ImmOp → RegOp

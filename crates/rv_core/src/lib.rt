@@ -1,10 +1,13 @@
-// A machine of one task: the step of RV32I on 32 registers and a private memory, and the services that a
+// A machine of one task: the step of RV32IM on 32 registers and a private memory, and the services that a
 // task calls.
 #![tactic(auto)]
 
 ghost use Rattle.rv_core.specs.Example.{Ends};
+ghost use Rattle.rv_core.specs.Products.{AreComputed};
 
 mod bytes;
+#[cfg(test)]
+mod division_tests;
 mod machine;
 mod operations;
 mod services;
@@ -17,4 +20,9 @@ pub use services::{Service, Step};
 /// A program of 12 instructions, followed by computation: it ends by the exit that was worked out by hand.
 pub fn worked()
     ensures { Ends }
+{}
+
+/// Products and quotients of words, edges among them, as they were worked out by hand.
+pub fn products_and_quotients()
+    ensures { AreComputed }
 {}

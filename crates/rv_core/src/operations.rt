@@ -1,8 +1,9 @@
 // What each operation computes.
 
-ghost use Rattle.std.specs.Prelude.{◌≡◌, ◌+◌, ◌^◌, ◌<◌, ◌≤◌, ℕ, length, max};
+ghost use Rattle.std.specs.Prelude.{◌≡◌, ◌+◌, ◌^◌, ◌<◌, ◌≤◌, ◌*ℤ◌, ℕ, pos, length, max};
 ghost use Rattle.rv_core.specs.Bytes.{IsZeroFrom};
-ghost use Rattle.rv_core.specs.Operations.{computed, with_immediate, is_taken, load_size, store_size, read_at, put_at};
+ghost use Rattle.rv_core.specs.Operations.{computed, upper_word, with_immediate, is_taken, load_size, store_size, read_at, put_at};
+ghost use Rattle.rv_isa.specs.declared.instruction.RegOp.TheVariants.{Div, Divu, Rem, Remu};
 
 use crate::bytes::{half_in, put_half_in, put_word_in, word_in};
 use rv_isa::{BranchOp, ImmOp, LoadOp, RegOp, StoreOp};
@@ -59,7 +60,66 @@ pub fn put_in(op: StoreOp, memory: &mut [u8], at: usize, word: u32)
     }
 }
 
-/// What an operation makes of two registers; sums and differences wrap, and shifts use the low five bits.
+fn upper_half(product: i64) -> u32
+    ensures { result ≡ upper_word product }
+{
+    (product.cast_unsigned() >> 32) as u32
+}
+
+fn multiply_high(a: i32, b: i32) -> u32
+    ensures { result ≡ upper_word (a *ℤ b) }
+{
+    upper_half(a as i64 * b as i64)
+}
+
+fn multiply_high_mixed(a: i32, b: u32) -> u32
+    ensures { result ≡ upper_word (a *ℤ pos b) }
+{
+    upper_half(a as i64 * b as i64)
+}
+
+fn multiply_high_unsigned(a: u32, b: u32) -> u32
+    ensures { result ≡ upper_word (pos a *ℤ pos b) }
+{
+    ((a as u64 * b as u64) >> 32) as u32
+}
+
+fn divide(a: u32, b: u32) -> u32
+    ensures { result ≡ computed Div a b }
+{
+    if b == 0 {
+        return u32::MAX;
+    }
+    a.cast_signed()
+        .wrapping_div(b.cast_signed())
+        .cast_unsigned()
+}
+
+fn divide_unsigned(a: u32, b: u32) -> u32
+    ensures { result ≡ computed Divu a b }
+{
+    if b == 0 { u32::MAX } else { a / b }
+}
+
+fn remainder(a: u32, b: u32) -> u32
+    ensures { result ≡ computed Rem a b }
+{
+    if b == 0 {
+        return a;
+    }
+    a.cast_signed()
+        .wrapping_rem(b.cast_signed())
+        .cast_unsigned()
+}
+
+fn remainder_unsigned(a: u32, b: u32) -> u32
+    ensures { result ≡ computed Remu a b }
+{
+    if b == 0 { a } else { a % b }
+}
+
+/// What an operation makes of two registers; sums, differences and the lower words of products wrap, shifts
+/// use the low five bits, and a division by zero gives all ones and leaves the dividend.
 pub fn compute(op: RegOp, a: u32, b: u32) -> u32
     ensures { result ≡ computed op a b }
 {
@@ -74,6 +134,14 @@ pub fn compute(op: RegOp, a: u32, b: u32) -> u32
         RegOp::Sra => (a.cast_signed() >> (b % 32)).cast_unsigned(),
         RegOp::Or => a | b,
         RegOp::And => a & b,
+        RegOp::Mul => a.wrapping_mul(b),
+        RegOp::Mulh => multiply_high(a.cast_signed(), b.cast_signed()),
+        RegOp::Mulhsu => multiply_high_mixed(a.cast_signed(), b),
+        RegOp::Mulhu => multiply_high_unsigned(a, b),
+        RegOp::Div => divide(a, b),
+        RegOp::Divu => divide_unsigned(a, b),
+        RegOp::Rem => remainder(a, b),
+        RegOp::Remu => remainder_unsigned(a, b),
     }
 }
 

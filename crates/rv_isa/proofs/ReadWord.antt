@@ -17,7 +17,7 @@ use Rattle.rv_isa.specs.declared.instruction.LoadOp.TheVariants.{Lb, Lh, Lw, Lbu
 use Rattle.rv_isa.specs.declared.instruction.StoreOp.{StoreOp}
 use Rattle.rv_isa.specs.declared.instruction.StoreOp.TheVariants.{Sb, Sh, Sw}
 use Rattle.rv_isa.specs.declared.instruction.RegOp.{RegOp}
-use Rattle.rv_isa.specs.declared.instruction.RegOp.TheVariants.{Add, Sub, Sll, Slt, Sltu, Xor, Srl, Sra, Or, And}
+use Rattle.rv_isa.specs.declared.instruction.RegOp.TheVariants.{Add, Sub, Sll, Slt, Sltu, Xor, Srl, Sra, Or, And, Mul, Mulh, Mulhsu, Mulhu, Div, Divu, Rem, Remu}
 use Rattle.rv_isa.specs.declared.instruction.Instr.{Instr}
 use Rattle.rv_isa.specs.declared.instruction.Instr.TheVariants.{Lui, Auipc, Jal, Jalr, Branch, Load, Store, OpImm, Op, Fence, Ecall, Ebreak}
 
@@ -102,6 +102,14 @@ reads_op w r s t Srl a f g b c d = rw (a, f, g, b, c, d) refl
 reads_op w r s t Sra a f g b c d = rw (a, f, g, b, c, d) refl
 reads_op w r s t Or a f g b c d = rw (a, f, g, b, c, d) refl
 reads_op w r s t And a f g b c d = rw (a, f, g, b, c, d) refl
+reads_op w r s t Mul a f g b c d = rw (a, f, g, b, c, d) refl
+reads_op w r s t Mulh a f g b c d = rw (a, f, g, b, c, d) refl
+reads_op w r s t Mulhsu a f g b c d = rw (a, f, g, b, c, d) refl
+reads_op w r s t Mulhu a f g b c d = rw (a, f, g, b, c, d) refl
+reads_op w r s t Div a f g b c d = rw (a, f, g, b, c, d) refl
+reads_op w r s t Divu a f g b c d = rw (a, f, g, b, c, d) refl
+reads_op w r s t Rem a f g b c d = rw (a, f, g, b, c, d) refl
+reads_op w r s t Remu a f g b c d = rw (a, f, g, b, c, d) refl
 
 load_small : (o : LoadOp) → load_funct3 o < 8
 load_small Lb = omega arith
@@ -126,6 +134,14 @@ op_small Srl = omega arith
 op_small Sra = omega arith
 op_small Or = omega arith
 op_small And = omega arith
+op_small Mul = omega arith
+op_small Mulh = omega arith
+op_small Mulhsu = omega arith
+op_small Mulhu = omega arith
+op_small Div = omega arith
+op_small Divu = omega arith
+op_small Rem = omega arith
+op_small Remu = omega arith
 
 op7_small : (o : RegOp) → op_funct7 o < 64
 op7_small Add = omega arith
@@ -138,6 +154,14 @@ op7_small Srl = omega arith
 op7_small Sra = omega arith
 op7_small Or = omega arith
 op7_small And = omega arith
+op7_small Mul = omega arith
+op7_small Mulh = omega arith
+op7_small Mulhsu = omega arith
+op7_small Mulhu = omega arith
+op7_small Div = omega arith
+op7_small Divu = omega arith
+op7_small Rem = omega arith
+op7_small Remu = omega arith
 
 branch_small : (o : BranchOp) → branch_funct3 o < 8
 branch_small Beq = omega arith

@@ -17,7 +17,7 @@ use Rattle.rv_isa.specs.declared.instruction.LoadOp.TheVariants.{Lb, Lh, Lw, Lbu
 use Rattle.rv_isa.specs.declared.instruction.StoreOp.{StoreOp}
 use Rattle.rv_isa.specs.declared.instruction.StoreOp.TheVariants.{Sb, Sh, Sw}
 use Rattle.rv_isa.specs.declared.instruction.RegOp.{RegOp}
-use Rattle.rv_isa.specs.declared.instruction.RegOp.TheVariants.{Add, Sub, Sll, Slt, Sltu, Xor, Srl, Sra, Or, And}
+use Rattle.rv_isa.specs.declared.instruction.RegOp.TheVariants.{Add, Sub, Sll, Slt, Sltu, Xor, Srl, Sra, Or, And, Mul, Mulh, Mulhsu, Mulhu, Div, Divu, Rem, Remu}
 use Rattle.rv_isa.specs.declared.instruction.Instr.{Instr}
 use Rattle.rv_isa.specs.declared.instruction.Instr.TheVariants.{Lui, Auipc, Jal, Jalr, Fence, Ecall, Ebreak}
 
@@ -137,6 +137,8 @@ table_back w small =
     row_s w Slli 0 (omega arith) (omega arith) small ⨾ row_s w Srli 0 (omega arith) (omega arith) small ⨾ row_s w Srai 32 (omega arith) (omega arith) small ⨾
     row_op w Add small ⨾ row_op w Sub small ⨾ row_op w Sll small ⨾ row_op w Slt small ⨾ row_op w Sltu small ⨾
     row_op w Xor small ⨾ row_op w Srl small ⨾ row_op w Sra small ⨾ row_op w Or small ⨾ row_op w And small ⨾
+    row_op w Mul small ⨾ row_op w Mulh small ⨾ row_op w Mulhsu small ⨾ row_op w Mulhu small ⨾
+    row_op w Div small ⨾ row_op w Divu small ⨾ row_op w Rem small ⨾ row_op w Remu small ⨾
     row_fence w small ⨾ row_ecall w ⨾ row_ebreak w ⨾ no_more
 
 -- what the table reads is an instruction, and its word is the word that was read

@@ -11,7 +11,7 @@ use Rattle.rv_isa.specs.declared.instruction.LoadOp.TheVariants.{Lb, Lh, Lw, Lbu
 use Rattle.rv_isa.specs.declared.instruction.StoreOp.{StoreOp}
 use Rattle.rv_isa.specs.declared.instruction.StoreOp.TheVariants.{Sb, Sh, Sw}
 use Rattle.rv_isa.specs.declared.instruction.RegOp.{RegOp}
-use Rattle.rv_isa.specs.declared.instruction.RegOp.TheVariants.{Add, Sub, Sll, Slt, Sltu, Xor, Srl, Sra, Or, And}
+use Rattle.rv_isa.specs.declared.instruction.RegOp.TheVariants.{Add, Sub, Sll, Slt, Sltu, Xor, Srl, Sra, Or, And, Mul, Mulh, Mulhsu, Mulhu, Div, Divu, Rem, Remu}
 use Rattle.rv_isa.specs.declared.instruction.Instr.{Instr}
 use Rattle.rv_isa.specs.declared.instruction.Instr.TheVariants.{Lui, Auipc, Jal, Jalr, Branch, Load, Store, OpImm, Op, Fence, Ecall, Ebreak}
 
@@ -68,6 +68,14 @@ op_name Srl = codes "srl"
 op_name Sra = codes "sra"
 op_name Or = codes "or"
 op_name And = codes "and"
+op_name Mul = codes "mul"
+op_name Mulh = codes "mulh"
+op_name Mulhsu = codes "mulhsu"
+op_name Mulhu = codes "mulhu"
+op_name Div = codes "div"
+op_name Divu = codes "divu"
+op_name Rem = codes "rem"
+op_name Remu = codes "remu"
 
 abbrev pub mnemonic_of : Instr → List ℕ
 mnemonic_of (Lui rd imm) = codes "lui"

@@ -1,5 +1,6 @@
--- The instruction table: one row for each instruction (the RISC-V unprivileged ISA manual, chapter 2
--- and the listing "RV32/64G Instruction Set Listings", table "RV32I Base Instruction Set").
+-- The instruction table: one row for each instruction (the RISC-V unprivileged ISA manual, chapter 2, the
+-- chapter on extension M, and of the listing "RV32/64G Instruction Set Listings" the tables "RV32I Base
+-- Instruction Set" and "RV32M Standard Extension").
 use Rattle.std.specs.Prelude.{ℕ, ◌==◌, ◌≡◌, Bool, false, ◌&&◌, pos, List, [], ◌∷◌, All, Option, Some, None, if◌then◌else◌}
 use Rattle.rv_isa.specs.Formats.{opcode, funct3, funct7, rd, rs1, rs2, shift_amount, u_immediate, i_immediate, s_immediate, b_immediate, j_immediate}
 use Rattle.rv_isa.specs.Fields.{bits}
@@ -12,7 +13,7 @@ use Rattle.rv_isa.specs.declared.instruction.LoadOp.TheVariants.{Lb, Lh, Lw, Lbu
 use Rattle.rv_isa.specs.declared.instruction.StoreOp.{StoreOp}
 use Rattle.rv_isa.specs.declared.instruction.StoreOp.TheVariants.{Sb, Sh, Sw}
 use Rattle.rv_isa.specs.declared.instruction.RegOp.{RegOp}
-use Rattle.rv_isa.specs.declared.instruction.RegOp.TheVariants.{Add, Sub, Sll, Slt, Sltu, Xor, Srl, Sra, Or, And}
+use Rattle.rv_isa.specs.declared.instruction.RegOp.TheVariants.{Add, Sub, Sll, Slt, Sltu, Xor, Srl, Sra, Or, And, Mul, Mulh, Mulhsu, Mulhu, Div, Divu, Rem, Remu}
 use Rattle.rv_isa.specs.declared.instruction.Instr.{Instr}
 use Rattle.rv_isa.specs.declared.instruction.Instr.TheVariants.{Lui, Auipc, Jal, Jalr, Branch, Load, Store, OpImm, Op, Fence, Ecall, Ebreak}
 
@@ -67,6 +68,8 @@ table =
     shift_imm 0b001 0b0000000 Slli ∷ shift_imm 0b101 0b0000000 Srli ∷ shift_imm 0b101 0b0100000 Srai ∷
     op 0b000 0b0000000 Add ∷ op 0b000 0b0100000 Sub ∷ op 0b001 0b0000000 Sll ∷ op 0b010 0b0000000 Slt ∷ op 0b011 0b0000000 Sltu ∷
     op 0b100 0b0000000 Xor ∷ op 0b101 0b0000000 Srl ∷ op 0b101 0b0100000 Sra ∷ op 0b110 0b0000000 Or ∷ op 0b111 0b0000000 And ∷
+    op 0b000 0b0000001 Mul ∷ op 0b001 0b0000001 Mulh ∷ op 0b010 0b0000001 Mulhsu ∷ op 0b011 0b0000001 Mulhu ∷
+    op 0b100 0b0000001 Div ∷ op 0b101 0b0000001 Divu ∷ op 0b110 0b0000001 Rem ∷ op 0b111 0b0000001 Remu ∷
     by_funct3 0b0001111 0b000 (λ w. Fence (rd w) (rs1 w) (bits 20 12 w)) ∷
     by_word 0x00000073 Ecall ∷ by_word 0x00100073 Ebreak ∷ []
 

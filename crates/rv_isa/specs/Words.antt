@@ -11,7 +11,7 @@ use Rattle.rv_isa.specs.declared.instruction.LoadOp.TheVariants.{Lb, Lh, Lw, Lbu
 use Rattle.rv_isa.specs.declared.instruction.StoreOp.{StoreOp}
 use Rattle.rv_isa.specs.declared.instruction.StoreOp.TheVariants.{Sb, Sh, Sw}
 use Rattle.rv_isa.specs.declared.instruction.RegOp.{RegOp}
-use Rattle.rv_isa.specs.declared.instruction.RegOp.TheVariants.{Add, Sub, Sll, Slt, Sltu, Xor, Srl, Sra, Or, And}
+use Rattle.rv_isa.specs.declared.instruction.RegOp.TheVariants.{Add, Sub, Sll, Slt, Sltu, Xor, Srl, Sra, Or, And, Mul, Mulh, Mulhsu, Mulhu, Div, Divu, Rem, Remu}
 use Rattle.rv_isa.specs.declared.instruction.Instr.{Instr}
 use Rattle.rv_isa.specs.declared.instruction.Instr.TheVariants.{Lui, Auipc, Jal, Jalr, Branch, Load, Store, OpImm, Op, Fence, Ecall, Ebreak}
 
@@ -73,10 +73,26 @@ op_funct3 Srl = 5
 op_funct3 Sra = 5
 op_funct3 Or = 6
 op_funct3 And = 7
+op_funct3 Mul = 0
+op_funct3 Mulh = 1
+op_funct3 Mulhsu = 2
+op_funct3 Mulhu = 3
+op_funct3 Div = 4
+op_funct3 Divu = 5
+op_funct3 Rem = 6
+op_funct3 Remu = 7
 
 abbrev pub op_funct7 : RegOp → ℕ
 op_funct7 Sub = 32
 op_funct7 Sra = 32
+op_funct7 Mul = 1
+op_funct7 Mulh = 1
+op_funct7 Mulhsu = 1
+op_funct7 Mulhu = 1
+op_funct7 Div = 1
+op_funct7 Divu = 1
+op_funct7 Rem = 1
+op_funct7 Remu = 1
 op_funct7 _ = 0
 
 abbrev pub u_word : ℕ → ℕ → ℕ → ℕ

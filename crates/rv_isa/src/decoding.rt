@@ -152,6 +152,14 @@ fn decode_op(word: u32) -> Option<Instr>
         (0b101, 0b0100000) => RegOp::Sra,
         (0b110, 0b0000000) => RegOp::Or,
         (0b111, 0b0000000) => RegOp::And,
+        (0b000, 0b0000001) => RegOp::Mul,
+        (0b001, 0b0000001) => RegOp::Mulh,
+        (0b010, 0b0000001) => RegOp::Mulhsu,
+        (0b011, 0b0000001) => RegOp::Mulhu,
+        (0b100, 0b0000001) => RegOp::Div,
+        (0b101, 0b0000001) => RegOp::Divu,
+        (0b110, 0b0000001) => RegOp::Rem,
+        (0b111, 0b0000001) => RegOp::Remu,
         _ => return None,
     };
     Some(Instr::Op {
@@ -162,7 +170,7 @@ fn decode_op(word: u32) -> Option<Instr>
     })
 }
 
-/// The instruction of a word by the table of RV32I; `None` exactly where no row of the table has the word.
+/// The instruction of a word by the table of RV32IM; `None` exactly where no row of the table has the word.
 pub fn decode(word: u32) -> Option<Instr>
     ensures table { result ≡ instruction_of word }
     ensures none { IsNone result ↔ HasNoRow word }

@@ -125,14 +125,14 @@ fn funct3_of_op(op: RegOp) -> u32
     ensures fits { result < 8 }
 {
     match op {
-        RegOp::Add | RegOp::Sub => 0b000,
-        RegOp::Sll => 0b001,
-        RegOp::Slt => 0b010,
-        RegOp::Sltu => 0b011,
-        RegOp::Xor => 0b100,
-        RegOp::Srl | RegOp::Sra => 0b101,
-        RegOp::Or => 0b110,
-        RegOp::And => 0b111,
+        RegOp::Add | RegOp::Sub | RegOp::Mul => 0b000,
+        RegOp::Sll | RegOp::Mulh => 0b001,
+        RegOp::Slt | RegOp::Mulhsu => 0b010,
+        RegOp::Sltu | RegOp::Mulhu => 0b011,
+        RegOp::Xor | RegOp::Div => 0b100,
+        RegOp::Srl | RegOp::Sra | RegOp::Divu => 0b101,
+        RegOp::Or | RegOp::Rem => 0b110,
+        RegOp::And | RegOp::Remu => 0b111,
     }
 }
 
@@ -142,6 +142,8 @@ fn funct7_of_op(op: RegOp) -> u32
 {
     match op {
         RegOp::Sub | RegOp::Sra => 0b0100000,
+        RegOp::Mul | RegOp::Mulh | RegOp::Mulhsu | RegOp::Mulhu => 0b0000001,
+        RegOp::Div | RegOp::Divu | RegOp::Rem | RegOp::Remu => 0b0000001,
         _ => 0b0000000,
     }
 }

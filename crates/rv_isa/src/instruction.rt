@@ -45,7 +45,7 @@ pub enum ImmOp {
     Srai,
 }
 
-/// An operation on two registers.
+/// An operation on two registers; the last eight multiply and divide, of extension M.
 #[derive(Clone, Copy, PartialEq, Eq, Debug)]
 pub enum RegOp {
     Add,
@@ -58,9 +58,18 @@ pub enum RegOp {
     Sra,
     Or,
     And,
+    Mul,
+    Mulh,
+    Mulhsu,
+    Mulhu,
+    Div,
+    Divu,
+    Rem,
+    Remu,
 }
 
-/// An instruction of RV32I, with its fields as numbers (the RISC-V unprivileged ISA manual, chapter 2).
+/// An instruction of RV32IM, with its fields as numbers (the RISC-V unprivileged ISA manual, chapter 2 and
+/// the chapter on extension M).
 ///
 /// `imm` is a signed number of 12 bits, but for LUI and AUIPC the upper 20 bits as they stand, and for
 /// a shift the amount, below 32. `offset` is an even number of bytes, of 13 bits for a branch and of

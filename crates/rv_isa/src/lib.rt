@@ -1,4 +1,4 @@
-// The instruction table of RV32I, read both ways: from words to instructions and back.
+// The instruction table of RV32IM, read both ways: from words to instructions and back.
 #![tactic(auto)]
 
 mod decoding;

@@ -2,7 +2,7 @@
 
 use super::*;
 
-const VECTORS: [(u32, Instr); 16] = [
+const VECTORS: [(u32, Instr); 18] = [
     (
         0x123452b7,
         Instr::Lui {
@@ -111,6 +111,24 @@ const VECTORS: [(u32, Instr); 16] = [
             rd: Reg(9),
             rs1: Reg(10),
             rs2: Reg(11),
+        },
+    ),
+    (
+        0x02b50533,
+        Instr::Op {
+            op: RegOp::Mul,
+            rd: Reg(10),
+            rs1: Reg(10),
+            rs2: Reg(11),
+        },
+    ),
+    (
+        0x038bab33,
+        Instr::Op {
+            op: RegOp::Mulhsu,
+            rd: Reg(22),
+            rs1: Reg(23),
+            rs2: Reg(24),
         },
     ),
     (

@@ -4,7 +4,7 @@
 use super::*;
 use std::test::Fail;
 
-const TEXTS: [(&str, u32); 45] = [
+const TEXTS: [(&str, u32); 54] = [
     ("lui t0, 74565", 0x123452b7),
     ("auipc a5, 1048575", 0xfffff797),
     ("jal ra, 2048", 0x001000ef),
@@ -47,16 +47,26 @@ const TEXTS: [(&str, u32); 45] = [
     ("sra s1, a0, a1", 0x40b554b3),
     ("or a6, a7, s2", 0x0128e833),
     ("and s3, s4, s5", 0x015a79b3),
+    ("mul a0, a0, a1", 0x02b50533),
+    ("mul t0, t1, t2", 0x027302b3),
+    ("mulh s3, s4, s5", 0x035a19b3),
+    ("mulhsu s6, s7, s8", 0x038bab33),
+    ("mulhu a0, a1, a2", 0x02c5b533),
+    ("div a3, a4, a5", 0x02f746b3),
+    ("divu ra, sp, gp", 0x023150b3),
+    ("rem t3, t4, t5", 0x03eeee33),
+    ("remu t6, s10, s11", 0x03bd7fb3),
     ("fence", 0x0ff0000f),
     ("ecall", 0x00000073),
     ("ebreak", 0x00100073),
 ];
 
-// FENCEs of other fields, a shift by an amount that has bit 25, and words of no row
-const RAW_WORDS: [(&str, u32); 6] = [
+// FENCEs of other fields, a shift by an amount that has bit 25, an operation of no funct7, and words of no row
+const RAW_WORDS: [(&str, u32); 7] = [
     (".word 0x0000000f", 0x0000000f),
     (".word 0x0ff0008f", 0x0ff0008f),
     (".word 0x02001013", 0x02001013),
+    (".word 0x04b50533", 0x04b50533),
     (".word 0x00000000", 0x00000000),
     (".word 0xabcdef12", 0xabcdef12),
     (".word 0x90045678", 0x90045678),

@@ -28,7 +28,7 @@ use Rattle.rv_isa.specs.declared.instruction.LoadOp.TheVariants.{Lb, Lh, Lw, Lbu
 use Rattle.rv_isa.specs.declared.instruction.StoreOp.{StoreOp}
 use Rattle.rv_isa.specs.declared.instruction.StoreOp.TheVariants.{Sb, Sh, Sw}
 use Rattle.rv_isa.specs.declared.instruction.RegOp.{RegOp}
-use Rattle.rv_isa.specs.declared.instruction.RegOp.TheVariants.{Add, Sub, Sll, Slt, Sltu, Xor, Srl, Sra, Or, And}
+use Rattle.rv_isa.specs.declared.instruction.RegOp.TheVariants.{Add, Sub, Sll, Slt, Sltu, Xor, Srl, Sra, Or, And, Mul, Mulh, Mulhsu, Mulhu, Div, Divu, Rem, Remu}
 use Rattle.rv_isa.specs.declared.instruction.Instr.{Instr}
 use Rattle.rv_isa.specs.declared.instruction.Instr.TheVariants.{Lui, Auipc, Jal, Jalr, Branch, Load, Store, OpImm, Op, Fence, Ecall, Ebreak}
 use Rattle.script.specs.Sections.{ends}
@@ -240,6 +240,14 @@ op_first Srl a b c = first_is (mnemonic_of (Op Srl a b c)) refl
 op_first Sra a b c = first_is (mnemonic_of (Op Sra a b c)) refl
 op_first Or a b c = first_is (mnemonic_of (Op Or a b c)) refl
 op_first And a b c = first_is (mnemonic_of (Op And a b c)) refl
+op_first Mul a b c = first_is (mnemonic_of (Op Mul a b c)) refl
+op_first Mulh a b c = first_is (mnemonic_of (Op Mulh a b c)) refl
+op_first Mulhsu a b c = first_is (mnemonic_of (Op Mulhsu a b c)) refl
+op_first Mulhu a b c = first_is (mnemonic_of (Op Mulhu a b c)) refl
+op_first Div a b c = first_is (mnemonic_of (Op Div a b c)) refl
+op_first Divu a b c = first_is (mnemonic_of (Op Divu a b c)) refl
+op_first Rem a b c = first_is (mnemonic_of (Op Rem a b c)) refl
+op_first Remu a b c = first_is (mnemonic_of (Op Remu a b c)) refl
 
 mnemonic_first : (i : Instr) → IsFirst (mnemonic_of i)
 mnemonic_first (Lui rd imm) = first_is (mnemonic_of (Lui rd imm)) refl

@@ -1,4 +1,4 @@
--- Worked runs of one task over one object, on the RV32I machine itself. This project's own. The task reads x, adds its argument and writes x.
+-- Worked runs of one task over one object, on the RV32IM machine itself. This project's own. The task reads x, adds its argument and writes x.
 use Rattle.std.specs.Prelude.{◌≡◌, ℕ, List, [], ◌∷◌, replicate}
 use Rattle.kernel_model.specs.Effects.{Exit, Trap}
 use Rattle.kernel_model.specs.Items.{Entry}

@@ -1,4 +1,4 @@
--- How the tasks of a set run on the RV32I machine: its services, with their tests in order. This project's own.
+-- How the tasks of a set run on the RV32IM machine: its services, with their tests in order. This project's own.
 use Rattle.std.specs.Prelude.{ℕ, ◌+◌, ◌-◌, nat_le, nat_lt, ◌&&◌, List, ◌++◌, length, take, drop, Option, Some, None, if◌then◌else◌}
 use Rattle.rv_core.specs.Bytes.{put_words}
 use Rattle.rv_core.specs.declared.services.Service.{Service}

@@ -1,4 +1,4 @@
-//! Tasks of RV32I as runs of the kernel's model.
+//! Tasks of RV32IM as runs of the kernel's model.
 #![tactic(auto)]
 
 pub mod laws;
