@@ -10,7 +10,7 @@ ghost use Rattle.script.specs.Parts.{no_set, nothing};
 
 use crate::keyword::{Keyword, Stage, keyword_of};
 use crate::refusals::{LineRefusal, ScriptCause};
-use crate::set_lines::{take_cores, take_memory, take_object, take_records, take_task, version};
+use crate::set_lines::{take_cores, take_format, take_memory, take_object, take_records, take_task};
 use crate::timeline::Timeline;
 use crate::words::allowed;
 use plain_text::{Words, is_plain};
@@ -42,6 +42,7 @@ fn no_parts(alloc: Global) -> SetParts
     ensures { result ≡ no_set }
 {
     SetParts {
+        format: 0,
         cores: 0,
         memory: 0,
         records: 0,
@@ -94,10 +95,7 @@ impl Draft {
         ensures { Leaves self.new result (keyword_after keyword n self.old (words_left words.entry)) }
     {
         match keyword {
-            Keyword::Nvk => {
-                version(words)?;
-                Ok(())
-            }
+            Keyword::Nvk => take_format(&mut self.set, words),
             Keyword::Cores => {
                 self.cores_line = n;
                 take_cores(&mut self.set, words)

@@ -222,9 +222,9 @@ fn format_2_has_up_to_1024_records(rt: HostRuntime) -> Result<(), Fail> {
 #[test]
 fn format_2_has_up_to_128_objects(rt: HostRuntime) -> Result<(), Fail> {
     let mut bytes = of_format_2(1);
-    // 128 objects, of which the second is no object
+    // as an object, what follows the first has the name add and 100 words
     bytes[7] = 128;
-    assert_eq!(rt; refused_at(&rt, &bytes), Some(29));
+    assert_eq!(rt; refused_at(&rt, &bytes), Some(32));
     bytes[7] = 129;
     assert_eq!(rt; refused_at(&rt, &bytes), Some(7));
     Ok(())
