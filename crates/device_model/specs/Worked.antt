@@ -15,6 +15,7 @@ use Rattle.device_model.specs.Journals.{booted, boot_writes}
 -- one object, one program of twelve words, one task
 abbrev pub adding : TaskSet
 adding = record {
+  format = 1;
   cores = 1;
   memory = 1024;
   records = 1;

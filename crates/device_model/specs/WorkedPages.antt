@@ -19,6 +19,7 @@ spawn = record { program = 0; arg = 3 }
 -- two objects, 20 records, 12 tasks
 abbrev pub branching : TaskSet
 branching = record {
+  format = 1;
   cores = 1;
   memory = 1024;
   records = 20;

@@ -21,7 +21,7 @@ use crate::attempt::Attempt;
 use crate::part::{Part, Want};
 use crate::state::Durable;
 use nv_base::limits::{MAX_EVENTS, MAX_OBJECTS, MAX_SIZE};
-use nv_base::{CoreId, Entry, Line, NoMemory, ObjId, Outcome, Point, Seq, ObjSet, TaskId, TaskRec};
+use nv_base::{CoreId, Entry, Line, NoMemory, ObjId, ObjSet, Outcome, Point, Seq, TaskId, TaskRec};
 use rv_core::{Machine, Service, Step};
 use std::alloc::Global;
 use task_set::TaskSet;

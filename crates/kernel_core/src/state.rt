@@ -103,7 +103,13 @@ impl Durable {
     }
 
     /// Takes in a finish: the words of the objects that it wrote, and the tasks that it spawned.
-    pub(crate) fn finish(&mut self, entry: Entry, written: ObjSet, words: &Objects, spawns: &[Spawn])
+    pub(crate) fn finish(
+        &mut self,
+        entry: Entry,
+        written: ObjSet,
+        words: &Objects,
+        spawns: &[Spawn],
+    )
         requires few { length self.old.objects ≤ MAX_OBJECTS }
         requires same { length words.now ≡ length self.old.objects }
         requires sizes { (o : ℕ) → o < length self.old.objects → length (words_of words.now o) ≡ length (words_of self.old.objects o) }

@@ -10,7 +10,9 @@ ghost use Rattle.script.specs.Words.{known_name as known, new_name as new, place
 
 use crate::refusals::{LineRefusal, ScriptCause};
 use crate::words::{number, one, three, two, value};
-use nv_base::limits::{MAX_CORES, MAX_FORMAT, MAX_MEMORY, MAX_SIZE, MAX_SLOTS, MIN_MEMORY, MIN_SLOTS};
+use nv_base::limits::{
+    MAX_CORES, MAX_FORMAT, MAX_MEMORY, MAX_PROGRAMS, MAX_SIZE, MAX_SLOTS, MIN_MEMORY, MIN_SLOTS,
+};
 use nv_base::{NoMemory, ProgId, Spawn};
 use plain_text::{Words, is_name};
 use std::alloc::Global;
@@ -197,7 +199,7 @@ pub(crate) fn take_object(
 /// `task NAME ARG`.
 #[tactic(auto, unfolding(crate::specs::SetLines::task_after))]
 pub(crate) fn take_task(set: &mut SetParts, words: Words<'_>) -> Result<(), LineRefusal>
-    requires { length set.old.programs ≤ 16 }
+    requires { length set.old.programs ≤ MAX_PROGRAMS }
     ensures exact { Leaves set.new result (task_after set.old (words_left words.entry)) }
     ensures programs { set.new.programs ≡ set.old.programs }
 {

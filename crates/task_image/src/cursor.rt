@@ -93,7 +93,8 @@ impl<'a> Cursor<'a> {
     pub(crate) fn format(&mut self) -> Result<u8, Stop>
         ensures { Gives (λ n. n) result self.new (number 2 (is_in_range 1 MAX_FORMAT) self.old) }
     {
-        let number = LittleEndian::read_u16(self.ahead(2)?);
+        let bytes = self.ahead(2)?;
+        let number = LittleEndian::read_u16(bytes);
         if number < 1 || u16::from(MAX_FORMAT) < number {
             return Err(Stop::Refused(self.place));
         }

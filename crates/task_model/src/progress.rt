@@ -14,7 +14,7 @@ ghost use Rattle.task_model.specs.Progress.{Turns, reads_noted};
 use crate::objects::Objects;
 use crate::spawns::{MAX_SPAWNS, Spawns};
 use nv_base::limits::MAX_OBJECTS;
-use nv_base::{NoMemory, ObjId, Outcome, ProgId, ObjSet, Spawn, TrapCause};
+use nv_base::{NoMemory, ObjId, ObjSet, Outcome, ProgId, Spawn, TrapCause};
 use rv_core::{Machine, Service, Step};
 use std::alloc::Global;
 

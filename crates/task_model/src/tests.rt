@@ -3,7 +3,7 @@
 ghost use Rattle.std.specs.Prelude.{◌<◌};
 
 use super::*;
-use nv_base::{NoMemory, ObjId, Outcome, ProgId, ObjSet, Spawn, TrapCause};
+use nv_base::{NoMemory, ObjId, ObjSet, Outcome, ProgId, Spawn, TrapCause};
 use rv_core::Machine;
 use std::test::Fail;
 use task_set::{

@@ -13,7 +13,7 @@ ghost use Rattle.task_model.specs.WholeRun.{IsWholeRun};
 use crate::objects::Objects;
 use crate::progress::Progress;
 use crate::spawns::Spawns;
-use nv_base::{NoMemory, Outcome, ProgId, ObjSet, TrapCause};
+use nv_base::{NoMemory, ObjSet, Outcome, ProgId, TrapCause};
 use rv_core::Machine;
 use std::alloc::Global;
 use task_set::TaskSet;

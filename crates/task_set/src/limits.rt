@@ -8,7 +8,10 @@ use crate::formats::{max_objects, max_records};
 use crate::parts::SetParts;
 use crate::refusals::LimitKind;
 use nv_base::Spawn;
-use nv_base::limits::{MAX_CODE, MAX_CORES, MAX_FORMAT, MAX_FUEL, MAX_MEMORY, MAX_PROGRAMS, MAX_SIZE, MAX_SLOTS, MIN_MEMORY, MIN_SLOTS};
+use nv_base::limits::{
+    MAX_CODE, MAX_CORES, MAX_FORMAT, MAX_FUEL, MAX_MEMORY, MAX_PROGRAMS, MAX_SIZE, MAX_SLOTS,
+    MIN_MEMORY, MIN_SLOTS,
+};
 
 #[tactic(auto, unfolding(crate::specs::FirstBroken::format_holds))]
 fn format_holds(parts: &SetParts) -> bool
