@@ -2,6 +2,7 @@
 use Rattle.std.proofs.Common.{◌≡◌, ◌≢◌, ℕ, ◌+◌, ◌-◌, ◌*◌, ◌/◌, ◌%◌, ◌^◌, ◌<◌, ◌≤◌, ◌⊎◌, inl, inr, ⊎_elim, Bool, true, false, cond, nat_le, eqb, ◌||◌, arith, refl, ap, sym, ◌∙◌}
 use Rattle.std.proofs.lemmas.Bool.{cases_lt, eq-eqb, eqb-true, leb-true, or_cases}
 use Rattle.std.proofs.lemmas.Nat.{mod_below, pow-add, pow_below, pow_pos, shr_split}
+use Rattle.set_model.proofs.LimitFacts.{few_objects, few_records}
 use Rattle.set_model.specs.Sets.{TaskSet}
 use Rattle.set_model.specs.Limits.{IsTaskSet}
 use Rattle.set_model.specs.Numbers.{index_words, first_index, words_needed}
@@ -80,7 +81,7 @@ laid_out Migrated set l = laid_out_paged set (magic_of Migrated) (words_needed s
 
 -- the index of a set within the limits has 31 pages at most
 pub laid_out_set : (kind : Kind) (set : TaskSet) → IsTaskSet set → IsLaidOut set (layout_of kind set)
-laid_out_set kind set h = let n = h.objects.1 in let r = h.records.1 in laid_out kind set (omega arith)
+laid_out_set kind set h = let n = few_objects set h in let r = few_records set h in laid_out kind set (omega arith)
 
 -- ---- a root is what it names
 
@@ -107,7 +108,7 @@ paged_root : (set : TaskSet) (r : ℕ) → index_words set ≤ 31 * 128 → eqb 
 paged_root set r l h = let s = paged_suffices set l in high_bits (count_pages set) r s.2 (eqb-true (r / 2 ^ count_pages set) (2 ^ (31 - count_pages set)) h)
 
 index_fits : (set : TaskSet) → IsTaskSet set → index_words set ≤ 31 * 128
-index_fits set h = let n = h.objects.1 in let r = h.records.1 in omega arith
+index_fits set h = let n = few_objects set h in let r = few_records set h in omega arith
 
 pub root-word : (kind : Kind) (set : TaskSet) (root : ℕ) → IsTaskSet set → (layout_of kind set).is_root root ≡ true → root < 2 ^ 32
 root-word Plain set root t h = ⊎_elim (λ e. omega arith) (λ e. omega arith) (plain_root root h)

@@ -22,6 +22,7 @@ word_object = record { name = codes "x"; size = 1; slots = 2; first = 5 ∷ [] }
 -- one object, one program of twelve words, one task
 abbrev pub adding : TaskSet
 adding = record {
+  format = 1;
   cores = 1;
   memory = 1024;
   records = 1;

@@ -26,6 +26,7 @@ second_object = record { name = codes "y"; size = 1; slots = 3; first = 7 ∷ []
 -- two objects, 20 records, 12 tasks
 abbrev pub branching : TaskSet
 branching = record {
+  format = 1;
   cores = 1;
   memory = 1024;
   records = 20;

@@ -4,6 +4,7 @@ use Rattle.rv_core.specs.State.{MachineState}
 use Rattle.kernel_model.specs.Events.{Event, On}
 use Rattle.kernel_model.specs.Fit.{IsSetUp}
 use Rattle.kernel_model.specs.Execution.{Execution}
+use Rattle.set_model.proofs.LimitFacts.{few_records}
 use Rattle.set_model.specs.Sets.{TaskSet}
 use Rattle.set_model.specs.Limits.{IsTaskSet}
 use Rattle.set_model.specs.Numbers.{sizes_of}
@@ -20,5 +21,5 @@ execution_of set events h l up = record {
   boots = 0;
   events = events;
   set_up = up;
-  ids = omega (arith, h.tasks, h.records.1, l);
+  ids = omega (arith, h.tasks, few_records set h, l);
 }

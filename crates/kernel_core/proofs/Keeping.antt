@@ -7,6 +7,7 @@ use Rattle.object_sets.specs.ObjectSets.{AreBelow, IsIncreasing, is_among, with_
 use Rattle.object_sets.proofs.Insertion.{with_object-all}
 use Rattle.rv_core.specs.State.{MachineState}
 use Rattle.rv_core.specs.Machine.{first_state, words_at}
+use Rattle.nv_base.specs.declared.limits.TheConstants.{MAX_RECORDS}
 use Rattle.nv_base.specs.declared.lines.Entry.{Entry}
 use Rattle.nv_base.specs.declared.lines.Outcome.{Outcome}
 use Rattle.nv_base.specs.declared.lines.Outcome.TheVariants as outcome
@@ -23,6 +24,7 @@ use Rattle.set_model.specs.Numbers.{sizes_of}
 use Rattle.set_model.specs.Formatted.{formatted}
 use Rattle.set_model.specs.Views.{spawn_of, task_of}
 use Rattle.set_model.proofs.AtFacts.{all_at}
+use Rattle.set_model.proofs.LimitFacts.{few_records}
 use Rattle.task_model.specs.Shape.{HasShape}
 use Rattle.task_model.proofs.MachineFacts.{length-words_at}
 use Rattle.task_model.proofs.Shapes.{shape-set}
@@ -250,7 +252,7 @@ opened k h idle memory state words written spawns = record {
   clock = let n : k.state.clock ≡ 0 = ap (λ (s : Base). s.clock) state in omega (arith, n);
   next =
       let n : k.state.next ≡ length k.set.tasks + 1 = ap (λ (s : Base). s.next) state in
-      let few : length k.set.tasks ≤ 256 = omega (arith, h.tasks, h.records.1) in
+      let few : length k.set.tasks ≤ MAX_RECORDS = omega (arith, h.tasks, few_records k.set h) in
       omega (arith, n, few);
   phase = subst (IsKeptIn k) (sym idle) tt;
 }

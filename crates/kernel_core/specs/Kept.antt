@@ -3,6 +3,7 @@ use Rattle.std.specs.Prelude.{◌≡◌, ℕ, zero, suc, ◌+◌, ◌-◌, ◌*�
 use Rattle.std.specs.List.{AllByRecursion}
 use Rattle.object_sets.specs.ObjectSets.{AreBelow, IsIncreasing, is_among}
 use Rattle.rv_core.specs.State.{MachineState}
+use Rattle.nv_base.specs.declared.limits.TheConstants.{MAX_RECORDS, MAX_SPAWNS}
 use Rattle.nv_base.specs.declared.lines.Entry.{Entry}
 use Rattle.nv_base.specs.declared.lines.Spawn.{Spawn}
 use Rattle.kernel_model.specs.Replay.{Base, TaskRec}
@@ -62,7 +63,7 @@ pub record IsKept (k : Kernel) : Type 0 where
   pub written : AreBelow (length k.set.objects) k.attempt.written
   pub increasing : IsIncreasing k.attempt.written
   pub children : AllByRecursion (λ s. s.program.0 < length k.set.programs) k.attempt.spawns
-  pub spawns : length k.attempt.spawns ≤ 8
+  pub spawns : length k.attempt.spawns ≤ MAX_SPAWNS
   pub clock : k.state.clock ≤ k.state.number
-  pub next : k.state.next ≤ 257 + 8 * k.state.number
+  pub next : k.state.next ≤ MAX_RECORDS + 1 + MAX_SPAWNS * k.state.number
   pub phase : IsKeptIn k k.phase

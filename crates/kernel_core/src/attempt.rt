@@ -10,7 +10,8 @@ ghost use Rattle.kernel_core.specs.Wants.{rewritten_wanted, with_rewritten};
 use crate::objects::Objects;
 use crate::part::Part;
 use crate::spawns::Spawns;
-use nv_base::{NoMemory, ObjId, Set64};
+use nv_base::limits::MAX_OBJECTS;
+use nv_base::{NoMemory, ObjId, ObjSet};
 use rv_core::Machine;
 use std::alloc::Global;
 use task_set::TaskSet;
@@ -20,9 +21,9 @@ use task_set::TaskSet;
 #[derive(Drop)]
 pub(crate) struct Attempt {
     /// The objects that were read from outside.
-    pub(crate) reads: Set64,
+    pub(crate) reads: ObjSet,
     /// The objects that were written.
-    pub(crate) written: Set64,
+    pub(crate) written: ObjSet,
     /// Their words; those of other objects have no meaning.
     pub(crate) words: Objects,
     /// The tasks that were spawned.
@@ -37,8 +38,8 @@ impl Attempt {
         ensures spawns { IfOk result (λ a. a.spawns ≡ []) }
     {
         Ok(Attempt {
-            reads: Set64::empty(),
-            written: Set64::empty(),
+            reads: ObjSet::empty(),
+            written: ObjSet::empty(),
             words: Objects::of_set(alloc, set)?,
             spawns: Spawns::with_room(alloc)?,
         })
@@ -48,14 +49,14 @@ impl Attempt {
     pub(crate) fn begin(&mut self)
         ensures { self.new ≡ record self.old { reads = []; written = []; spawns = [] } }
     {
-        self.reads = Set64::empty();
+        self.reads = ObjSet::empty();
         self.drop_effects();
     }
 
     /// The words of a part, from a machine's memory, take the place of those that the attempt sees: its own last
     /// write, else those that are durable.
     pub(crate) fn rewrite(&mut self, o: ObjId, durable: &[u32], part: Part, machine: &Machine)
-        requires few { o.0 < 64 }
+        requires few { o.0 < MAX_OBJECTS }
         requires inside { o.0 < length self.old.words }
         requires size { length durable.now ≡ length (words_of self.old.words o.0) }
         requires place { IsPlace machine.now part.at part.count }
@@ -75,7 +76,7 @@ impl Attempt {
     pub(crate) fn drop_effects(&mut self)
         ensures { self.new ≡ record self.old { written = []; spawns = [] } }
     {
-        self.written = Set64::empty();
+        self.written = ObjSet::empty();
         self.spawns.clear();
     }
 }

@@ -20,7 +20,8 @@ ghost use Rattle.kernel_core.specs.Arms.{Turns, attempt_left, entry_in, untold_i
 use crate::attempt::Attempt;
 use crate::part::{Part, Want};
 use crate::state::Durable;
-use nv_base::{CoreId, Entry, Line, NoMemory, ObjId, Outcome, Point, Seq, Set64, TaskId, TaskRec};
+use nv_base::limits::{MAX_EVENTS, MAX_OBJECTS, MAX_SIZE};
+use nv_base::{CoreId, Entry, Line, NoMemory, ObjId, ObjSet, Outcome, Point, Seq, TaskId, TaskRec};
 use rv_core::{Machine, Service, Step};
 use std::alloc::Global;
 use task_set::TaskSet;
@@ -86,7 +87,7 @@ impl Kernel {
     /// One step of core 0, and the line that it prints: no attempt is stale, or refused Empty or Slots. It takes no memory.
     pub fn turn(&mut self) -> Line
         requires kept { IsKept self.old }
-        requires few { finishes self.old < 1000000 }
+        requires few { finishes self.old < MAX_EVENTS }
         ensures kept { IsKept self.new }
         ensures leads { Leads self.old self.new result }
         ensures unmet { IsUnmet (line_of result) }
@@ -198,7 +199,7 @@ impl Kernel {
     /// An attempt that meets no other is granted, unless records are not enough. Then its task starts again.
     fn judge(&mut self, outcome: Outcome) -> Line
         requires kept { IsKept self.old }
-        requires few { finishes self.old < 1000000 }
+        requires few { finishes self.old < MAX_EVENTS }
         requires ready { self.old.phase ≡ Phase.Ready outcome }
         ensures kept { IsKept self.new }
         ensures turns { Turns self.old self.new result }
@@ -228,7 +229,7 @@ impl Kernel {
         ensures { result ≡ entry_in self.now outcome }
     {
         let clock = self.state.clock();
-        let point = if self.attempt.written == Set64::empty() {
+        let point = if self.attempt.written == ObjSet::empty() {
             clock
         } else {
             clock + 1
@@ -258,9 +259,9 @@ impl Kernel {
     /// The words that a commit writes of an object: all of them, where the attempt wrote it.
     fn words_written(&self, o: ObjId) -> u32
         requires inside { o.0 < length self.now.set.objects }
-        requires few { o.0 < 64 }
+        requires few { o.0 < MAX_OBJECTS }
         ensures exact { result ≡ (if is_among o.0 self.now.attempt.written then (object_at self.now.set o.0).size else 0) }
-        ensures few { result ≤ 64 }
+        ensures few { result ≤ MAX_SIZE }
     {
         if self.attempt.written.has(o) {
             u32::from(self.set.size(o))
@@ -272,7 +273,7 @@ impl Kernel {
     /// One write of the commit, of which the last makes the finish durable, or its end, which tells it.
     fn commit(&mut self, entry: Entry, left: u32) -> Line
         requires kept { IsKept self.old }
-        requires few { finishes self.old < 1000000 }
+        requires few { finishes self.old < MAX_EVENTS }
         requires committing { self.old.phase ≡ Phase.Committing entry left }
         ensures kept { IsKept self.new }
         ensures turns { Turns self.old self.new result }
@@ -294,7 +295,7 @@ impl Kernel {
     /// The last write of the commit.
     fn flip(&mut self, entry: Entry) -> Line
         requires kept { IsKept self.old }
-        requires few { finishes self.old < 1000000 }
+        requires few { finishes self.old < MAX_EVENTS }
         requires last { self.old.phase ≡ Phase.Committing entry 1 }
         ensures kept { IsKept self.new }
         ensures turns { Turns self.old self.new result }

@@ -7,7 +7,8 @@ ghost use Rattle.task_model.specs.TaskSteps.{with_part};
 ghost use Rattle.kernel_core.specs.Shapes.{AreWritten};
 
 use crate::part::Part;
-use nv_base::{NoMemory, ObjId, Set64};
+use nv_base::limits::MAX_OBJECTS;
+use nv_base::{NoMemory, ObjId, ObjSet};
 use rv_core::Machine;
 use std::alloc::Global;
 use std::marker::Model;
@@ -147,8 +148,8 @@ impl Objects {
     }
 
     /// Puts the words of the written objects in.
-    pub(crate) fn put(&mut self, written: Set64, words: &Objects)
-        requires few { length self.old ≤ 64 }
+    pub(crate) fn put(&mut self, written: ObjSet, words: &Objects)
+        requires few { length self.old ≤ MAX_OBJECTS }
         requires same { length words.now ≡ length self.old }
         requires sizes { (o : ℕ) → o < length self.old → length (words_of words.now o) ≡ length (words_of self.old o) }
         ensures { (ws : List Write) → AreWritten ws written words.now → self.new ≡ put ws self.old }

@@ -5,12 +5,10 @@ ghost use Rattle.kernel_model.specs.OpenTasks.{children, others_than};
 ghost use Rattle.set_model.specs.Views.{spawn_of, task_of};
 ghost use Rattle.kernel_core.specs.Shapes.{behind};
 
+use nv_base::limits::MAX_RECORDS;
 use nv_base::{NoMemory, Spawn, TaskId, TaskRec};
 use std::alloc::Global;
 use std::marker::Model;
-
-/// How many tasks may be open in any set.
-const MAX_RECORDS: usize = 256;
 
 /// The open tasks by id, with room for all that a set may have. Contracts see the definitions' records of them.
 #[derive(Drop)]
@@ -22,12 +20,13 @@ impl Model for Queue {
     ghost use Rattle.std.specs.Prelude.{List, ◌≤◌, map, vec_capacity};
     ghost use Rattle.kernel_model.specs.Replay.{TaskRec};
     ghost use Rattle.set_model.specs.Views.{task_of};
+    ghost use Rattle.nv_base.specs.declared.limits.TheConstants.{MAX_RECORDS};
 
     ghost Value = { List TaskRec };
 
     ghost view = { λ q. map task_of q.items.items };
 
-    ghost invariant = { λ q. 256 ≤ vec_capacity q.items };
+    ghost invariant = { λ q. MAX_RECORDS ≤ vec_capacity q.items };
 }
 
 // All tasks but this one.
@@ -39,12 +38,12 @@ fn keep_others(tasks: &mut Vec<TaskRec>, task: u32)
 }
 
 impl Queue {
-    /// No open tasks, with room for 256.
+    /// No open tasks, with room for those of any set.
     pub(crate) fn with_room(alloc: Global) -> Result<Queue, NoMemory>
         ensures { IfOk result (λ q. q ≡ []) }
     {
         Ok(Queue {
-            items: Vec::with_capacity(alloc, MAX_RECORDS)?,
+            items: Vec::with_capacity(alloc, usize::from(MAX_RECORDS))?,
         })
     }
 
@@ -78,7 +77,7 @@ impl Queue {
 
     /// Adds one with an id behind all others, for which there is room.
     fn push(&mut self, task: TaskRec)
-        requires { length self.old < 256 }
+        requires { length self.old < MAX_RECORDS }
         ensures { self.new ≡ self.old ++ task_of task ∷ [] }
     {
         self.items.push_reserved(task);
@@ -86,7 +85,7 @@ impl Queue {
 
     /// Adds children under the ids from `first` on, for which there is room.
     pub(crate) fn add(&mut self, first: u32, spawns: &[Spawn])
-        requires room { length self.old + length spawns.now ≤ 256 }
+        requires room { length self.old + length spawns.now ≤ MAX_RECORDS }
         requires ids { first + length spawns.now < 2 ^ 32 }
         ensures { self.new ≡ self.old ++ children first (map spawn_of spawns.now) }
     {

@@ -20,11 +20,12 @@ use crate::kernel::{Kernel, Phase};
 use crate::part::{Part, Want, give};
 use crate::spawns::MAX_SPAWNS;
 use crate::state::Durable;
+use nv_base::limits::MAX_OBJECTS;
 use nv_base::{Line, ObjId, Outcome, ProgId, Spawn, TrapCause};
 
 /// The words that an attempt sees of an object: its own last write, else those that are durable.
 fn seen<'a>(attempt: &'a Attempt, state: &'a Durable, o: ObjId) -> &'a [u32]
-    requires few { o.0 < 64 }
+    requires few { o.0 < MAX_OBJECTS }
     requires own { o.0 < length attempt.now.words }
     requires durable { o.0 < length state.now.objects }
     ensures { result.now ≡ seen_in attempt.now state.now.objects o.0 }
@@ -42,7 +43,7 @@ impl Kernel {
         ensures refusal { result_err result ≡ refusal self.now.set self.now.machine object at }
         ensures object { IfOk result (λ o. o.0 ≡ object) }
         ensures inside { OnOk result (object < length self.now.set.objects) }
-        ensures few { OnOk result (object < 64) }
+        ensures few { OnOk result (object < MAX_OBJECTS) }
         ensures place { OnOk result (IsPlace self.now.machine at (object_at self.now.set object).size) }
     {
         if object >= u32::from(self.set.objects()) {
@@ -58,7 +59,7 @@ impl Kernel {
         ensures refusal { result_err result ≡ part_refusal self.now.set self.now.machine object part.at part.first part.count }
         ensures object { IfOk result (λ o. o.0 ≡ object) }
         ensures inside { OnOk result (object < length self.now.set.objects) }
-        ensures few { OnOk result (object < 64) }
+        ensures few { OnOk result (object < MAX_OBJECTS) }
         ensures range { OnOk result (part.first + part.count ≤ (object_at self.now.set object).size) }
         ensures place { OnOk result (IsPlace self.now.machine part.at part.count) }
     {
@@ -135,7 +136,7 @@ impl Kernel {
     fn want(&mut self, o: ObjId, want: Want)
         requires kept { IsKept self.old }
         requires running { self.old.phase ≡ Phase.Running }
-        requires few { o.0 < 64 }
+        requires few { o.0 < MAX_OBJECTS }
         requires inside { o.0 < length self.old.set.objects }
         requires awaits { Awaits self.old.machine (object_at self.old.set o.0).size want }
         ensures kept { IsKept self.new }
@@ -160,7 +161,7 @@ impl Kernel {
     /// The service has the words that the attempt sees.
     fn receive(&mut self, o: ObjId, want: Want)
         requires kept { IsKept self.old }
-        requires few { o.0 < 64 }
+        requires few { o.0 < MAX_OBJECTS }
         requires inside { o.0 < length self.old.set.objects }
         requires awaits { Awaits self.old.machine (object_at self.old.set o.0).size want }
         ensures exact { self.new ≡ received self.old o.0 want }

@@ -2,14 +2,14 @@
 
 ghost use Rattle.std.specs.Prelude.{◌≡◌, ◌<◌, ◌≤◌, ◌++◌, ◌∷◌, [], IfOk, length};
 
-use nv_base::{NoMemory, Spawn};
+use nv_base::{NoMemory, Spawn, limits};
 use std::alloc::Global;
 use std::marker::Model;
 
 /// How many tasks an attempt may spawn.
-pub(crate) const MAX_SPAWNS: usize = 8;
+pub(crate) const MAX_SPAWNS: usize = limits::MAX_SPAWNS as usize;
 
-/// The tasks that an attempt spawned, in order: at most 8, with room for all from the first on.
+/// The tasks that an attempt spawned, in order: at most so many, with room for all from the first on.
 #[derive(Drop)]
 pub(crate) struct Spawns {
     items: Vec<Spawn>,
@@ -18,16 +18,17 @@ pub(crate) struct Spawns {
 impl Model for Spawns {
     ghost use Rattle.std.specs.Prelude.{List, ◌≤◌, length, vec_capacity};
     ghost use Rattle.nv_base.specs.declared.lines.Spawn.{Spawn};
+    ghost use Rattle.kernel_core.specs.declared.spawns.TheConstants.{MAX_SPAWNS};
 
     ghost Value = { List Spawn };
 
     ghost view = { λ s. s.items.items };
 
-    ghost invariant = { λ s. (length s.items.items ≤ 8) × (8 ≤ vec_capacity s.items) };
+    ghost invariant = { λ s. (length s.items.items ≤ MAX_SPAWNS) × (MAX_SPAWNS ≤ vec_capacity s.items) };
 }
 
 impl Spawns {
-    /// No spawns, with room for 8.
+    /// No spawns, with room for all.
     pub(crate) fn with_room(alloc: Global) -> Result<Spawns, NoMemory>
         ensures { IfOk result (λ s. s ≡ []) }
     {
@@ -39,7 +40,7 @@ impl Spawns {
     /// How many there are.
     pub(crate) fn len(&self) -> usize
         ensures exact { result ≡ length self.now }
-        ensures few { result ≤ 8 }
+        ensures few { result ≤ MAX_SPAWNS }
     {
         self.items.len()
     }
@@ -47,14 +48,14 @@ impl Spawns {
     /// All of them, in order.
     pub(crate) fn as_slice(&self) -> &[Spawn]
         ensures exact { result.now ≡ self.now }
-        ensures few { length result.now ≤ 8 }
+        ensures few { length result.now ≤ MAX_SPAWNS }
     {
         self.items.as_slice()
     }
 
     /// Adds one, for which there is room.
     pub(crate) fn push(&mut self, spawn: Spawn)
-        requires { length self.old < 8 }
+        requires { length self.old < MAX_SPAWNS }
         ensures { self.new ≡ self.old ++ spawn ∷ [] }
     {
         self.items.push_reserved(spawn);

@@ -9,7 +9,8 @@ ghost use Rattle.kernel_core.specs.Shapes.{AreWritten, behind, state_after};
 
 use crate::objects::Objects;
 use crate::queue::Queue;
-use nv_base::{Entry, NoMemory, ObjId, Set64, Spawn, TaskRec};
+use nv_base::limits::{MAX_OBJECTS, MAX_RECORDS};
+use nv_base::{Entry, NoMemory, ObjId, ObjSet, Spawn, TaskRec};
 use std::alloc::Global;
 use std::marker::Model;
 use task_set::TaskSet;
@@ -102,11 +103,17 @@ impl Durable {
     }
 
     /// Takes in a finish: the words of the objects that it wrote, and the tasks that it spawned.
-    pub(crate) fn finish(&mut self, entry: Entry, written: Set64, words: &Objects, spawns: &[Spawn])
-        requires few { length self.old.objects ≤ 64 }
+    pub(crate) fn finish(
+        &mut self,
+        entry: Entry,
+        written: ObjSet,
+        words: &Objects,
+        spawns: &[Spawn],
+    )
+        requires few { length self.old.objects ≤ MAX_OBJECTS }
         requires same { length words.now ≡ length self.old.objects }
         requires sizes { (o : ℕ) → o < length self.old.objects → length (words_of words.now o) ≡ length (words_of self.old.objects o) }
-        requires room { length (others_than entry.task.0 self.old.tasks) + length spawns.now ≤ 256 }
+        requires room { length (others_than entry.task.0 self.old.tasks) + length spawns.now ≤ MAX_RECORDS }
         requires number { self.old.number + 1 < 2 ^ 32 }
         requires ids { self.old.next + length spawns.now < 2 ^ 32 }
         requires first { entry.first.0 ≡ self.old.next }
@@ -121,9 +128,9 @@ impl Durable {
     }
 }
 
-// A set has at most 256 tasks.
+// A set has at most as many tasks as any format has records.
 fn few_tasks(set: &TaskSet)
-    ensures { length set.now.tasks ≤ 256 }
+    ensures { length set.now.tasks ≤ MAX_RECORDS }
 {
     let _records = set.records();
 }

@@ -75,6 +75,7 @@ fn parts(
         })?;
     }
     Ok(SetParts {
+        format: 1,
         cores: 1,
         memory: 1024,
         records,

@@ -1,7 +1,7 @@
 -- A set of objects as one word.
-use Rattle.std.proofs.Common.{◌≡◌, ◌≢◌, ℕ, zero, suc, ◌+◌, ◌*◌, ◌%◌, ◌^◌, ◌<◌, ◌≤◌, Bool, true, false, cond, eqb, eq-eqb, ne_eqb, ◌||◌, List, [], ◌∷◌, refl, sym, ap, subst, ◌∙◌, bit_or, ltb, arith, w64}
+use Rattle.std.proofs.Common.{◌≡◌, ◌≢◌, ℕ, zero, suc, ◌+◌, ◌*◌, ◌%◌, ◌^◌, ◌<◌, ◌≤◌, Bool, true, false, cond, eqb, eq-eqb, ne_eqb, ◌||◌, List, [], ◌∷◌, refl, sym, ap, subst, ◌∙◌, bit_or, ltb, arith}
 use Rattle.std.specs.List.{AllByRecursion}
-use Rattle.std.specs.Int.{bit_at}
+use Rattle.std.specs.Int.{bit_at, w128}
 use Rattle.std.proofs.lemmas.Bool.{eqb-true, eqb-false, ltb-true, ltb-false}
 use Rattle.std.proofs.lemmas.Nat.{or_lt, mod_below}
 use Rattle.std.proofs.lemmas.Nat.Bits.{bit_at_above, bit_at_set_other, bit_at_set_same}
@@ -50,39 +50,39 @@ is_among-ones_from p (suc n) k w l m = at (eqb k p) refl (λ e. is_among-ones_fr
     at true e rest = here (eqb-true k p e) (eqb (bit_at w k) 1) refl ∙ ap (λ q. eqb (bit_at w q) 1) (eqb-true k p e)
     at false e rest = later e (rest (eqb-false k p e)) (eqb (bit_at w k) 1)
 
-pub objects_of-below : (w : ℕ) → AreBelow 64 (objects_of w)
+pub objects_of-below : (w : ℕ) → AreBelow 128 (objects_of w)
 unfolding objects_of
-objects_of-below w = ones_from-below 64 64 0 w (omega arith)
+objects_of-below w = ones_from-below 128 128 0 w (omega arith)
 
 pub objects_of-increasing : (w : ℕ) → IsIncreasing (objects_of w)
 unfolding objects_of
-objects_of-increasing w = ones_from-increasing 64 0 w
+objects_of-increasing w = ones_from-increasing 128 0 w
 
-pub is_among-objects_of : (p w : ℕ) → p < 64 → is_among p (objects_of w) ≡ eqb (bit_at w p) 1
+pub is_among-objects_of : (p w : ℕ) → p < 128 → is_among p (objects_of w) ≡ eqb (bit_at w p) 1
 unfolding objects_of
-is_among-objects_of p w l = is_among-ones_from p 64 0 w (omega arith) (omega arith)
+is_among-objects_of p w l = is_among-ones_from p 128 0 w (omega arith) (omega arith)
 
-not_among : (p : ℕ) (xs : List ℕ) → 64 ≤ p → AreBelow 64 xs → is_among p xs ≡ false
+not_among : (p : ℕ) (xs : List ℕ) → 128 ≤ p → AreBelow 128 xs → is_among p xs ≡ false
 not_among p [] l h = refl
 not_among p (x ∷ xs) l h = rw (ne_eqb x p (λ e. absurd (omega (arith, h.0, e)))) (not_among p xs l h.1)
 
--- a word of 64 bits has no others
-is_among-word : (p w : ℕ) → w < 2 ^ 64 → is_among p (objects_of w) ≡ eqb (bit_at w p) 1
-is_among-word p w h = go (ltb p 64) refl
+-- a word of 128 bits has no others
+is_among-word : (p w : ℕ) → w < 2 ^ 128 → is_among p (objects_of w) ≡ eqb (bit_at w p) 1
+is_among-word p w h = go (ltb p 128) refl
   where
-    go : (b : Bool) → ltb p 64 ≡ b → is_among p (objects_of w) ≡ eqb (bit_at w p) 1
-    go true e = is_among-objects_of p w (ltb-true p 64 e)
-    go false e = let l : 64 ≤ p = ltb-false p 64 e in not_among p (objects_of w) l (objects_of-below w) ∙ sym (rw (bit_at_above w 64 p h l) refl)
+    go : (b : Bool) → ltb p 128 ≡ b → is_among p (objects_of w) ≡ eqb (bit_at w p) 1
+    go true e = is_among-objects_of p w (ltb-true p 128 e)
+    go false e = let l : 128 ≤ p = ltb-false p 128 e in not_among p (objects_of w) l (objects_of-below w) ∙ sym (rw (bit_at_above w 128 p h l) refl)
 
-pub set_below : (w o : ℕ) → w < 2 ^ 64 → bit_or w (1 * 2 ^ o % 2 ^ 64) < 2 ^ 64
-set_below w o h = or_lt 64 w (1 * 2 ^ o % 2 ^ 64) h (mod_below (1 * 2 ^ o) (2 ^ 64) (omega arith))
+pub set_below : (w o : ℕ) → w < 2 ^ 128 → bit_or w (1 * 2 ^ o % 2 ^ 128) < 2 ^ 128
+set_below w o h = or_lt 128 w (1 * 2 ^ o % 2 ^ 128) h (mod_below (1 * 2 ^ o) (2 ^ 128) (omega arith))
 
-pub objects_of-set : (w o : ℕ) → w < 2 ^ 64 → o < 64 → objects_of (bit_or w (1 * 2 ^ o % 2 ^ 64)) ≡ with_object o (objects_of w)
+pub objects_of-set : (w o : ℕ) → w < 2 ^ 128 → o < 128 → objects_of (bit_or w (1 * 2 ^ o % 2 ^ 128)) ≡ with_object o (objects_of w)
 objects_of-set w o h l = same_objects _ _ (objects_of-increasing _) (with_object-increasing o _ (objects_of-increasing w)) each
   where
-    here : (p : ℕ) → (b : Bool) → eqb o p ≡ b → eqb (bit_at (bit_or w (1 * 2 ^ o % 2 ^ 64)) p) 1 ≡ (b || eqb (bit_at w p) 1)
-    here p true e = let f : o ≡ p = eqb-true o p e in subst (λ q. eqb (bit_at (bit_or w (1 * 2 ^ o % 2 ^ 64)) q) 1 ≡ true) f (rw (bit_at_set_same w64 w o l) refl)
-    here p false e = rw (bit_at_set_other w64 w o l p (λ f. eqb-false o p e (sym f))) refl
+    here : (p : ℕ) → (b : Bool) → eqb o p ≡ b → eqb (bit_at (bit_or w (1 * 2 ^ o % 2 ^ 128)) p) 1 ≡ (b || eqb (bit_at w p) 1)
+    here p true e = let f : o ≡ p = eqb-true o p e in subst (λ q. eqb (bit_at (bit_or w (1 * 2 ^ o % 2 ^ 128)) q) 1 ≡ true) f (rw (bit_at_set_same w128 w o l) refl)
+    here p false e = rw (bit_at_set_other w128 w o l p (λ f. eqb-false o p e (sym f))) refl
 
-    each : (p : ℕ) → is_among p (objects_of (bit_or w (1 * 2 ^ o % 2 ^ 64))) ≡ is_among p (with_object o (objects_of w))
+    each : (p : ℕ) → is_among p (objects_of (bit_or w (1 * 2 ^ o % 2 ^ 128))) ≡ is_among p (with_object o (objects_of w))
     each p = is_among-word p _ (set_below w o h) ∙ here p (eqb o p) refl ∙ sym (is_among-with_object o p (objects_of w) ∙ ap (λ b. eqb o p || b) (is_among-word p w h))

@@ -31,9 +31,9 @@ word_of-ones_from (suc n) k w =
     go e true f = let g : bit_at w k ≡ 1 = eqb-true (bit_at w k) 1 f in sym (e ∙ rw g (omega arith))
     go e false f = let g : bit_at w k ≡ 0 = omega (arith, eqb-false (bit_at w k) 1 f, bit_at-lt w k) in sym (e ∙ rw g (omega arith))
 
-pub word_of-objects_of : (w : ℕ) → w < 2 ^ 64 → word_of (objects_of w) ≡ w
+pub word_of-objects_of : (w : ℕ) → w < 2 ^ 128 → word_of (objects_of w) ≡ w
 unfolding objects_of
-word_of-objects_of w l = word_of-ones_from 64 0 w ∙ whole w l
+word_of-objects_of w l = word_of-ones_from 128 0 w ∙ whole w l
   where
-    whole : (w : ℕ) → w < 2 ^ 64 → (w / 1 % 2 ^ 64) * 1 ≡ w
+    whole : (w : ℕ) → w < 2 ^ 128 → (w / 1 % 2 ^ 128) * 1 ≡ w
     whole w l = omega arith

@@ -3,6 +3,7 @@
 #![tactic(auto)]
 
 mod causes;
+pub mod limits;
 mod lines;
 mod memory;
 mod memory_streams;
@@ -17,7 +18,7 @@ pub use lines::{Entry, Line, Outcome, Spawn, TaskRec};
 pub use memory::NoMemory;
 pub use memory_streams::{MemSink, MemSource};
 pub use names::{CoreId, ObjId, Point, ProgId, Seq, TaskId};
-pub use sets::Set64;
+pub use sets::ObjSet;
 pub use std_streams::{StdSink, StdSource};
 pub use streams::{Sink, SinkFailed, Source, SourceFailed};
 pub use whole::{ReadRefusal, WriteFault, put_all, read_all};

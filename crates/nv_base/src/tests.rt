@@ -34,17 +34,17 @@ fn causes_stand_in_the_order_of_their_numbers(rt: HostRuntime) -> Result<(), Fai
 
 #[test]
 fn a_set_has_what_was_added(rt: HostRuntime) -> Result<(), Fail> {
-    let mut set = Set64::empty();
-    for object in [63, 5, 0, 5] {
+    let mut set = ObjSet::empty();
+    for object in [127, 63, 5, 64, 0, 5] {
         set.add(ObjId(object));
     }
-    for object in 0..64u8 {
-        let wanted = object == 0 || object == 5 || object == 63;
+    for object in 0..128u8 {
+        let wanted = [0, 5, 63, 64, 127].contains(&object);
         assert!(rt; set.has(ObjId(object)) == wanted);
     }
     let copy = set;
     assert!(rt; copy == set);
-    assert!(rt; copy != Set64::empty());
+    assert!(rt; copy != ObjSet::empty());
     Ok(())
 }
 

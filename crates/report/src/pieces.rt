@@ -3,6 +3,7 @@
 ghost use Rattle.std.specs.Prelude.{◌≡◌, ◌≤◌, ◌+◌, ◌*◌, ◌++◌, length, codes};
 
 use crate::line_buf::{LONGEST_LINE, LineBuf};
+use nv_base::limits::MAX_NAME;
 use nv_base::{CoreId, Entry, Outcome, Point, TaskId};
 
 impl LineBuf {
@@ -34,7 +35,7 @@ impl LineBuf {
     /// A word and two numbers.
     pub(crate) fn append_pair(&mut self, word: &[u8], first: u32, second: u32)
         requires room { length self.old ≤ 64 }
-        requires word { length word.now ≤ 16 }
+        requires word { length word.now ≤ MAX_NAME }
         ensures text { self.new ≡ self.old ++ field word.now first ++ field (codes " ") second }
         ensures len { length self.new ≤ length self.old + length word.now + 21 }
     {
@@ -58,7 +59,7 @@ impl LineBuf {
 
     /// The line of a finish, behind `finish ` or `found `.
     pub(crate) fn append_entry(&mut self, word: &[u8], entry: Entry)
-        requires word { length word.now ≤ 16 }
+        requires word { length word.now ≤ MAX_NAME }
         requires room { length self.old ≤ 128 }
         ensures text { self.new ≡ self.old ++ entry_text word.now (entry_of entry) }
         ensures len { length self.new ≤ length self.old + 128 }

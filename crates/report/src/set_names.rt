@@ -3,6 +3,7 @@
 ghost use Rattle.std.specs.Prelude.{◌≡◌, ◌≤◌, ◌<◌, length};
 ghost use Rattle.set_model.specs.Sets.{object_at, program_at};
 
+use nv_base::limits::{MAX_NAME, MAX_SIZE};
 use nv_base::{ObjId, ProgId};
 use task_set::TaskSet;
 
@@ -11,8 +12,8 @@ use task_set::TaskSet;
 pub(crate) fn object_name(set: &TaskSet, o: ObjId) -> &[u8]
     requires { o.0 < length set.now.objects }
     ensures exact { result.now ≡ (object_at set.now o.0).name }
-    ensures short { length result.now ≤ 16 }
-    ensures words { (object_at set.now o.0).size ≤ 64 }
+    ensures short { length result.now ≤ MAX_NAME }
+    ensures words { (object_at set.now o.0).size ≤ MAX_SIZE }
 {
     // for its clauses: the set is within the limits, and its names are names
     let _ = set.cores();
@@ -24,7 +25,7 @@ pub(crate) fn object_name(set: &TaskSet, o: ObjId) -> &[u8]
 pub(crate) fn program_name(set: &TaskSet, p: ProgId) -> &[u8]
     requires { p.0 < length set.now.programs }
     ensures exact { result.now ≡ (program_at set.now p.0).name }
-    ensures short { length result.now ≤ 16 }
+    ensures short { length result.now ≤ MAX_NAME }
 {
     // for its clauses: the set's names are names
     let _ = set.cores();

@@ -32,6 +32,7 @@ fn small_set(alloc: Global) -> Result<TaskSet, Fail> {
         code: Words::new(alloc),
     })?;
     let parts = SetParts {
+        format: 1,
         cores: 2,
         memory: 1024,
         records: 4,

@@ -2,7 +2,8 @@
 use Rattle.std.proofs.Common.{◌≡◌, ◌≢◌, ℕ, ◌*◌, ◌%◌, ◌<◌, ◌≤◌, List, [], ◌∷◌, ◌++◌, length, map, Option, Some, None, true, refl, sym, ap, subst, length-append, arith}
 use Rattle.std.specs.List.{AllByRecursion}
 use Rattle.kernel_model.specs.Effects.{Spawn}
-use Rattle.set_model.specs.Limits.{IsWithin}
+use Rattle.nv_base.specs.declared.limits.TheConstants.{MAX_FORMAT}
+use Rattle.set_model.specs.Limits.{IsWithin, max_objects, max_records}
 use Rattle.set_model.specs.Names.{AreNames}
 use Rattle.set_model.specs.Sets.{ObjectPart, ProgramPart, TaskSet}
 use Rattle.schedule_model.specs.Limits.{IsItem}
@@ -136,11 +137,13 @@ abbrev pub IsFitting : ℕ → ProgramPart → Type 0
 IsFitting memory p = IsWithin 1 1000000 p.fuel × (length p.code ≤ 1024) × (4 * length p.code ≤ memory)
 
 pub record Kept (r : ℕ) (set : TaskSet) (t : Timeline) : Type 0 where
+  pub format : 1 ≤ r → IsWithin 1 MAX_FORMAT set.format
   pub cores : 2 ≤ r → IsWithin 1 8 set.cores
   pub memory : 3 ≤ r → IsWithin 1024 65536 set.memory × (set.memory % 4 ≡ 0)
-  pub records : 4 ≤ r → IsWithin 1 256 set.records
+  pub records : 4 ≤ r → IsWithin 1 (max_records set.format) set.records
   pub objects : 5 ≤ r → 1 ≤ length set.objects
-  pub few_objects : length set.objects ≤ 64
+  pub few_objects : length set.objects ≤ max_objects set.format
+  pub no_objects : r < 5 → set.objects ≡ []
   pub each_object : AllByRecursion IsSized set.objects
   pub object_names : AreNames (map (λ o. o.name) set.objects)
   pub programs : 6 ≤ r → 1 ≤ length set.programs
@@ -157,11 +160,13 @@ pub record Kept (r : ℕ) (set : TaskSet) (t : Timeline) : Type 0 where
 
 pub kept_nothing : Kept 0 no_set no_events
 kept_nothing = record {
+  format = λ h. absurd (omega arith);
   cores = λ h. absurd (omega arith);
   memory = λ h. absurd (omega arith);
   records = λ h. absurd (omega arith);
   objects = λ h. absurd (omega arith);
   few_objects = omega arith;
+  no_objects = λ h. refl;
   each_object = tt;
   object_names = record { each = tt; once = tt };
   programs = λ h. absurd (omega arith);
@@ -177,13 +182,15 @@ kept_nothing = record {
   short = omega arith;
 }
 
-pub kept_nvk : (r : ℕ) (set : TaskSet) (t : Timeline) → Kept r set t → r ≡ 0 → Kept 1 set t
-kept_nvk r set t k b = record {
+pub kept_format : (r : ℕ) (set : TaskSet) (t : Timeline) → Kept r set t → (n : ℕ) → IsWithin 1 MAX_FORMAT n → r ≡ 0 → Kept 1 (record set { format = n }) t
+kept_format r set t k n w b = record {
+  format = λ h. w;
   cores = λ h. k.cores (omega arith);
   memory = λ h. k.memory (omega arith);
-  records = λ h. k.records (omega arith);
+  records = λ h. absurd (omega arith);
   objects = λ h. k.objects (omega arith);
-  few_objects = k.few_objects;
+  few_objects = omega (arith, ap length (k.no_objects (omega arith)));
+  no_objects = λ h. k.no_objects (omega arith);
   each_object = k.each_object;
   object_names = k.object_names;
   programs = λ h. k.programs (omega arith);
@@ -201,11 +208,13 @@ kept_nvk r set t k b = record {
 
 pub kept_cores : (r : ℕ) (set : TaskSet) (t : Timeline) → Kept r set t → (n : ℕ) → IsWithin 1 8 n → r ≡ 1 → Kept 2 (record set { cores = n }) t
 kept_cores r set t k n w b = record {
+  format = λ h. k.format (omega arith);
   cores = λ h. w;
   memory = λ h. k.memory (omega arith);
   records = λ h. k.records (omega arith);
   objects = λ h. k.objects (omega arith);
   few_objects = k.few_objects;
+  no_objects = λ h. k.no_objects (omega arith);
   each_object = k.each_object;
   object_names = k.object_names;
   programs = λ h. k.programs (omega arith);
@@ -223,11 +232,13 @@ kept_cores r set t k n w b = record {
 
 pub kept_memory : (r : ℕ) (set : TaskSet) (t : Timeline) → Kept r set t → (n : ℕ) → IsWithin 1024 65536 n → n % 4 ≡ 0 → r ≡ 2 → Kept 3 (record set { memory = n }) t
 kept_memory r set t k n w m b = record {
+  format = λ h. k.format (omega arith);
   cores = λ h. k.cores (omega arith);
   memory = λ h. (w, m);
   records = λ h. k.records (omega arith);
   objects = λ h. k.objects (omega arith);
   few_objects = k.few_objects;
+  no_objects = λ h. k.no_objects (omega arith);
   each_object = k.each_object;
   object_names = k.object_names;
   programs = λ h. k.programs (omega arith);
@@ -243,13 +254,15 @@ kept_memory r set t k n w m b = record {
   short = k.short;
 }
 
-pub kept_records : (r : ℕ) (set : TaskSet) (t : Timeline) → Kept r set t → (n : ℕ) → IsWithin 1 256 n → r ≡ 3 → Kept 4 (record set { records = n }) t
+pub kept_records : (r : ℕ) (set : TaskSet) (t : Timeline) → Kept r set t → (n : ℕ) → IsWithin 1 (max_records set.format) n → r ≡ 3 → Kept 4 (record set { records = n }) t
 kept_records r set t k n w b = record {
+  format = λ h. k.format (omega arith);
   cores = λ h. k.cores (omega arith);
   memory = λ h. k.memory (omega arith);
   records = λ h. w;
   objects = λ h. k.objects (omega arith);
   few_objects = k.few_objects;
+  no_objects = λ h. k.no_objects (omega arith);
   each_object = k.each_object;
   object_names = k.object_names;
   programs = λ h. k.programs (omega arith);
@@ -265,13 +278,15 @@ kept_records r set t k n w b = record {
   short = k.short;
 }
 
-pub kept_object : (r : ℕ) (set : TaskSet) (t : Timeline) → Kept r set t → (o : ObjectPart) → IsSized o → AreNames (map (λ o. o.name) (set.objects ++ o ∷ [])) → length set.objects ≢ 64 → (4 ≤ r) × (r ≤ 5) → Kept 5 (record set { objects = set.objects ++ o ∷ [] }) t
+pub kept_object : (r : ℕ) (set : TaskSet) (t : Timeline) → Kept r set t → (o : ObjectPart) → IsSized o → AreNames (map (λ o. o.name) (set.objects ++ o ∷ [])) → length set.objects ≢ max_objects set.format → (4 ≤ r) × (r ≤ 5) → Kept 5 (record set { objects = set.objects ++ o ∷ [] }) t
 kept_object r set t k o s n f b = record {
+  format = λ h. k.format (omega arith);
   cores = λ h. k.cores (omega arith);
   memory = λ h. k.memory (omega arith);
   records = λ h. k.records (omega arith);
   objects = λ h. omega (arith, length-append set.objects (o ∷ []));
   few_objects = let few = k.few_objects in omega (arith, length-append set.objects (o ∷ []));
+  no_objects = λ h. absurd (omega arith);
   each_object = all_with IsSized set.objects o k.each_object s;
   object_names = n;
   programs = λ h. k.programs (omega arith);
@@ -289,11 +304,13 @@ kept_object r set t k o s n f b = record {
 
 pub kept_program : (r : ℕ) (set : TaskSet) (t : Timeline) → Kept r set t → (p : ProgramPart) → IsFitting set.memory p → AreNames (map (λ p. p.name) (set.programs ++ p ∷ [])) → length set.programs ≢ 16 → (5 ≤ r) × (r ≤ 6) → Kept 6 (record set { programs = set.programs ++ p ∷ [] }) t
 kept_program r set t k p s n f b = record {
+  format = λ h. k.format (omega arith);
   cores = λ h. k.cores (omega arith);
   memory = λ h. k.memory (omega arith);
   records = λ h. k.records (omega arith);
   objects = λ h. k.objects (omega arith);
   few_objects = k.few_objects;
+  no_objects = λ h. k.no_objects (omega arith);
   each_object = k.each_object;
   object_names = k.object_names;
   programs = λ h. omega (arith, length-append set.programs (p ∷ []));
@@ -311,11 +328,13 @@ kept_program r set t k p s n f b = record {
 
 pub kept_task : (r : ℕ) (set : TaskSet) (t : Timeline) → Kept r set t → (a : Spawn) → a.program < length set.programs → length set.tasks ≢ set.records → (6 ≤ r) × (r ≤ 7) → Kept 7 (record set { tasks = set.tasks ++ a ∷ [] }) t
 kept_task r set t k a s f b = record {
+  format = λ h. k.format (omega arith);
   cores = λ h. k.cores (omega arith);
   memory = λ h. k.memory (omega arith);
   records = λ h. k.records (omega arith);
   objects = λ h. k.objects (omega arith);
   few_objects = k.few_objects;
+  no_objects = λ h. k.no_objects (omega arith);
   each_object = k.each_object;
   object_names = k.object_names;
   programs = λ h. k.programs (omega arith);
@@ -333,11 +352,13 @@ kept_task r set t k a s f b = record {
 
 pub kept_events : (r : ℕ) (set : TaskSet) (t : Timeline) → Kept r set t → (u : Timeline) → AllByRecursion (IsItem set.cores) u.items → event_count u ≤ 1000000 → (6 ≤ r) × (r ≤ 8) → Kept 8 set u
 kept_events r set t k u s f b = record {
+  format = λ h. k.format (omega arith);
   cores = λ h. k.cores (omega arith);
   memory = λ h. k.memory (omega arith);
   records = λ h. k.records (omega arith);
   objects = λ h. k.objects (omega arith);
   few_objects = k.few_objects;
+  no_objects = λ h. k.no_objects (omega arith);
   each_object = k.each_object;
   object_names = k.object_names;
   programs = λ h. k.programs (omega arith);
@@ -355,11 +376,13 @@ kept_events r set t k u s f b = record {
 
 pub kept_run : (r : ℕ) (set : TaskSet) (t : Timeline) → Kept r set t → (6 ≤ r) × (r ≤ 8) → Kept 9 set t
 kept_run r set t k b = record {
+  format = λ h. k.format (omega arith);
   cores = λ h. k.cores (omega arith);
   memory = λ h. k.memory (omega arith);
   records = λ h. k.records (omega arith);
   objects = λ h. k.objects (omega arith);
   few_objects = k.few_objects;
+  no_objects = λ h. k.no_objects (omega arith);
   each_object = k.each_object;
   object_names = k.object_names;
   programs = λ h. k.programs (omega arith);

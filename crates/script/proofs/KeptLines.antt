@@ -6,7 +6,8 @@ use Rattle.std.proofs.lemmas.List.{length-map}
 use Rattle.plain_text.specs.Words.{is_plain, words_of}
 use Rattle.plain_text.specs.Numbers.{is_numeral}
 use Rattle.kernel_model.specs.Effects.{Spawn}
-use Rattle.set_model.specs.Limits.{IsWithin}
+use Rattle.nv_base.specs.declared.limits.TheConstants.{MAX_FORMAT}
+use Rattle.set_model.specs.Limits.{IsWithin, max_objects, max_records}
 use Rattle.set_model.specs.Sets.{ObjectPart, TaskSet}
 use Rattle.schedule_model.specs.Limits.{IsItem, steps_together}
 use Rattle.schedule_model.specs.Schedules.{StepItem, InOrder, Drawn}
@@ -21,13 +22,13 @@ use Rattle.script.specs.Results.{◌>>=◌, each}
 use Rattle.script.specs.Keywords.{keyword_of, stage_of, may_follow}
 use Rattle.script.specs.Words.{number, value, one, two, three, new_name, known_name, allowed}
 use Rattle.script.specs.Parts.{Parts, Timeline, event_count}
-use Rattle.script.specs.SetLines.{version_of, cores_after, memory_after, records_after, first_values, object_after, task_after}
+use Rattle.script.specs.SetLines.{format_after, cores_after, memory_after, records_after, first_values, object_after, task_after}
 use Rattle.script.specs.ScheduleLines.{on_times, steps, steps_within, times_of, is_star, are_times, are_many, times_together, power_after, steps_after, mix_after}
 use Rattle.script.specs.Lines.{keyword_after, words_after, line_after, found}
 use Rattle.script.proofs.Counts.{times_length, steps-append}
 use Rattle.script.proofs.Inversions.{bind_ok, refused_if, allowed_if, both_true, number_ok, each_all, length-first}
 use Rattle.script.proofs.NewNames.{all_append, named_with, known_within}
-use Rattle.script.proofs.Kept.{rank, follows, Kept, kept_nvk, kept_cores, kept_memory, kept_records, kept_object, kept_task, kept_events, kept_run}
+use Rattle.script.proofs.Kept.{rank, follows, Kept, kept_format, kept_cores, kept_memory, kept_records, kept_object, kept_task, kept_events, kept_run}
 
 abbrev pub KeptParts : Parts → Type 0
 KeptParts p = Kept (rank p.last) p.set p.timeline
@@ -37,6 +38,13 @@ KeptParts p = Kept (rank p.last) p.set p.timeline
 abbrev Words : Type 0
 Words = List (List ℕ)
 
+format_ok : (set new : TaskSet) (words : Words) → format_after set words ≡ Ok new → (m : ℕ) × IsWithin 1 MAX_FORMAT m × (record set { format = m } ≡ new)
+unfolding format_after
+format_ok set new words h =
+    let a = bind_ok (one words) (λ word. number 1 MAX_FORMAT word >>= λ m. Ok (record set { format = m })) new h in
+    let b = bind_ok (number 1 MAX_FORMAT a.0) (λ m. Ok (record set { format = m })) new a.2 in
+    (b.0, number_ok 1 MAX_FORMAT b.0 a.0 b.1, cc b.2)
+
 cores_ok : (set new : TaskSet) (words : Words) → cores_after set words ≡ Ok new → (m : ℕ) × IsWithin 1 8 m × (record set { cores = m } ≡ new)
 unfolding cores_after
 cores_ok set new words h =
@@ -44,12 +52,12 @@ cores_ok set new words h =
     let b = bind_ok (number 1 8 a.0) (λ m. Ok (record set { cores = m })) new a.2 in
     (b.0, number_ok 1 8 b.0 a.0 b.1, cc b.2)
 
-records_ok : (set new : TaskSet) (words : Words) → records_after set words ≡ Ok new → (m : ℕ) × IsWithin 1 256 m × (record set { records = m } ≡ new)
+records_ok : (set new : TaskSet) (words : Words) → records_after set words ≡ Ok new → (m : ℕ) × IsWithin 1 (max_records set.format) m × (record set { records = m } ≡ new)
 unfolding records_after
 records_ok set new words h =
-    let a = bind_ok (one words) (λ word. number 1 256 word >>= λ m. Ok (record set { records = m })) new h in
-    let b = bind_ok (number 1 256 a.0) (λ m. Ok (record set { records = m })) new a.2 in
-    (b.0, number_ok 1 256 b.0 a.0 b.1, cc b.2)
+    let a = bind_ok (one words) (λ word. number 1 (max_records set.format) word >>= λ m. Ok (record set { records = m })) new h in
+    let b = bind_ok (number 1 (max_records set.format) a.0) (λ m. Ok (record set { records = m })) new a.2 in
+    (b.0, number_ok 1 (max_records set.format) b.0 a.0 b.1, cc b.2)
 
 memory_ok : (set new : TaskSet) (words : Words) → memory_after set words ≡ Ok new → (m : ℕ) × IsWithin 1024 65536 m × (m % 4 ≡ 0) × (record set { memory = m } ≡ new)
 unfolding memory_after
@@ -67,13 +75,13 @@ record Adds (set new : TaskSet) : Type 0 where
   size : IsWithin 1 64 object.size
   slots : IsWithin 2 8 object.slots
   first : length object.first ≡ object.size
-  room : eqb (length set.objects) 64 ≡ false
+  room : eqb (length set.objects) (max_objects set.format) ≡ false
   same : record set { objects = set.objects ++ object ∷ [] } ≡ new
 
 object_ok : (set new : TaskSet) (words : Words) → object_after set words ≡ Ok new → Adds set new
 unfolding object_after
 object_ok set new words h =
-    let last = λ (name : List ℕ) (size slots : ℕ) (first : List ℕ). let r : Result TaskSet ScriptCause = cond (eqb (length set.objects) 64) (Err causes.Many) (Ok (record set { objects = set.objects ++ record { name = name; size = size; slots = slots; first = first } ∷ [] })) in r in
+    let last = λ (name : List ℕ) (size slots : ℕ) (first : List ℕ). let r : Result TaskSet ScriptCause = cond (eqb (length set.objects) (max_objects set.format)) (Err causes.Many) (Ok (record set { objects = set.objects ++ record { name = name; size = size; slots = slots; first = first } ∷ [] })) in r in
     let a = bind_ok (three words) (λ word. new_name (λ o. o.name) set.objects word.0 >>= λ name. number 1 64 word.1 >>= λ size. number 2 8 word.2 >>= λ slots. first_values size word.3 >>= λ first. last name size slots first) new h in
     let w = a.0 in
     let b = bind_ok (new_name (λ o. o.name) set.objects w.0) (λ name. number 1 64 w.1 >>= λ size. number 2 8 w.2 >>= λ slots. first_values size w.3 >>= λ first. last name size slots first) new a.2 in
@@ -81,7 +89,7 @@ object_ok set new words h =
     let d = bind_ok (number 2 8 w.2) (λ slots. first_values c.0 w.3 >>= λ first. last b.0 c.0 slots first) new c.2 in
     let e = bind_ok (first_values c.0 w.3) (λ first. last b.0 c.0 d.0 first) new d.2 in
     let object : ObjectPart = record { name = b.0; size = c.0; slots = d.0; first = e.0 } in
-    let t = refused_if (eqb (length set.objects) 64) causes.Many (record set { objects = set.objects ++ object ∷ [] }) new e.2 in
+    let t = refused_if (eqb (length set.objects) (max_objects set.format)) causes.Many (record set { objects = set.objects ++ object ∷ [] }) new e.2 in
     record {
       object = object;
       word = w.0;
@@ -206,9 +214,11 @@ events_kept keyword p q r kept h =
 keyword_kept : (keyword : Keyword) (n : ℕ) (p q : Parts) (words : Words) → KeptParts p → may_follow p.last (stage_of keyword) ≡ true
     → keyword_after keyword n p words ≡ Ok q → KeptAt keyword q
 keyword_kept Nvk n p q words k f h =
-    let a = bind_ok (version_of words) (λ version. Ok p) q h in
-    let same : p ≡ q = cc a.2 in
-    subst (λ (q : Parts). KeptAt Nvk q) same (kept_nvk (rank p.last) p.set p.timeline k (follows p.last stages.Nvk f))
+    set_kept Nvk p q (format_after p.set words)
+    (λ new e.
+    let a = format_ok p.set new words e in
+    subst (λ (s : TaskSet). Kept 1 s p.timeline) a.2 (kept_format (rank p.last) p.set p.timeline k a.0 a.1 (follows p.last stages.Nvk f)))
+    h
 keyword_kept Cores n p q words k f h =
     set_kept Cores (record p { cores_line = n }) q (cores_after p.set words)
     (λ new e.
@@ -233,7 +243,7 @@ keyword_kept Object n p q words k f h =
     let a = object_ok p.set new words e in
     let names = named_with (λ (o : ObjectPart). o.name) p.set.objects a.object a.word a.object.name k.object_names a.named refl in
     subst (λ (s : TaskSet). Kept 5 s p.timeline) a.same
-    (kept_object (rank p.last) p.set p.timeline k a.object (a.size, a.slots, a.first) names (eqb-false (length p.set.objects) 64 a.room) (follows p.last stages.Object f)))
+    (kept_object (rank p.last) p.set p.timeline k a.object (a.size, a.slots, a.first) names (eqb-false (length p.set.objects) (max_objects p.set.format) a.room) (follows p.last stages.Object f)))
     h
 keyword_kept Task n p q words k f h =
     set_kept Task p q (task_after p.set words)

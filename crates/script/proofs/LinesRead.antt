@@ -6,7 +6,7 @@ use Rattle.std.proofs.lemmas.Bool.{ne_eqb, le-ltb, eq-eqb}
 use Rattle.std.proofs.lemmas.List.{length-map}
 use Rattle.kernel_model.specs.Effects.{Spawn}
 use Rattle.set_model.specs.Sets.{ObjectPart, ProgramPart, TaskSet, program_at}
-use Rattle.set_model.specs.Limits.{IsObject, IsProgram, IsTask}
+use Rattle.set_model.specs.Limits.{IsObject, IsProgram, IsTask, max_objects}
 use Rattle.set_model.specs.Names.{IsName, AreDistinct}
 use Rattle.script.specs.declared.keyword.Stage.{Stage}
 use Rattle.script.specs.declared.keyword.Stage.TheVariants as stages
@@ -24,6 +24,7 @@ use Rattle.script.proofs.NamesRead.{is_new}
 
 abbrev pub so_far : TaskSet → List ObjectPart → List ProgramPart → List Spawn → TaskSet
 so_far set objects programs tasks = record {
+  format = set.format;
   cores = set.cores;
   memory = set.memory;
   records = set.records;
@@ -56,13 +57,13 @@ values_are o h =
     let right : eqb o.size o.size ≡ true = eq-eqb _ _ refl in
     rw (size, some, right) (values_back o.first h.words)
 
-pub object_is : (set : TaskSet) (done : List ObjectPart) (o : ObjectPart) (others : List (List ℕ)) → IsObject o → IsName o.name → AreDistinct (map (λ o. o.name) done ++ o.name ∷ others) → length done < 64
+pub object_is : (set : TaskSet) (done : List ObjectPart) (o : ObjectPart) (others : List (List ℕ)) → IsObject o → IsName o.name → AreDistinct (map (λ o. o.name) done ++ o.name ∷ others) → length done < max_objects set.format
     → object_after (so_far set done [] []) (object_words o) ≡ Ok (so_far set (done ++ o ∷ []) [] [])
 unfolding object_after
 object_is set done o others h name once few =
     let size = h.size in
     let slots = h.slots in
-    let room : eqb (length done) 64 ≡ false = ne_eqb _ _ (omega arith) in
+    let room : eqb (length done) (max_objects set.format) ≡ false = ne_eqb _ _ (omega arith) in
     rw (
       is_new (λ o. o.name) done o.name others name once,
       number_back 1 64 o.size size.0 size.1 (omega arith),

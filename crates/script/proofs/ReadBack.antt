@@ -11,6 +11,7 @@ use Rattle.rv_isa.specs.Words.{word_of}
 use Rattle.rv_isa.specs.declared.instruction.Instr.{Instr}
 use Rattle.rv_asm.specs.Assembly.{assembled}
 use Rattle.rv_asm.specs.Disassembly.{disassembled}
+use Rattle.set_model.proofs.LimitFacts.{few_records}
 use Rattle.set_model.specs.Sets.{ObjectPart, ProgramPart, TaskSet, program_at}
 use Rattle.set_model.specs.Limits.{IsObject, IsProgram, IsTask, IsTaskSet}
 use Rattle.set_model.specs.Names.{IsName, IsNamed}
@@ -46,13 +47,15 @@ tasks_written set (t ∷ tasks) named each = ((name_written (program_at set t.pr
 
 set_written : AreWithin → (set : TaskSet) → IsTaskSet set → IsNamed set → IsWrittenSet set
 set_written within set h named =
+    let format = h.format in
     let cores = h.cores in
     let memory = h.memory in
     let records = h.records in
     record {
+      format = decimal_written set.format (omega arith);
       cores = decimal_written set.cores (omega arith);
       memory = decimal_written set.memory (omega arith);
-      records = decimal_written set.records (omega arith);
+      records = decimal_written set.records (omega (arith, few_records set h));
       objects = objects_written set.objects h.each_object named.objects.each;
       programs = programs_written within set.memory set.programs h.each_program named.programs.each;
       tasks = tasks_written set set.tasks named h.each_task;

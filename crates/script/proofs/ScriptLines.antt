@@ -30,7 +30,7 @@ task_line set t = spaced (codes "task") (task_words set t)
 
 abbrev pub script_lines : TaskSet → List (List ℕ)
 script_lines set =
-    codes "nvk 1" ∷ number_line (codes "cores") set.cores ∷ number_line (codes "memory") set.memory ∷ number_line (codes "records") set.records ∷
+    number_line (codes "nvk") set.format ∷ number_line (codes "cores") set.cores ∷ number_line (codes "memory") set.memory ∷ number_line (codes "records") set.records ∷
     (map object_line set.objects ++ (flat_map program_lines set.programs ++ (map (task_line set) set.tasks ++ codes "run" ∷ [])))
 
 -- ---- the text is its lines
@@ -114,9 +114,10 @@ pub text_joined : (set : TaskSet) → script_text set ≡ joined (script_lines s
 unfolding script_text
 text_joined set =
     let all = flat_map object_text set.objects ++ (flat_map program_text set.programs ++ (flat_map (task_text set) set.tasks ++ codes "run\n")) in
-    eight (codes "nvk 1\n") (number_text (codes "cores ") set.cores) (number_text (codes "memory ") set.memory) (number_text (codes "records ") set.records)
+    eight (number_text (codes "nvk ") set.format) (number_text (codes "cores ") set.cores) (number_text (codes "memory ") set.memory) (number_text (codes "records ") set.records)
     (flat_map object_text set.objects) (flat_map program_text set.programs) (flat_map (task_text set) set.tasks) (codes "run\n")
-    ∙ ap (λ (c : List ℕ). codes "nvk 1\n" ++ ((codes "cores " ++ c) ++ (number_text (codes "memory ") set.memory ++ (number_text (codes "records ") set.records ++ all)))) (number_joined set.cores)
-    ∙ ap (λ (m : List ℕ). codes "nvk 1\n" ++ ((number_line (codes "cores") set.cores ++ 10 ∷ []) ++ ((codes "memory " ++ m) ++ (number_text (codes "records ") set.records ++ all)))) (number_joined set.memory)
-    ∙ ap (λ (r : List ℕ). codes "nvk 1\n" ++ ((number_line (codes "cores") set.cores ++ 10 ∷ []) ++ ((number_line (codes "memory") set.memory ++ 10 ∷ []) ++ ((codes "records " ++ r) ++ all)))) (number_joined set.records)
-    ∙ ap (λ (t : List ℕ). codes "nvk 1\n" ++ ((number_line (codes "cores") set.cores ++ 10 ∷ []) ++ ((number_line (codes "memory") set.memory ++ 10 ∷ []) ++ ((number_line (codes "records") set.records ++ 10 ∷ []) ++ t)))) (rest_joined set)
+    ∙ ap (λ (f : List ℕ). (codes "nvk " ++ f) ++ (number_text (codes "cores ") set.cores ++ (number_text (codes "memory ") set.memory ++ (number_text (codes "records ") set.records ++ all)))) (number_joined set.format)
+    ∙ ap (λ (c : List ℕ). (number_line (codes "nvk") set.format ++ 10 ∷ []) ++ ((codes "cores " ++ c) ++ (number_text (codes "memory ") set.memory ++ (number_text (codes "records ") set.records ++ all)))) (number_joined set.cores)
+    ∙ ap (λ (m : List ℕ). (number_line (codes "nvk") set.format ++ 10 ∷ []) ++ ((number_line (codes "cores") set.cores ++ 10 ∷ []) ++ ((codes "memory " ++ m) ++ (number_text (codes "records ") set.records ++ all)))) (number_joined set.memory)
+    ∙ ap (λ (r : List ℕ). (number_line (codes "nvk") set.format ++ 10 ∷ []) ++ ((number_line (codes "cores") set.cores ++ 10 ∷ []) ++ ((number_line (codes "memory") set.memory ++ 10 ∷ []) ++ ((codes "records " ++ r) ++ all)))) (number_joined set.records)
+    ∙ ap (λ (t : List ℕ). (number_line (codes "nvk") set.format ++ 10 ∷ []) ++ ((number_line (codes "cores") set.cores ++ 10 ∷ []) ++ ((number_line (codes "memory") set.memory ++ 10 ∷ []) ++ ((number_line (codes "records") set.records ++ 10 ∷ []) ++ t)))) (rest_joined set)

@@ -22,6 +22,7 @@ pub record IsWrittenProgram (p : ProgramPart) : Type 0 where
   pub code : AllByRecursion IsCode (map text_of p.code)
 
 pub record IsWrittenSet (set : TaskSet) : Type 0 where
+  pub format : IsWritten (decimal set.format)
   pub cores : IsWritten (decimal set.cores)
   pub memory : IsWritten (decimal set.memory)
   pub records : IsWritten (decimal set.records)
@@ -58,7 +59,7 @@ task_lines_are set (t ∷ tasks) all = (spaced_line (codes "task") (task_words s
 
 pub script_lines_are : (set : TaskSet) → IsWrittenSet set → AllByRecursion IsLine (script_lines set)
 script_lines_are set h = (
-  record { bytes = refl; some = omega arith },
+  spaced_line (codes "nvk") (decimal set.format ∷ []) (literal (codes "nvk") refl) (h.format, tt),
   (
     spaced_line (codes "cores") (decimal set.cores ∷ []) (literal (codes "cores") refl) (h.cores, tt),
     (
@@ -121,7 +122,7 @@ task_section set t = Single (task_line set t)
 
 abbrev pub script_sections : TaskSet → List Section
 script_sections set =
-    Single (codes "nvk 1") ∷ Single (number_line (codes "cores") set.cores) ∷ Single (number_line (codes "memory") set.memory) ∷ Single (number_line (codes "records") set.records) ∷
+    Single (number_line (codes "nvk") set.format) ∷ Single (number_line (codes "cores") set.cores) ∷ Single (number_line (codes "memory") set.memory) ∷ Single (number_line (codes "records") set.records) ∷
     (map object_section set.objects ++ (map program_section set.programs ++ (map (task_section set) set.tasks ++ Single (codes "run") ∷ [])))
 
 objects_cut : (objects : List ObjectPart) (rest : List (List ℕ)) → AllByRecursion (λ o. AllByRecursion IsWritten (object_words o)) objects
@@ -177,5 +178,5 @@ script_cut set h =
     let third = number_cut (codes "records") set.records body (literal (codes "records") refl) h.records refl ∙ ap (λ (more : List Section). Single (number_line (codes "records") set.records) ∷ more) (body_cut set h) in
     let second = number_cut (codes "memory") set.memory (number_line (codes "records") set.records ∷ body) (literal (codes "memory") refl) h.memory refl ∙ ap (λ (more : List Section). Single (number_line (codes "memory") set.memory) ∷ more) third in
     let first = number_cut (codes "cores") set.cores (number_line (codes "memory") set.memory ∷ number_line (codes "records") set.records ∷ body) (literal (codes "cores") refl) h.cores refl ∙ ap (λ (more : List Section). Single (number_line (codes "cores") set.cores) ∷ more) second in
-    single_first (codes "nvk 1") (number_line (codes "cores") set.cores ∷ number_line (codes "memory") set.memory ∷ number_line (codes "records") set.records ∷ body) refl
-    ∙ ap (λ (more : List Section). Single (codes "nvk 1") ∷ more) first
+    number_cut (codes "nvk") set.format (number_line (codes "cores") set.cores ∷ number_line (codes "memory") set.memory ∷ number_line (codes "records") set.records ∷ body) (literal (codes "nvk") refl) h.format refl
+    ∙ ap (λ (more : List Section). Single (number_line (codes "nvk") set.format) ∷ more) first

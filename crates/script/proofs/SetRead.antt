@@ -7,14 +7,16 @@ use Rattle.std.proofs.lemmas.List.{append-nil, map-append}
 use Rattle.kernel_model.specs.Effects.{Spawn}
 use Rattle.rv_isa.specs.Texts.{text_of}
 use Rattle.rv_asm.specs.Assembly.{assembled}
+use Rattle.nv_base.specs.declared.limits.TheConstants.{MAX_FORMAT}
+use Rattle.set_model.proofs.LimitFacts.{most_records}
 use Rattle.set_model.specs.Sets.{ObjectPart, ProgramPart, TaskSet, program_at}
-use Rattle.set_model.specs.Limits.{IsObject, IsProgram, IsTask, IsTaskSet}
+use Rattle.set_model.specs.Limits.{IsObject, IsProgram, IsTask, IsTaskSet, max_objects, max_records}
 use Rattle.set_model.specs.Names.{IsName, IsNamed, AreDistinct}
 use Rattle.script.specs.declared.keyword.BlockKind.TheVariants as blocks
 use Rattle.script.specs.declared.keyword.Stage.{Stage}
 use Rattle.script.specs.declared.keyword.Stage.TheVariants as stages
 use Rattle.script.specs.Keywords.{may_follow}
-use Rattle.script.specs.SetLines.{version_of, cores_after, memory_after, records_after}
+use Rattle.script.specs.SetLines.{format_after, cores_after, memory_after, records_after}
 use Rattle.script.specs.Words.{known_name}
 use Rattle.script.specs.Blocks.{at, or_empty, is_bad, program_code, block_after}
 use Rattle.script.specs.Parts.{Parts, nothing, no_set, no_events}
@@ -55,20 +57,20 @@ last_some last now (x ∷ xs) some = last_same now xs
 -- ---- objects
 
 object_words_after : (set : TaskSet) (n : ℕ) (last : Stage) (done : List ObjectPart) (o : ObjectPart) (others : List (List ℕ)) → may_follow (Some last) stages.Object ≡ true
-    → IsObject o → IsName o.name → AreDistinct (map (λ o. o.name) done ++ o.name ∷ others) → length done < 64
+    → IsObject o → IsName o.name → AreDistinct (map (λ o. o.name) done ++ o.name ∷ others) → length done < max_objects set.format
     → words_after n (after set (Some last) done [] []) (codes "object" ∷ object_words o) ≡ Ok (after set (Some stages.Object) (done ++ o ∷ []) [] [])
 unfolding words_after
 object_words_after set n last done o others may h name once few = rw (may, object_is set done o others h name once few) refl
 
 objects_read : (set : TaskSet) (last : Stage) (done todo : List ObjectPart) (n : ℕ) (rest : List Section) → set.objects ≡ done ++ todo → may_follow (Some last) stages.Object ≡ true
-    → AllByRecursion IsObject todo → AllByRecursion IsName (map (λ o. o.name) todo) → AllByRecursion (λ o. AllByRecursion IsWritten (object_words o)) todo → AreDistinct (map (λ o. o.name) set.objects) → length set.objects ≤ 64
+    → AllByRecursion IsObject todo → AllByRecursion IsName (map (λ o. o.name) todo) → AllByRecursion (λ o. AllByRecursion IsWritten (object_words o)) todo → AreDistinct (map (λ o. o.name) set.objects) → length set.objects ≤ max_objects set.format
     → (m : ℕ) × (sections_after n (after set (Some last) done [] []) (map object_section todo ++ rest) ≡ sections_after m (after set (Some (last_of last stages.Object todo)) set.objects [] []) rest)
 objects_read set last done [] n rest e may each names words once few =
     (n, ap (λ (os : List ObjectPart). sections_after n (after set (Some last) os [] []) rest) (sym (append-nil done) ∙ sym e))
 objects_read set last done (o ∷ todo) n rest e may each names words once few =
     let seam : map (λ o. o.name) set.objects ≡ map (λ o. o.name) done ++ o.name ∷ map (λ o. o.name) todo = ap (map (λ (o : ObjectPart). o.name)) e ∙ map-append (λ (o : ObjectPart). o.name) done (o ∷ todo) in
     let distinct : AreDistinct (map (λ o. o.name) done ++ o.name ∷ map (λ o. o.name) todo) = subst AreDistinct seam once in
-    let room : length done < 64 = let total : length set.objects ≡ length done + length (o ∷ todo) = ap length e ∙ length-append done (o ∷ todo) in omega arith in
+    let room : length done < max_objects set.format = let total : length set.objects ≡ length done + length (o ∷ todo) = ap length e ∙ length-append done (o ∷ todo) in omega arith in
     let q = after set (Some stages.Object) (done ++ o ∷ []) [] [] in
     let line : line_after n (after set (Some last) done [] []) (object_line o) ≡ Ok q =
     line_is n (after set (Some last) done [] []) q (codes "object") (object_words o) (literal (codes "object") refl) words.0
@@ -153,20 +155,20 @@ tasks_read set last done (t ∷ todo) n rest e may named each words few =
 
 -- ---- the first lines, and the last
 
-abbrev version_read : Parts
-version_read = record { last = Some stages.Nvk; cores_line = 0; set = no_set; timeline = no_events }
+abbrev format_read : TaskSet → Parts
+format_read set = record { last = Some stages.Nvk; cores_line = 0; set = record no_set { format = set.format }; timeline = no_events }
 
 abbrev cores_read : TaskSet → Parts
-cores_read set = record { last = Some stages.Cores; cores_line = 2; set = record no_set { cores = set.cores }; timeline = no_events }
+cores_read set = record { last = Some stages.Cores; cores_line = 2; set = record no_set { format = set.format; cores = set.cores }; timeline = no_events }
 
 abbrev memory_read : TaskSet → Parts
-memory_read set = record { last = Some stages.Memory; cores_line = 2; set = record no_set { cores = set.cores; memory = set.memory }; timeline = no_events }
+memory_read set = record { last = Some stages.Memory; cores_line = 2; set = record no_set { format = set.format; cores = set.cores; memory = set.memory }; timeline = no_events }
 
-version_is : line_after 1 nothing (codes "nvk 1") ≡ Ok version_read
-unfolding words_after version_of
-version_is = refl
+format_is : (set : TaskSet) → IsTaskSet set → words_after 1 nothing (codes "nvk" ∷ decimal set.format ∷ []) ≡ Ok (format_read set)
+unfolding words_after format_after
+format_is set h = let r = h.format in rw (number_back 1 MAX_FORMAT set.format r.0 r.1 (omega arith)) refl
 
-cores_is : (set : TaskSet) → IsTaskSet set → words_after 2 version_read (codes "cores" ∷ decimal set.cores ∷ []) ≡ Ok (cores_read set)
+cores_is : (set : TaskSet) → IsTaskSet set → words_after 2 (format_read set) (codes "cores" ∷ decimal set.cores ∷ []) ≡ Ok (cores_read set)
 unfolding words_after cores_after
 cores_is set h = let r = h.cores in rw (number_back 1 8 set.cores r.0 r.1 (omega arith)) refl
 
@@ -179,19 +181,20 @@ memory_is set h =
 
 records_is : (set : TaskSet) → IsTaskSet set → words_after 4 (memory_read set) (codes "records" ∷ decimal set.records ∷ []) ≡ Ok (after set (Some stages.Records) [] [] [])
 unfolding words_after records_after
-records_is set h = let r = h.records in rw (number_back 1 256 set.records r.0 r.1 (omega arith)) refl
+records_is set h = let r = h.records in rw (number_back 1 (max_records set.format) set.records r.0 r.1 (omega (arith, most_records set.format))) refl
 
 first_lines : (set : TaskSet) (rest : List Section) → IsTaskSet set → IsWrittenSet set
-    → sections_after 1 nothing (Single (codes "nvk 1") ∷ Single (number_line (codes "cores") set.cores) ∷ Single (number_line (codes "memory") set.memory) ∷ Single (number_line (codes "records") set.records) ∷ rest)
+    → sections_after 1 nothing (Single (number_line (codes "nvk") set.format) ∷ Single (number_line (codes "cores") set.cores) ∷ Single (number_line (codes "memory") set.memory) ∷ Single (number_line (codes "records") set.records) ∷ rest)
     ≡ sections_after 5 (after set (Some stages.Records) [] [] []) rest
 first_lines set rest h written =
-    let cores = line_is 2 version_read (cores_read set) (codes "cores") (decimal set.cores ∷ []) (literal (codes "cores") refl) (written.cores, tt) (cores_is set h) in
+    let format = line_is 1 nothing (format_read set) (codes "nvk") (decimal set.format ∷ []) (literal (codes "nvk") refl) (written.format, tt) (format_is set h) in
+    let cores = line_is 2 (format_read set) (cores_read set) (codes "cores") (decimal set.cores ∷ []) (literal (codes "cores") refl) (written.cores, tt) (cores_is set h) in
     let memory = line_is 3 (cores_read set) (memory_read set) (codes "memory") (decimal set.memory ∷ []) (literal (codes "memory") refl) (written.memory, tt) (memory_is set h) in
     let records = line_is 4 (memory_read set) (after set (Some stages.Records) [] [] []) (codes "records") (decimal set.records ∷ []) (literal (codes "records") refl) (written.records, tt) (records_is set h) in
     let fourth = single_taken 4 (memory_read set) (after set (Some stages.Records) [] [] []) (number_line (codes "records") set.records) rest records in
     let third = single_taken 3 (cores_read set) (memory_read set) (number_line (codes "memory") set.memory) (Single (number_line (codes "records") set.records) ∷ rest) memory in
-    let second = single_taken 2 version_read (cores_read set) (number_line (codes "cores") set.cores) (Single (number_line (codes "memory") set.memory) ∷ Single (number_line (codes "records") set.records) ∷ rest) cores in
-    let first = single_taken 1 nothing version_read (codes "nvk 1") (Single (number_line (codes "cores") set.cores) ∷ Single (number_line (codes "memory") set.memory) ∷ Single (number_line (codes "records") set.records) ∷ rest) version_is in
+    let second = single_taken 2 (format_read set) (cores_read set) (number_line (codes "cores") set.cores) (Single (number_line (codes "memory") set.memory) ∷ Single (number_line (codes "records") set.records) ∷ rest) cores in
+    let first = single_taken 1 nothing (format_read set) (number_line (codes "nvk") set.format) (Single (number_line (codes "cores") set.cores) ∷ Single (number_line (codes "memory") set.memory) ∷ Single (number_line (codes "records") set.records) ∷ rest) format in
     first ∙ second ∙ third ∙ fourth
 
 run_is : (n : ℕ) (p : Parts) (last : Stage) → p.last ≡ Some last → may_follow (Some last) stages.Run ≡ true → line_after n p (codes "run") ≡ Ok (record p { last = Some stages.Run })

@@ -4,6 +4,7 @@ use Rattle.std.specs.List.{AllByRecursion, flat_map}
 use Rattle.std.specs.Fmt.{decimal}
 use Rattle.kernel_model.specs.Effects.{Spawn}
 use Rattle.rv_isa.specs.Texts.{text_of}
+use Rattle.set_model.proofs.LimitFacts.{few_objects, few_records}
 use Rattle.set_model.specs.Sets.{ObjectPart, ProgramPart, TaskSet, program_at}
 use Rattle.set_model.specs.Limits.{IsObject, IsProgram, IsTask, IsTaskSet}
 use Rattle.set_model.specs.Names.{IsName, IsNamed}
@@ -87,12 +88,14 @@ eight a b c d e f g h = omega (arith, length-append (a ++ b ++ c ++ d ++ e ++ f 
 pub text_is_short : AreWithin → (set : TaskSet) → IsTaskSet set → IsNamed set → length (script_text set) ≤ 1048576
 unfolding script_text
 text_is_short within set h named =
+    let format = h.format in
     let cores = h.cores in
     let memory = h.memory in
-    let records = h.records in
+    let records = few_records set h in
     let tasks = h.tasks in
-    let objects = h.objects in
+    let objects = few_objects set h in
     let programs = h.programs in
+    let z = number_few (codes "nvk ") set.format (omega arith) in
     let a = number_few (codes "cores ") set.cores (omega arith) in
     let b = number_few (codes "memory ") set.memory (omega arith) in
     let c = number_few (codes "records ") set.records (omega arith) in
@@ -101,6 +104,6 @@ text_is_short within set h named =
     let f = flat_few (task_text set) 33 set.tasks (tasks_few set set.tasks named h.each_task) in
     omega (
       arith,
-      eight (codes "nvk 1\n") (number_text (codes "cores ") set.cores) (number_text (codes "memory ") set.memory) (number_text (codes "records ") set.records)
+      eight (number_text (codes "nvk ") set.format) (number_text (codes "cores ") set.cores) (number_text (codes "memory ") set.memory) (number_text (codes "records ") set.records)
           (flat_map object_text set.objects) (flat_map program_text set.programs) (flat_map (task_text set) set.tasks) (codes "run\n"),
     )

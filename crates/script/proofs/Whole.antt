@@ -5,9 +5,10 @@ use Rattle.std.specs.Str.Lines.{lines}
 use Rattle.std.specs.List.{AllByRecursion, list_all}
 use Rattle.std.proofs.lemmas.Bool.{le-leb, lt-ltb}
 use Rattle.kernel_model.specs.Effects.{Spawn}
-use Rattle.set_model.specs.Limits.{IsWithin}
+use Rattle.nv_base.specs.declared.limits.TheConstants.{MAX_FORMAT}
+use Rattle.set_model.specs.Limits.{IsWithin, max_objects, max_records}
 use Rattle.set_model.specs.Sets.{ObjectPart, ProgramPart, TaskSet}
-use Rattle.task_set.specs.FirstBroken.{first_broken, cores_hold, memory_holds, records_hold, objects_hold, sizes_hold, slots_hold, firsts_hold, programs_hold, fuels_hold, codes_hold, tasks_hold, task_programs_hold}
+use Rattle.task_set.specs.FirstBroken.{first_broken, format_holds, cores_hold, memory_holds, records_hold, objects_hold, sizes_hold, slots_hold, firsts_hold, programs_hold, fuels_hold, codes_hold, tasks_hold, task_programs_hold}
 use Rattle.script.specs.declared.keyword.Stage.{Stage}
 use Rattle.script.specs.declared.keyword.Stage.TheVariants.{Nvk, Cores, Memory, Records, Object, Program, Task, Schedule, Run}
 use Rattle.script.specs.declared.refusals.ScriptCause.TheVariants.{Long}
@@ -55,22 +56,23 @@ programs_known : (n : ℕ) (xs : List Spawn) → AllByRecursion (λ t. t.program
 programs_known n [] h = refl
 programs_known n (x ∷ xs) h = both (ltb x.program n) (list_all (λ (t : Spawn). ltb t.program n) xs) (lt-ltb x.program n h.0) (programs_known n xs h.1)
 
-none_if : (set : TaskSet) → cores_hold set ≡ true → memory_holds set ≡ true → records_hold set ≡ true → objects_hold set ≡ true → sizes_hold set ≡ true → slots_hold set ≡ true
+none_if : (set : TaskSet) → format_holds set ≡ true → cores_hold set ≡ true → memory_holds set ≡ true → records_hold set ≡ true → objects_hold set ≡ true → sizes_hold set ≡ true → slots_hold set ≡ true
     → firsts_hold set ≡ true → programs_hold set ≡ true → fuels_hold set ≡ true → codes_hold set ≡ true → tasks_hold set ≡ true → task_programs_hold set ≡ true → first_broken set ≡ None
 unfolding first_broken
-none_if set a b c d e f g h i j k l = rw (a, b, c, d, e, f, g, h, i, j, k, l) refl
+none_if set z a b c d e f g h i j k l = rw (z, a, b, c, d, e, f, g, h, i, j, k, l) refl
 
 none_broken : (set : TaskSet) (t : Timeline) → Kept 9 set t → first_broken set ≡ None
-unfolding cores_hold memory_holds records_hold objects_hold sizes_hold slots_hold firsts_hold programs_hold fuels_hold codes_hold tasks_hold task_programs_hold
+unfolding format_holds cores_hold memory_holds records_hold objects_hold sizes_hold slots_hold firsts_hold programs_hold fuels_hold codes_hold tasks_hold task_programs_hold
 none_broken set t k =
     let m = k.memory (omega arith) in
     let some : 1 ≤ length set.objects = k.objects (omega arith) in
     let more : 1 ≤ length set.programs = k.programs (omega arith) in
     none_if set
+    (in_range 1 MAX_FORMAT set.format (k.format (omega arith)))
     (in_range 1 8 set.cores (k.cores (omega arith)))
     (both (is_in_range 1024 65536 set.memory) (eqb (set.memory % 4) 0) (in_range 1024 65536 set.memory m.0) (eq-eqb (set.memory % 4) 0 m.1))
-    (in_range 1 256 set.records (k.records (omega arith)))
-    (in_range 1 64 (length set.objects) (some, k.few_objects))
+    (in_range 1 (max_records set.format) set.records (k.records (omega arith)))
+    (in_range 1 (max_objects set.format) (length set.objects) (some, k.few_objects))
     (sizes set.objects k.each_object)
     (slots set.objects k.each_object)
     (firsts set.objects k.each_object)

@@ -1,5 +1,6 @@
 -- What a block makes of the lines so far: a program. This project's own.
 use Rattle.std.specs.Prelude.{ℕ, ◌+◌, ◌*◌, ◌==◌, nat_lt, Bool, not, is_some, List, [], ◌∷◌, ◌++◌, length, map, position, Option, Some, None, Result, Ok, Err, if◌then◌else◌}
+use Rattle.nv_base.specs.declared.limits.TheConstants.{MAX_CODE, MAX_FUEL, MAX_PROGRAMS}
 use Rattle.plain_text.specs.Words.{is_plain, words_of}
 use Rattle.plain_text.specs.Numbers.{value_in}
 use Rattle.rv_asm.specs.Assembly.{assembled}
@@ -29,8 +30,8 @@ header_of p words = do
   stage ← allowed p.last stages.Program
   word ← two words
   name ← new_name (λ program. program.name) p.set.programs word.0
-  fuel ← number 1 1000000 word.1
-  if length p.set.programs == 16 then Err Many else Ok (record { name = name; fuel = fuel })
+  fuel ← number 1 MAX_FUEL word.1
+  if length p.set.programs == MAX_PROGRAMS then Err Many else Ok (record { name = name; fuel = fuel })
 
 -- exactly 8 hexadecimal digits
 abbrev pub hex_word : List ℕ → Option ℕ
@@ -56,7 +57,7 @@ code_after code (first ∷ words) =
     if not (is_some (hex_word first)) then Err Word
     else do
       all ← with_words code (first ∷ words)
-      if nat_lt 1024 (length all) then Err Many else Ok all
+      if nat_lt MAX_CODE (length all) then Err Many else Ok all
 
 abbrev pub code_line_after : List ℕ → List ℕ → Result (List ℕ) ScriptCause
 code_line_after code line = if is_plain line then code_after code (words_of line) else Err Byte

@@ -10,7 +10,7 @@ use Rattle.script.specs.Results.{◌>>=◌}
 use Rattle.script.specs.Keywords.{keyword_of, stage_of}
 use Rattle.script.specs.Words.{allowed}
 use Rattle.script.specs.Parts.{Parts, Timeline}
-use Rattle.script.specs.SetLines.{version_of, cores_after, memory_after, records_after, object_after, task_after}
+use Rattle.script.specs.SetLines.{format_after, cores_after, memory_after, records_after, object_after, task_after}
 use Rattle.script.specs.ScheduleLines.{power_after, steps_after, mix_after}
 
 abbrev pub with_set : Parts → Result TaskSet ScriptCause → Result Parts ScriptCause
@@ -25,9 +25,7 @@ with_timeline p read = do
 
 -- line n, by its first word and the others
 abbrev pub keyword_after : Keyword → ℕ → Parts → List (List ℕ) → Result Parts ScriptCause
-keyword_after Nvk n p words = do
-  version ← version_of words
-  Ok p
+keyword_after Nvk n p words = with_set p (format_after p.set words)
 keyword_after Cores n p words = with_set (record p { cores_line = n }) (cores_after p.set words)
 keyword_after Memory n p words = with_set p (memory_after p.set words)
 keyword_after Records n p words = with_set p (records_after p.set words)

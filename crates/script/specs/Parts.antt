@@ -25,7 +25,7 @@ abbrev pub no_events : Timeline
 no_events = record { items = []; on_times = [] }
 
 abbrev pub no_set : TaskSet
-no_set = record { cores = 0; memory = 0; records = 0; objects = []; programs = []; tasks = [] }
+no_set = record { format = 0; cores = 0; memory = 0; records = 0; objects = []; programs = []; tasks = [] }
 
 -- before the first line
 abbrev pub nothing : Parts

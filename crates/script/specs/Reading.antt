@@ -1,6 +1,7 @@
 -- What bytes are read as: the script, or the first line that is refused and its first cause. This project's own.
 use Rattle.std.specs.Prelude.{ℕ, ◌+◌, nat_lt, List, [], ◌∷◌, length, Option, Some, Result, Ok, Err, if◌then◌else◌}
 use Rattle.std.specs.Str.Lines.{lines}
+use Rattle.nv_base.specs.declared.limits.TheConstants.{MAX_INPUT}
 use Rattle.script.specs.declared.refusals.ScriptCause.{ScriptCause}
 use Rattle.script.specs.declared.refusals.ScriptCause.TheVariants.{Long, End}
 use Rattle.script.specs.declared.refusals.ScriptError.{ScriptError}
@@ -36,5 +37,5 @@ ended (n, p) = do
 
 unfoldable pub read : List ℕ → Result Script ScriptError
 read bytes =
-    if nat_lt 1048576 (length bytes) then at 0 (Err Long)
+    if nat_lt MAX_INPUT (length bytes) then at 0 (Err Long)
     else sections_after 1 nothing (sections (lines bytes)) >>= ended

@@ -1,6 +1,7 @@
 -- The lines of the schedule, by what each makes of the schedule so far. This project's own.
 use Rattle.std.specs.Prelude.{ℕ, ◌+◌, ◌-◌, ◌^◌, ◌==◌, ◌&&◌, nat_le, nat_lt, Bool, not, List, [], ◌∷◌, ◌++◌, length, map, replicate, sum_by, Option, Some, None, Result, Ok, Err, if◌then◌else◌}
 use Rattle.std.specs.List.{list_all, before_first, after_first, flat_map}
+use Rattle.nv_base.specs.declared.limits.TheConstants.{MAX_EVENTS}
 use Rattle.plain_text.specs.Numbers.{is_numeral, value_in}
 use Rattle.schedule_model.specs.Schedules.{StepItem, InOrder, Drawn}
 use Rattle.schedule_model.specs.Limits.{steps_together}
@@ -19,11 +20,11 @@ abbrev pub times_of : List ℕ → List ℕ → Option ℕ
 times_of front word = if length front == length word then Some 1 else value_in 10 10 (after_first is_star word)
 
 abbrev pub are_times : ℕ → Bool
-are_times times = nat_le 1 times && nat_le times 1000000
+are_times times = nat_le 1 times && nat_le times MAX_EVENTS
 
 abbrev pub on_times_within : Option ℕ → Option ℕ → Result OnTimes ScriptCause
 on_times_within (Some time) (Some times) =
-    if nat_le time 1000000 && are_times times then Ok (record { time = time; times = times }) else Err Range
+    if nat_le time MAX_EVENTS && are_times times then Ok (record { time = time; times = times }) else Err Range
 on_times_within _ _ = Err Number
 
 -- `T` or `T*K`
@@ -46,7 +47,7 @@ abbrev pub times_together : List OnTimes → ℕ
 times_together times = sum_by (λ t. t.times) times
 
 abbrev pub are_many : ℕ → Bool
-are_many events = nat_lt 1000000 events
+are_many events = nat_lt MAX_EVENTS events
 
 -- `power ITEM ..`
 unfoldable pub power_after : Timeline → List (List ℕ) → Result Timeline ScriptCause
@@ -70,5 +71,5 @@ unfoldable pub mix_after : Timeline → List (List ℕ) → Result Timeline Scri
 mix_after t words = do
   word ← two words
   seed ← number 0 (2 ^ 32 - 1) word.0
-  count ← number 1 1000000 word.1
+  count ← number 1 MAX_EVENTS word.1
   if are_many (event_count t + count) then Err Many else Ok (record t { items = t.items ++ Drawn seed count ∷ [] })

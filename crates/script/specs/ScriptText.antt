@@ -35,7 +35,7 @@ task_text set t = codes "task " ++ (program_at set t.program).name ++ field (cod
 -- the whole text
 unfoldable pub script_text : TaskSet → List ℕ
 script_text set =
-    codes "nvk 1\n" ++ number_text (codes "cores ") set.cores ++ number_text (codes "memory ") set.memory ++ number_text (codes "records ") set.records ++
+    number_text (codes "nvk ") set.format ++ number_text (codes "cores ") set.cores ++ number_text (codes "memory ") set.memory ++ number_text (codes "records ") set.records ++
     flat_map object_text set.objects ++ flat_map program_text set.programs ++ flat_map (task_text set) set.tasks ++ codes "run\n"
 
 -- a set as a script without a schedule, whose `cores` line is the second

@@ -13,12 +13,13 @@ use crate::refusals::{LineRefusal, ScriptCause, ScriptRefusal};
 use crate::section::Block;
 use crate::set_lines::new_program_name;
 use crate::words::{allowed, number, two};
+use nv_base::limits::{MAX_CODE, MAX_FUEL, MAX_INPUT, MAX_PROGRAMS};
 use plain_text::{Words, is_plain, value_in};
 use std::alloc::Global;
 use task_set::{Name, ProgPart, Words as WordList};
 
 /// The most words that a program has.
-const MOST_WORDS: usize = 1024;
+const MOST_WORDS: usize = MAX_CODE as usize;
 
 /// What the first line of a block says.
 #[derive(Clone, Copy, Debug)]
@@ -107,7 +108,7 @@ fn code_of(
     n: u32,
     body: &[&[u8]],
 ) -> Result<WordList, ScriptRefusal>
-    requires few { length body.now ≤ 1048576 }
+    requires few { length body.now ≤ MAX_INPUT }
     requires numbers { n + length body.now + 1 < 2 ^ 32 }
     ensures { Reads (λ code. code) result (code_words_of kind n (map (λ line. line.now) body.now)) }
 {
@@ -138,13 +139,13 @@ impl Draft {
     #[tactic(auto, unfolding(crate::specs::Blocks::header_of))]
     fn header<'a>(&self, words: Words<'a>) -> Result<Header<'a>, LineRefusal>
         ensures exact { Gives header_of result (words_header self.now (words_left words.entry)) }
-        ensures room { OnOk result (length self.now.set.programs ≢ 16) }
+        ensures room { OnOk result (length self.now.set.programs ≢ MAX_PROGRAMS) }
     {
         let _stage = allowed(self.last, Stage::Program)?;
         let (name_word, fuel_word) = two(words)?;
         let name = new_program_name(self.set.programs.as_slice(), name_word)?;
-        let fuel = number(1, 1_000_000, fuel_word)?;
-        if self.set.programs.as_slice().len() == 16 {
+        let fuel = number(1, MAX_FUEL, fuel_word)?;
+        if self.set.programs.as_slice().len() == usize::from(MAX_PROGRAMS) {
             return Err(LineRefusal::Fault(ScriptCause::Many));
         }
         Ok(Header { name, fuel })
@@ -159,7 +160,7 @@ impl Draft {
         code: WordList,
         end: Option<&[u8]>,
     ) -> Result<(), LineRefusal>
-        requires { length self.old.set.programs ≢ 16 }
+        requires { length self.old.set.programs ≢ MAX_PROGRAMS }
         ensures { Leaves self.new result (program_after self.old (header_of header.entry) code (option_map (λ line. line.now) end.entry)) }
     {
         let _line = end_line(end)?;
@@ -183,7 +184,7 @@ impl Draft {
         n: u32,
         block: Block<'_>,
     ) -> Result<(), ScriptRefusal>
-        requires few { length block.body.items ≤ 1048576 }
+        requires few { length block.body.items ≤ MAX_INPUT }
         requires numbers { n + length block.body.items + 1 < 2 ^ 32 }
         ensures { Takes self.new result (block_after n self.old block.entry.kind (words_left block.entry.words) (map (λ line. line.now) block.entry.body.items) (option_map (λ line. line.now) block.entry.end)) }
     {

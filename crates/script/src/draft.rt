@@ -10,7 +10,9 @@ ghost use Rattle.script.specs.Parts.{no_set, nothing};
 
 use crate::keyword::{Keyword, Stage, keyword_of};
 use crate::refusals::{LineRefusal, ScriptCause};
-use crate::set_lines::{take_cores, take_memory, take_object, take_records, take_task, version};
+use crate::set_lines::{
+    take_cores, take_format, take_memory, take_object, take_records, take_task,
+};
 use crate::timeline::Timeline;
 use crate::words::allowed;
 use plain_text::{Words, is_plain};
@@ -29,19 +31,21 @@ pub(crate) struct Draft {
 
 impl Model for Draft {
     ghost use Rattle.std.specs.Prelude.{◌≤◌, length};
+    ghost use Rattle.nv_base.specs.declared.limits.TheConstants.{MAX_PROGRAMS};
     ghost use Rattle.script.specs.Parts.{Parts};
 
     ghost Value = { Parts };
 
     ghost view = { λ a. record { last = a.last; cores_line = a.cores_line; set = a.set; timeline = a.timeline } };
 
-    ghost invariant = { λ a. length a.set.programs ≤ 16 };
+    ghost invariant = { λ a. length a.set.programs ≤ MAX_PROGRAMS };
 }
 
 fn no_parts(alloc: Global) -> SetParts
     ensures { result ≡ no_set }
 {
     SetParts {
+        format: 0,
         cores: 0,
         memory: 0,
         records: 0,
@@ -94,10 +98,7 @@ impl Draft {
         ensures { Leaves self.new result (keyword_after keyword n self.old (words_left words.entry)) }
     {
         match keyword {
-            Keyword::Nvk => {
-                version(words)?;
-                Ok(())
-            }
+            Keyword::Nvk => take_format(&mut self.set, words),
             Keyword::Cores => {
                 self.cores_line = n;
                 take_cores(&mut self.set, words)

@@ -10,6 +10,7 @@ ghost use Rattle.script.specs.Results.{each};
 ghost use Rattle.script.specs.ScheduleLines.{are_times as are, is_star, on_times as on_times_word, on_times_within as times_within, steps as steps_word, steps_within as within, times_together};
 
 use crate::refusals::{LineRefusal, ScriptCause};
+use nv_base::limits::MAX_EVENTS;
 use plain_text::{Words, is_numeral, value_in};
 use power_trace::{CoreList, StepItem};
 use std::alloc::{AllocError, Global};
@@ -30,7 +31,7 @@ fn star_at(word: &[u8]) -> Option<usize>
 fn are_times(times: u64) -> bool
     ensures { result ≡ are times }
 {
-    1 <= times && times <= 1_000_000
+    1 <= times && times <= u64::from(MAX_EVENTS)
 }
 
 fn on_times_within(time: Option<u64>, times: Option<u64>) -> Result<OnTimes, LineRefusal>
@@ -39,7 +40,7 @@ fn on_times_within(time: Option<u64>, times: Option<u64>) -> Result<OnTimes, Lin
     let (Some(time), Some(times)) = (time, times) else {
         return Err(LineRefusal::Fault(ScriptCause::Number));
     };
-    if !(time <= 1_000_000 && are_times(times)) {
+    if !(time <= u64::from(MAX_EVENTS) && are_times(times)) {
         return Err(LineRefusal::Fault(ScriptCause::Range));
     }
     Ok(OnTimes {

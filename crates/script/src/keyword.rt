@@ -6,7 +6,7 @@ ghost use Rattle.script.specs.Keywords.{block_kind_of as block_kind, keyword_of 
 /// The first word of a line that stands alone.
 #[derive(Clone, Copy, PartialEq, Eq, Debug)]
 pub enum Keyword {
-    /// The version of the format.
+    /// The format of the set.
     Nvk,
     /// How many cores there are.
     Cores,
@@ -40,7 +40,7 @@ pub enum BlockKind {
 /// Where a line stands in the order of a script.
 #[derive(Clone, Copy, PartialEq, Eq, Debug)]
 pub enum Stage {
-    /// The version of the format: once.
+    /// The format of the set: once.
     Nvk,
     /// The cores: once.
     Cores,

@@ -7,6 +7,7 @@ ghost use Rattle.script.specs.Answers.{Reads, Refuses};
 ghost use Rattle.script.specs.Blocks.{earlier, fault_at, is_bad, or_empty, program_code as program_words};
 
 use crate::refusals::{ScriptCause, ScriptError, ScriptRefusal};
+use nv_base::limits::MAX_INPUT;
 use plain_text::is_plain;
 use rv_asm::{AsmError, AsmRefusal, assemble_lines};
 use std::alloc::{AllocError, Global};
@@ -53,7 +54,7 @@ fn fault(n: u32, error: AsmError) -> ScriptRefusal
 /// The code of lines without a byte that is not allowed, in a block whose first line is `n`.
 #[tactic(auto, using(crate::proofs::Faults::fault_small))]
 fn plain_code(alloc: Global, n: u32, lines: &[&[u8]]) -> Result<WordList, ScriptRefusal>
-    requires few { length lines.now ≤ 1048576 }
+    requires few { length lines.now ≤ MAX_INPUT }
     requires numbers { n + length lines.now + 1 < 2 ^ 32 }
     ensures { Reads (λ code. code) result (earlier n None (assembled (map (λ line. line.now) lines.now))) }
 {
@@ -67,7 +68,7 @@ fn plain_code(alloc: Global, n: u32, lines: &[&[u8]]) -> Result<WordList, Script
 /// The refusal of lines of which the one at `place` is the first that has a byte that is not allowed.
 #[tactic(auto, using(crate::proofs::Faults::fault_small))]
 fn bad_code(alloc: Global, n: u32, place: usize, lines: &[&[u8]]) -> ScriptRefusal
-    requires few { length lines.now ≤ 1048576 }
+    requires few { length lines.now ≤ MAX_INPUT }
     requires numbers { n + length lines.now + 1 < 2 ^ 32 }
     requires place { place < length lines.now }
     ensures { Refuses result (earlier n (Some place) (assembled (map (λ line. line.now) lines.now))) }
@@ -85,7 +86,7 @@ fn bad_code(alloc: Global, n: u32, place: usize, lines: &[&[u8]]) -> ScriptRefus
 /// The code of the lines of a `program` block whose first line is `n`.
 #[tactic(auto, using(crate::proofs::BodyLines::all_plain, crate::proofs::BodyLines::or_empty_map))]
 pub(crate) fn program_code(alloc: Global, n: u32, body: &[&[u8]]) -> Result<WordList, ScriptRefusal>
-    requires few { length body.now ≤ 1048576 }
+    requires few { length body.now ≤ MAX_INPUT }
     requires numbers { n + length body.now + 1 < 2 ^ 32 }
     ensures { Reads (λ code. code) result (program_words n (map (λ line. line.now) body.now)) }
 {

@@ -15,6 +15,7 @@ use crate::draft::Draft;
 use crate::keyword::Stage;
 use crate::refusals::{ScriptCause, ScriptError, ScriptRefusal};
 use crate::section::{Section, next_section};
+use nv_base::limits::MAX_INPUT;
 use plain_text::Lines;
 use power_trace::Schedule;
 use rv_asm::words_are_few;
@@ -22,7 +23,7 @@ use std::alloc::Global;
 use task_set::{SetRefusal, TaskSet};
 
 /// The most bytes that a script may have.
-const LONGEST: usize = 1_048_576;
+const LONGEST: usize = MAX_INPUT as usize;
 
 /// What a script says.
 #[derive(Drop)]
@@ -71,7 +72,7 @@ impl Draft {
 /// What all lines give, and the number of the line behind the last one.
 #[tactic(auto, unfolding(crate::specs::Reading::sections_after))]
 fn read_sections(alloc: Global, bytes: &[u8]) -> Result<(Draft, u32), ScriptRefusal>
-    requires { length bytes.now ≤ 1048576 }
+    requires { length bytes.now ≤ MAX_INPUT }
     ensures { Reads (λ r. (r.1, r.0)) result (sections_after 1 nothing (sections (lines bytes.now))) }
 {
     let mut draft = Draft::new(alloc);

@@ -5,15 +5,18 @@ ghost use Rattle.std.specs.Cmp.Lexicographic.{pointwise};
 ghost use Rattle.plain_text.specs.Left.{words_left};
 ghost use Rattle.script.specs.Answers.{Gives, Leaves};
 ghost use Rattle.script.specs.Results.{each};
-ghost use Rattle.script.specs.SetLines.{cores_after, first_values as first_words, memory_after, object_after, records_after, task_after, version_of};
+ghost use Rattle.script.specs.SetLines.{cores_after, format_after, first_values as first_words, memory_after, object_after, records_after, task_after};
 ghost use Rattle.script.specs.Words.{known_name as known, new_name as new, place_of, value as value_word};
 
 use crate::refusals::{LineRefusal, ScriptCause};
 use crate::words::{number, one, three, two, value};
+use nv_base::limits::{
+    MAX_CORES, MAX_FORMAT, MAX_MEMORY, MAX_PROGRAMS, MAX_SIZE, MAX_SLOTS, MIN_MEMORY, MIN_SLOTS,
+};
 use nv_base::{NoMemory, ProgId, Spawn};
 use plain_text::{Words, is_name};
 use std::alloc::Global;
-use task_set::{Name, ObjPart, ProgPart, SetParts, Words as WordList};
+use task_set::{Name, ObjPart, ProgPart, SetParts, Words as WordList, max_objects, max_records};
 
 fn is_same(name: &[u8], other: &[u8]) -> bool
     ensures { result ≡ pointwise nat_eq name.now other.now }
@@ -42,12 +45,15 @@ fn program_place(programs: &[ProgPart], name: &[u8]) -> Option<usize>
         .position(|p| is_same(p.name.as_slice(), name))
 }
 
-/// `nvk 1`.
-#[tactic(auto, unfolding(crate::specs::SetLines::version_of))]
-pub(crate) fn version(words: Words<'_>) -> Result<u32, LineRefusal>
-    ensures { Gives (λ n. n) result (version_of (words_left words.entry)) }
+/// `nvk F`.
+#[tactic(auto, unfolding(crate::specs::SetLines::format_after))]
+pub(crate) fn take_format(set: &mut SetParts, words: Words<'_>) -> Result<(), LineRefusal>
+    ensures exact { Leaves set.new result (format_after set.old (words_left words.entry)) }
+    ensures programs { set.new.programs ≡ set.old.programs }
 {
-    number(1, 1, one(words)?)
+    let format = number(1, u32::from(MAX_FORMAT), one(words)?)?;
+    set.format = format as u8;
+    Ok(())
 }
 
 /// `cores N`.
@@ -56,7 +62,7 @@ pub(crate) fn take_cores(set: &mut SetParts, words: Words<'_>) -> Result<(), Lin
     ensures exact { Leaves set.new result (cores_after set.old (words_left words.entry)) }
     ensures programs { set.new.programs ≡ set.old.programs }
 {
-    let cores = number(1, 8, one(words)?)?;
+    let cores = number(1, u32::from(MAX_CORES), one(words)?)?;
     set.cores = cores as u8;
     Ok(())
 }
@@ -67,7 +73,7 @@ pub(crate) fn take_memory(set: &mut SetParts, words: Words<'_>) -> Result<(), Li
     ensures exact { Leaves set.new result (memory_after set.old (words_left words.entry)) }
     ensures programs { set.new.programs ≡ set.old.programs }
 {
-    let memory = number(1024, 65_536, one(words)?)?;
+    let memory = number(MIN_MEMORY, MAX_MEMORY, one(words)?)?;
     if memory % 4 != 0 {
         return Err(LineRefusal::Fault(ScriptCause::Range));
     }
@@ -81,7 +87,7 @@ pub(crate) fn take_records(set: &mut SetParts, words: Words<'_>) -> Result<(), L
     ensures exact { Leaves set.new result (records_after set.old (words_left words.entry)) }
     ensures programs { set.new.programs ≡ set.old.programs }
 {
-    let records = number(1, 256, one(words)?)?;
+    let records = number(1, u32::from(max_records(set.format)), one(words)?)?;
     set.records = records as u16;
     Ok(())
 }
@@ -175,10 +181,10 @@ pub(crate) fn take_object(
 {
     let (name, size, slots, words) = three(words)?;
     let name = new_object_name(set.objects.as_slice(), name)?;
-    let size = number(1, 64, size)?;
-    let slots = number(2, 8, slots)?;
+    let size = number(1, u32::from(MAX_SIZE), size)?;
+    let slots = number(u32::from(MIN_SLOTS), u32::from(MAX_SLOTS), slots)?;
     let first = first_values(alloc, size, words)?;
-    if set.objects.as_slice().len() == 64 {
+    if set.objects.as_slice().len() == usize::from(max_objects(set.format)) {
         return Err(LineRefusal::Fault(ScriptCause::Many));
     }
     set.objects.push(ObjPart {
@@ -193,7 +199,7 @@ pub(crate) fn take_object(
 /// `task NAME ARG`.
 #[tactic(auto, unfolding(crate::specs::SetLines::task_after))]
 pub(crate) fn take_task(set: &mut SetParts, words: Words<'_>) -> Result<(), LineRefusal>
-    requires { length set.old.programs ≤ 16 }
+    requires { length set.old.programs ≤ MAX_PROGRAMS }
     ensures exact { Leaves set.new result (task_after set.old (words_left words.entry)) }
     ensures programs { set.new.programs ≡ set.old.programs }
 {

@@ -151,7 +151,7 @@ fn push_tasks(out: &mut String, set: &TaskSet) -> Result<(), AllocError>
     Ok(())
 }
 
-/// A set as a script: `nvk 1`, the lines `cores`, `memory` and `records`, one for each object with all its first
+/// A set as a script: the lines `nvk`, `cores`, `memory` and `records`, one for each object with all its first
 /// values, each program with its code as assembler text, one line for each task, and `run`. Words have one space
 /// between them, numbers are decimal, and there are no lines of a schedule. `NoMemory` where no room for the text was
 /// found. By `script_text_is_read_back`, `read_script` of this text answers the set with an empty schedule, or that
@@ -161,7 +161,7 @@ pub fn script_text(alloc: Global, set: &TaskSet) -> Result<String, NoMemory>
     ensures { IfOk result (λ text. string_bytes text ≡ text_of_set set.now) }
 {
     let mut out = String::new(alloc);
-    out.push_str("nvk 1\n")?;
+    push_number(&mut out, "nvk ", u32::from(set.format()))?;
     push_number(&mut out, "cores ", u32::from(set.cores()))?;
     push_number(&mut out, "memory ", set.memory())?;
     push_number(&mut out, "records ", u32::from(set.records()))?;

@@ -28,7 +28,7 @@ const CODE: &[u8] =
 /// A text behind a front, and the line and the cause of its refusal.
 type Row = (Front, &'static [u8], u32, ScriptCause);
 
-static REFUSED: [Row; 79] = [
+static REFUSED: [Row; 80] = [
     (
         Front::Code,
         b"task add 7 # \xc3\xa9\nrun\n",
@@ -82,7 +82,7 @@ static REFUSED: [Row; 79] = [
     (Front::Code, b"task a-d x\n", 11, ScriptCause::Name),
     (Front::Nothing, b"nvk one\n", 1, ScriptCause::Number),
     (Front::Nothing, b"nvk 00000000001\n", 1, ScriptCause::Number),
-    (Front::Nothing, b"nvk 2\n", 1, ScriptCause::Range),
+    (Front::Nothing, b"nvk 3\n", 1, ScriptCause::Range),
     (
         Front::Nothing,
         b"nvk 1\ncores 9999999999\n",
@@ -110,6 +110,12 @@ static REFUSED: [Row; 79] = [
     (
         Front::Nothing,
         b"nvk 1\ncores 8\nmemory 65536\nrecords 257\n",
+        4,
+        ScriptCause::Range,
+    ),
+    (
+        Front::Nothing,
+        b"nvk 2\ncores 8\nmemory 65536\nrecords 1025\n",
         4,
         ScriptCause::Range,
     ),
@@ -431,6 +437,45 @@ fn there_may_be_64_objects_and_16_programs(rt: HostRuntime) -> Result<(), Fail> 
         refusal(alloc, Front::Code, &programs)?,
         at(41, ScriptCause::Many)
     );
+    Ok(())
+}
+
+/// Four lines of format 2, and so many objects.
+fn of_format_2(alloc: Global, objects: u8, back: &[u8]) -> Result<Vec<u8>, Fail> {
+    let mut text = Vec::from_slice(alloc, b"nvk 2\ncores 1\nmemory 1024\nrecords 1024\n")?;
+    let lines = named(alloc, b"object ", back, objects)?;
+    text.extend_from_slice(&lines)?;
+    Ok(text)
+}
+
+#[test]
+fn there_may_be_128_objects_in_format_2(rt: HostRuntime) -> Result<(), Fail> {
+    let alloc = rt.alloc();
+    let most = of_format_2(alloc, 128, b" 1 2\n")?;
+    assert_eq!(rt;
+        refusal(alloc, Front::Nothing, &most)?,
+        at(133, ScriptCause::End)
+    );
+    let more = of_format_2(alloc, 129, b" 1 2\n")?;
+    assert_eq!(rt;
+        refusal(alloc, Front::Nothing, &more)?,
+        at(133, ScriptCause::Many)
+    );
+    Ok(())
+}
+
+#[test]
+fn a_set_of_format_2_is_written_as_it_was_read(rt: HostRuntime) -> Result<(), Fail> {
+    let alloc = rt.alloc();
+    let mut text = of_format_2(alloc, 65, b" 1 2 0\n")?;
+    text.extend_from_slice(b"program p 1\nend\nrun\n")?;
+    let Ok(script) = read_script(alloc, &text) else {
+        return Err("refused")?;
+    };
+    assert_eq!(rt; script.set.format(), 2);
+    assert_eq!(rt; script.set.objects(), 65);
+    let written = script_text(alloc, &script.set)?;
+    assert!(rt; written.as_str().as_bytes() == text.as_slice());
     Ok(())
 }
 

@@ -91,6 +91,7 @@ fn one_task_that_adds(rt: HostRuntime) -> Result<(), Fail> {
     let mut tasks = Tasks::new(rt.alloc());
     task(&mut tasks, 0, 7)?;
     let parts = SetParts {
+        format: 1,
         cores: 1,
         memory: 1024,
         records: 1,
@@ -102,10 +103,10 @@ fn one_task_that_adds(rt: HostRuntime) -> Result<(), Fail> {
     Ok(())
 }
 
-const LIMITS_TEXT: &str = "nvk 1
+const LIMITS_TEXT: &str = "nvk 2
 cores 8
 memory 65536
-records 256
+records 1024
 object x 2 2 0 0
 object sixteen_letters_ 3 8 4294967295 0 10
 program end 1000000
@@ -131,9 +132,10 @@ fn several_objects_and_programs(rt: HostRuntime) -> Result<(), Fail> {
     task(&mut tasks, 1, u32::MAX)?;
     task(&mut tasks, 0, 0)?;
     let parts = SetParts {
+        format: 2,
         cores: 8,
         memory: 65_536,
-        records: 256,
+        records: 1024,
         objects,
         programs,
         tasks,

@@ -12,13 +12,14 @@ use crate::items::{OnTimes, all_on_times, all_steps, on_time_total, step_total};
 use crate::refusals::{LineRefusal, ScriptCause};
 use crate::words::{number, two};
 use nv_base::NoMemory;
+use nv_base::limits::MAX_EVENTS;
 use plain_text::Words;
 use power_trace::{Schedule, StepItem};
 use std::alloc::{AllocError, Global};
 use std::marker::Model;
 
 /// The most events that a script may have: core steps, and on-times.
-const MOST_EVENTS: u64 = 1_000_000;
+const MOST_EVENTS: u64 = MAX_EVENTS as u64;
 
 /// Which core steps and on-times the lines give so far.
 #[derive(Debug, Drop)]
@@ -31,6 +32,7 @@ pub(crate) struct Timeline {
 
 impl Model for Timeline {
     ghost use Rattle.std.specs.Prelude.{map, ◌≡◌, ◌≤◌};
+    ghost use Rattle.nv_base.specs.declared.limits.TheConstants.{MAX_EVENTS};
     ghost use Rattle.power_trace.specs.Items.{item_of};
     ghost use Rattle.script.specs.Parts as parts;
     ghost use Rattle.script.specs.Parts.{event_count};
@@ -39,7 +41,7 @@ impl Model for Timeline {
 
     ghost view = { λ a. record { items = map item_of a.items.items; on_times = a.on_times.items } };
 
-    ghost invariant = { λ a. (a.count ≡ event_count (record { items = map item_of a.items.items; on_times = a.on_times.items })) × (a.count ≤ 1000000) };
+    ghost invariant = { λ a. (a.count ≡ event_count (record { items = map item_of a.items.items; on_times = a.on_times.items })) × (a.count ≤ MAX_EVENTS) };
 }
 
 /// Adds an on-time as often as it comes.
@@ -122,7 +124,7 @@ impl Timeline {
     {
         let (seed_word, count_word) = two(words)?;
         let seed = number(0, u32::MAX, seed_word)?;
-        let count = number(1, 1_000_000, count_word)?;
+        let count = number(1, MAX_EVENTS, count_word)?;
         let total = self.count + count;
         if MOST_EVENTS < u64::from(total) {
             return Err(LineRefusal::Fault(ScriptCause::Many));

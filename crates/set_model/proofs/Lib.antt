@@ -1,2 +1,3 @@
 pub mod AtFacts
 pub mod FormattedFacts
+pub mod LimitFacts

@@ -16,6 +16,7 @@ pub record ProgramPart : Type 0 where
   pub code : List ℕ
 
 pub record TaskSet : Type 0 where
+  pub format : ℕ  -- by which the most objects and records go
   pub cores : ℕ
   pub memory : ℕ  -- private bytes of each attempt
   pub records : ℕ  -- how many tasks may be open

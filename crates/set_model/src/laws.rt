@@ -1,11 +1,19 @@
 //! What holds of each task set within the limits.
 
-ghost use Rattle.std.specs.Prelude.{ℕ, ◌<◌, length};
+ghost use Rattle.std.specs.Prelude.{ℕ, ◌<◌, ◌≤◌, length};
 ghost use Rattle.kernel_model.specs.Fit.{IsBase, IsSizes};
 ghost use Rattle.set_model.specs.Sets.{TaskSet, object_at, program_at};
 ghost use Rattle.set_model.specs.Limits.{IsObject, IsProgram, IsTaskSet};
 ghost use Rattle.set_model.specs.Numbers.{sizes_of};
 ghost use Rattle.set_model.specs.Formatted.{formatted};
+
+use nv_base::limits::{MAX_OBJECTS, MAX_RECORDS};
+
+/// A set within the limits has at most as many objects, and as many task records, as any format allows.
+pub fn any_format_is_below()
+    ensures objects { (set : TaskSet) → IsTaskSet set → length set.objects ≤ MAX_OBJECTS }
+    ensures records { (set : TaskSet) → IsTaskSet set → set.records ≤ MAX_RECORDS }
+{}
 
 /// The numbers of a set within the limits are fit for the kernel's model: each object has room for two versions, and a commit and a boot end by a write.
 pub fn numbers_are_fit()

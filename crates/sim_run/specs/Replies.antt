@@ -3,6 +3,7 @@ use Rattle.std.specs.Prelude.{ℕ, ◌+◌, ◌==◌, ◌&&◌, nat_lt, Bool, Li
 use Rattle.std.specs.List.{flat_map}
 use Rattle.std.specs.Str.Lines.{lines}
 use Rattle.plain_text.specs.Words.{is_plain}
+use Rattle.nv_base.specs.declared.limits.TheConstants.{MAX_INPUT}
 use Rattle.rv_isa.specs.Texts.{hexadecimal}
 use Rattle.rv_asm.specs.Assembly.{assembled}
 use Rattle.rv_asm.specs.declared.cause.AsmError.{AsmError}
@@ -33,15 +34,15 @@ status_of (Refuses status) = status
 
 -- how many bytes a call reads at most
 abbrev pub most_input : ℕ
-most_input = 1048576
+most_input = MAX_INPUT
 
 -- more bytes than that, told of line 0
 abbrev pub too_long : ScriptError
 too_long = record { line = 0; cause = Long }
 
--- one core, and no failure of power among the events
+-- a set of format 1, one core, and no failure of power among the events
 abbrev pub is_built : scripts.Script → Bool
-is_built s = s.set.cores == 1 && failure_count (events_of s.schedule) == 0
+is_built s = s.set.format == 1 && s.set.cores == 1 && failure_count (events_of s.schedule) == 0
 
 -- ---- `run`: the event machine's report
 

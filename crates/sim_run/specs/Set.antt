@@ -5,6 +5,7 @@ use Rattle.set_model.specs.Sets.{TaskSet}
 -- one object `x` of one word, and one task of the program `add`
 abbrev pub set_with : ℕ → List ℕ → ℕ → TaskSet
 set_with value code argument = record {
+  format = 1;
   cores = 1;
   memory = 1024;
   records = 1;

@@ -8,6 +8,7 @@ ghost use Rattle.sim_run.specs.Carried.{Replied};
 ghost use Rattle.sim_run.specs.Replies.{Puts, asm_reply, assembly_reply, bad_line, words_text};
 
 use crate::texts::put_text;
+use nv_base::limits::MAX_INPUT;
 use nv_base::{NoMemory, Sink};
 use plain_text::{Lines, is_plain};
 use rv_asm::{AsmRefusal, assemble_lines};
@@ -25,7 +26,7 @@ fn lines_of(alloc: Global, input: &[u8]) -> Result<Vec<&[u8]>, AllocError>
 
 /// The number of the first line, from 1, with a byte that is not allowed.
 fn first_bad(lines: &[&[u8]]) -> Option<u32>
-    requires { length lines.now ≤ 1048576 }
+    requires { length lines.now ≤ MAX_INPUT }
     ensures { result ≡ bad_line 1 (map (λ line. line.now) lines.now) }
 {
     let mut number = 1;
@@ -63,7 +64,7 @@ fn put_words<K: Sink>(alloc: Global, words: &[u32], out: &mut K) -> Status
 
 /// Puts the words of lines none of which has a bad byte, or answers with the first faulty line.
 fn assemble<K: Sink>(alloc: Global, lines: &[&[u8]], out: &mut K) -> Status
-    requires { length lines.now ≤ 1048576 }
+    requires { length lines.now ≤ MAX_INPUT }
     ensures replied { Replied (assembly_reply (assembled (map (λ line. line.now) lines.now))) (Rose (K.faults out.old) (K.faults out.new)) (K.taken out.old) (K.taken out.new) result }
     ensures never_falls { K.faults out.old ≤ K.faults out.new }
 {
@@ -80,7 +81,7 @@ fn assemble<K: Sink>(alloc: Global, lines: &[&[u8]], out: &mut K) -> Status
 /// Puts the words of a text, each on a line, or answers with the first line that is refused: for a byte that is not
 /// allowed, before each fault of an instruction.
 pub(crate) fn asm<K: Sink>(alloc: Global, input: &[u8], out: &mut K) -> Status
-    requires { length input.now ≤ 1048576 }
+    requires { length input.now ≤ MAX_INPUT }
     ensures replied { Replied (asm_reply (lines input.now)) (Rose (K.faults out.old) (K.faults out.new)) (K.taken out.old) (K.taken out.new) result }
     ensures never_falls { K.faults out.old ≤ K.faults out.new }
 {

@@ -17,6 +17,7 @@ use crate::input::read_input;
 use crate::names::put_name;
 use crate::packing::{dis, pack};
 use crate::run::run;
+use nv_base::limits::MAX_INPUT;
 use nv_base::{Sink, Source};
 use script::Status;
 use std::alloc::Global;
@@ -25,7 +26,7 @@ use std::rc::RcStr;
 /// What a command replies to an input.
 #[tactic(auto, unfolding(crate::specs::Replies::reply))]
 fn answer<K: Sink>(alloc: Global, command: Command, input: &[u8], out: &mut K) -> Status
-    requires { length input.now ≤ 1048576 }
+    requires { length input.now ≤ MAX_INPUT }
     ensures replied { Replied (reply command input.now) (Rose (K.faults out.old) (K.faults out.new)) (K.taken out.old) (K.taken out.new) result }
     ensures headline { command ≡ Command.Run → result ≡ Status.Done → IsPromised input.now }
     ensures never_falls { K.faults out.old ≤ K.faults out.new }

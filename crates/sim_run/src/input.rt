@@ -4,18 +4,19 @@ ghost use Rattle.std.specs.Prelude.{◌≡◌, ◌≤◌, length, IfOk, IfErr};
 ghost use Rattle.nv_base.specs.Streams.{GaveAll, Rose};
 ghost use Rattle.sim_run.specs.Carried.{Unread};
 
+use nv_base::limits::MAX_INPUT;
 use nv_base::{ReadRefusal, Source, read_all};
 use script::{ScriptCause, ScriptError, Status};
 use std::alloc::Global;
 
 /// The most bytes of an input.
-pub(crate) const MOST_INPUT: usize = 1_048_576;
+pub(crate) const MOST_INPUT: usize = MAX_INPUT as usize;
 
 /// All bytes that a source gives. `ReadFault` only where the source failed; `Script`, of line 0, where they are
 /// too many; `NoMemory`.
 pub(crate) fn read_input<S: Source>(alloc: Global, src: &mut S) -> Result<Vec<u8>, Status>
     ensures given { IfOk result (λ v. GaveAll (S.left src.old) (S.left src.new) v.items) }
-    ensures within { IfOk result (λ v. length v.items ≤ 1048576) }
+    ensures within { IfOk result (λ v. length v.items ≤ MAX_INPUT) }
     ensures unread { IfErr result (Unread (S.left src.old) (S.left src.new) (Rose (S.faults src.old) (S.faults src.new))) }
     ensures never_falls { S.faults src.old ≤ S.faults src.new }
 {

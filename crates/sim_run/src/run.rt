@@ -61,7 +61,8 @@ pub(crate) fn run_events<K: Sink>(
     }
 }
 
-/// What a script is answered with: `NotBuilt` before any line where it has more than one core or a failure of power.
+/// What a script is answered with: `NotBuilt` before any line where its set has another
+/// format than 1, or it has more than one core or a failure of power.
 fn run_script<K: Sink>(alloc: Global, script: Script, out: &mut K) -> Status
     requires { script.schedule.cores ≡ script.set.cores }
     ensures replied { Replied (run_reply (Ok (script_of script))) (Rose (K.faults out.old) (K.faults out.new)) (K.taken out.old) (K.taken out.new) result }
@@ -72,7 +73,7 @@ fn run_script<K: Sink>(alloc: Global, script: Script, out: &mut K) -> Status
     report_keeps_headline();
     events_are_within_limits();
     let _events = script.schedule.len();
-    if script.set.cores() != 1 || script.schedule.failures() != 0 {
+    if script.set.format() != 1 || script.set.cores() != 1 || script.schedule.failures() != 0 {
         return Status::NotBuilt;
     }
     run_events(alloc, script.set, &script.schedule, out)

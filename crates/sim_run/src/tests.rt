@@ -279,3 +279,33 @@ fn faults_are_named(rt: HostRuntime) -> Result<(), Fail> {
     assert!(rt; put.as_slice() == b"".as_slice());
     Ok(())
 }
+
+/// A script of format 2 with so many objects, one program and one task.
+fn of_format_2(rt: &HostRuntime, objects: u32) -> Result<String, Fail> {
+    let mut text = format!(in rt.alloc(); "nvk 2\ncores 1\nmemory 1024\nrecords 1024\n")?;
+    for i in 0..objects {
+        let line = format!(in rt.alloc(); "object x{i} 1 2 0\n")?;
+        text.push_str(line.as_str())?;
+    }
+    text.push_str("program p 1\nend\ntask p 0\nrun\n")?;
+    Ok(text)
+}
+
+#[test]
+fn sets_of_format_2_are_packed_and_not_run(rt: HostRuntime) -> Result<(), Fail> {
+    let text = of_format_2(&rt, 65)?;
+    let (status, packed) = ends(&rt, &["pack"], text.as_str().as_bytes(), (&[], &[]))?;
+    assert_eq!(rt; status, Status::Done);
+    assert!(rt; puts(&rt, "dis", packed.as_slice(), text.as_str().as_bytes())?);
+    assert!(rt; refuses(&rt, "run", text.as_str().as_bytes(), b"error notbuilt\n")?);
+    let many = of_format_2(&rt, 129)?;
+    assert!(rt;
+        refuses(
+            &rt,
+            "pack",
+            many.as_str().as_bytes(),
+            b"error script 133 many\n"
+        )?
+    );
+    Ok(())
+}

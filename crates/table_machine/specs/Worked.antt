@@ -20,6 +20,7 @@ object size slots first = record { name = codes "x"; size = size; slots = slots;
 
 abbrev pub set_with : (code programs records : ℕ) → List ObjectPart → TaskSet
 set_with code programs records objects = record {
+  format = 1;
   cores = 1;
   memory = 1024;
   records = records;

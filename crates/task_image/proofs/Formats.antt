@@ -9,6 +9,7 @@ use Rattle.std.proofs.lemmas.List.{append-nil}
 use Rattle.std.proofs.lemmas.Slice.Eq.{slice_eq-Decides}
 use Rattle.byteorder.specs.Endian.{little_bytes}
 use Rattle.kernel_model.specs.Effects.{Spawn}
+use Rattle.nv_base.specs.declared.limits.TheConstants.{MAX_CODE, MAX_FUEL, MAX_NAME, MAX_SIZE, MAX_SLOTS, MIN_SLOTS}
 use Rattle.set_model.specs.Sets.{ObjectPart, ProgramPart}
 use Rattle.task_image.specs.Packed.{packed_object, packed_program, packed_task}
 use Rattle.task_image.specs.Reading.{number, literal, new_name, is_name, is_new}
@@ -54,10 +55,10 @@ in_range low high n e = let t = both _ _ e in (leb-true low n t.0, leb-true n hi
 -- ---- objects
 
 pub record IsObjectAfter (taken : List (List ℕ)) (o : ObjectPart) : Type 0 where
-  pub long : IsNumber 1 (is_in_range 1 16) (length o.name)
+  pub long : IsNumber 1 (is_in_range 1 MAX_NAME) (length o.name)
   pub name : IsNewName taken (length o.name) o.name
-  pub size : IsNumber 1 (is_in_range 1 64) o.size
-  pub slots : IsNumber 1 (is_in_range 2 8) o.slots
+  pub size : IsNumber 1 (is_in_range 1 MAX_SIZE) o.size
+  pub slots : IsNumber 1 (is_in_range MIN_SLOTS MAX_SLOTS) o.slots
   pub first : AreWordsOf o.size o.first
 
 five : (a b c d e : List ℕ) → a ++ (b ++ (c ++ (d ++ (e ++ [])))) ≡ ((((a ++ b) ++ c) ++ d) ++ e)
@@ -67,11 +68,11 @@ pub object_reads : (taken : List (List ℕ)) → Reads (object taken) packed_obj
 unfolding object packed_object
 object_reads taken =
     reworded packed_object (IsObjectAfter taken) 275
-    (then (λ (o : ObjectPart). length o.name) (number_reads 1 (is_in_range 1 16) (omega arith)) (λ n h.
-    then (λ (o : ObjectPart). o.name) (name_reads taken n (in_range 1 16 n h.kept).1) (λ name g.
-    then (λ (o : ObjectPart). o.size) (number_reads 1 (is_in_range 1 64) (omega arith)) (λ size s.
-    then (λ (o : ObjectPart). o.slots) (number_reads 1 (is_in_range 2 8) (omega arith)) (λ slots t.
-    then (λ (o : ObjectPart). o.first) (words_read size 64 (in_range 1 64 size s.kept).1) (λ first w.
+    (then (λ (o : ObjectPart). length o.name) (number_reads 1 (is_in_range 1 MAX_NAME) (omega arith)) (λ n h.
+    then (λ (o : ObjectPart). o.name) (name_reads taken n (in_range 1 MAX_NAME n h.kept).1) (λ name g.
+    then (λ (o : ObjectPart). o.size) (number_reads 1 (is_in_range 1 MAX_SIZE) (omega arith)) (λ size s.
+    then (λ (o : ObjectPart). o.slots) (number_reads 1 (is_in_range MIN_SLOTS MAX_SLOTS) (omega arith)) (λ slots t.
+    then (λ (o : ObjectPart). o.first) (words_read size MAX_SIZE (in_range 1 MAX_SIZE size s.kept).1) (λ first w.
     let made : ObjectPart = record { name = name; size = size; slots = slots; first = first } in nothing_more made)
     (λ first o w q. ap (λ (p : ObjectPart). p.first) q))
     (λ slots o t q. ap (λ (p : ObjectPart). p.slots) q.1))
@@ -86,12 +87,12 @@ object_reads taken =
 -- ---- programs
 
 abbrev pub most_words : ℕ → ℕ
-most_words memory = min 1024 (memory / 4)
+most_words memory = min MAX_CODE (memory / 4)
 
 pub record IsProgramAfter (memory : ℕ) (taken : List (List ℕ)) (p : ProgramPart) : Type 0 where
-  pub long : IsNumber 1 (is_in_range 1 16) (length p.name)
+  pub long : IsNumber 1 (is_in_range 1 MAX_NAME) (length p.name)
   pub name : IsNewName taken (length p.name) p.name
-  pub fuel : IsNumber 4 (is_in_range 1 1000000) p.fuel
+  pub fuel : IsNumber 4 (is_in_range 1 MAX_FUEL) p.fuel
   pub number_of_words : IsNumber 2 (is_in_range 0 (most_words memory)) (length p.code)
   pub code : AreWordsOf (length p.code) p.code
 
@@ -105,11 +106,11 @@ pub program_reads : (memory : ℕ) (taken : List (List ℕ)) → Reads (program 
 unfolding program packed_program
 program_reads memory taken =
     reworded packed_program (IsProgramAfter memory taken) 4119
-    (then (λ (p : ProgramPart). length p.name) (number_reads 1 (is_in_range 1 16) (omega arith)) (λ n h.
-    then (λ (p : ProgramPart). p.name) (name_reads taken n (in_range 1 16 n h.kept).1) (λ name g.
-    then (λ (p : ProgramPart). p.fuel) (number_reads 4 (is_in_range 1 1000000) (omega arith)) (λ fuel s.
+    (then (λ (p : ProgramPart). length p.name) (number_reads 1 (is_in_range 1 MAX_NAME) (omega arith)) (λ n h.
+    then (λ (p : ProgramPart). p.name) (name_reads taken n (in_range 1 MAX_NAME n h.kept).1) (λ name g.
+    then (λ (p : ProgramPart). p.fuel) (number_reads 4 (is_in_range 1 MAX_FUEL) (omega arith)) (λ fuel s.
     then (λ (p : ProgramPart). length p.code) (number_reads 2 (is_in_range 0 (most_words memory)) (omega arith)) (λ k t.
-    then (λ (p : ProgramPart). p.code) (words_read k 1024 (omega (arith, (in_range 0 (most_words memory) k t.kept).1))) (λ code w.
+    then (λ (p : ProgramPart). p.code) (words_read k MAX_CODE (omega (arith, (in_range 0 (most_words memory) k t.kept).1))) (λ code w.
     let made : ProgramPart = record { name = name; fuel = fuel; code = code } in nothing_more made)
     (λ code p w q. ap (λ (r : ProgramPart). r.code) q))
     (λ k p t q. each_length (λ _. IsNumber 4 (λ _. true)) k [] p.code q.0))

@@ -6,9 +6,11 @@ use Rattle.std.proofs.lemmas.Bool.{eqb-true, ltb-true}
 use Rattle.std.proofs.lemmas.Bool.Decides.{nat_tests}
 use Rattle.std.proofs.lemmas.List.{map_push}
 use Rattle.kernel_model.specs.Effects.{Spawn}
-use Rattle.set_model.specs.Limits.{IsWord, IsObject, IsProgram, IsTask, IsTaskSet}
+use Rattle.nv_base.specs.declared.limits.TheConstants.{MAX_CODE, MAX_CORES, MAX_FORMAT, MAX_FUEL, MAX_MEMORY, MAX_NAME, MAX_PROGRAMS, MAX_SIZE, MAX_SLOTS, MIN_MEMORY, MIN_SLOTS}
+use Rattle.set_model.specs.Limits.{IsWord, IsObject, IsProgram, IsTask, IsTaskSet, max_objects, max_records}
 use Rattle.set_model.specs.Names.{IsName, IsNamed}
 use Rattle.set_model.specs.Sets.{ObjectPart, ProgramPart, TaskSet}
+use Rattle.set_model.proofs.LimitFacts.{most_objects, most_records}
 use Rattle.task_image.specs.Unpacked.{is_memory}
 use Rattle.task_image.proofs.Formats.{in_range, each_length, IsNewName, AreWordsOf, IsObjectAfter, IsProgramAfter, IsTaskOf, most_words}
 use Rattle.task_image.proofs.Lists.{Each}
@@ -44,18 +46,18 @@ Objects before = IsObjectAfter (object_names before)
 
 object_is : (taken : List (List ℕ)) (o : ObjectPart) → IsObjectAfter taken o → IsObject o
 object_is taken o q = record {
-  size = in_range 1 64 o.size q.size.kept;
-  slots = in_range 2 8 o.slots q.slots.kept;
+  size = in_range 1 MAX_SIZE o.size q.size.kept;
+  slots = in_range MIN_SLOTS MAX_SLOTS o.slots q.slots.kept;
   first = each_length (λ _. IsNumber 4 (λ _. true)) o.size [] o.first q.first;
   words = words_are o.size [] o.first q.first;
 }
 
 object_told : (taken : List (List ℕ)) (o : ObjectPart) → IsObject o → IsName o.name → (new : IsNewName taken (length o.name) o.name) → IsObjectAfter taken o
 object_told taken o h n new = record {
-  long = number 1 1 16 (length o.name) n.size.0 n.size.1 (omega (arith, n.size.1));
+  long = number 1 1 MAX_NAME (length o.name) n.size.0 n.size.1 (omega (arith, n.size.1));
   name = new;
-  size = number 1 1 64 o.size h.size.0 h.size.1 (omega (arith, h.size.1));
-  slots = number 1 2 8 o.slots h.slots.0 h.slots.1 (omega (arith, h.slots.1));
+  size = number 1 1 MAX_SIZE o.size h.size.0 h.size.1 (omega (arith, h.size.1));
+  slots = number 1 MIN_SLOTS MAX_SLOTS o.slots h.slots.0 h.slots.1 (omega (arith, h.slots.1));
   first = subst (λ (k : ℕ). AreWordsOf k o.first) h.first (words_told [] o.first h.words);
 }
 
@@ -66,7 +68,7 @@ objects_are (suc n) before [] q = (tt, tt, tt)
 objects_are (suc n) before (x ∷ xs) q =
     let t = objects_are n (before ++ x ∷ []) xs q.1 in
     let new = subst (λ (taken : List (List ℕ)). AreNew taken (object_names xs)) (map_push (λ o. o.name) before x) t.2 in
-    ((object_is _ x q.0, t.0), (is_name_means x.name (in_range 1 16 (length x.name) q.0.long.kept) q.0.name.form, t.1), (q.0.name.fresh, new))
+    ((object_is _ x q.0, t.0), (is_name_means x.name (in_range 1 MAX_NAME (length x.name) q.0.long.kept) q.0.name.form, t.1), (q.0.name.fresh, new))
 
 objects_told : (before xs : List ObjectPart) → AllByRecursion IsObject xs → AllByRecursion IsName (object_names xs) → AreNew (object_names before) (object_names xs) → Each Objects (length xs) before xs
 objects_told before [] h n f = tt
@@ -82,22 +84,22 @@ program_names = map (λ p. p.name)
 abbrev Programs : ℕ → List ProgramPart → ProgramPart → Type 0
 Programs memory before = IsProgramAfter memory (program_names before)
 
-few_words : (memory n : ℕ) → n ≤ min 1024 (memory / 4) → (n ≤ 1024) × (4 * n ≤ memory)
+few_words : (memory n : ℕ) → n ≤ min MAX_CODE (memory / 4) → (n ≤ MAX_CODE) × (4 * n ≤ memory)
 few_words memory n h = (omega arith, omega arith)
 
-most_told : (memory n : ℕ) → n ≤ 1024 → 4 * n ≤ memory → n ≤ min 1024 (memory / 4)
+most_told : (memory n : ℕ) → n ≤ MAX_CODE → 4 * n ≤ memory → n ≤ min MAX_CODE (memory / 4)
 most_told memory n h k = omega arith
 
 program_is : (memory : ℕ) (taken : List (List ℕ)) (p : ProgramPart) → IsProgramAfter memory taken p → IsProgram memory p
 program_is memory taken p q =
     let few = few_words memory (length p.code) (in_range 0 (most_words memory) (length p.code) q.number_of_words.kept).1 in
-    record { fuel = in_range 1 1000000 p.fuel q.fuel.kept; code = few.0; fits = few.1; words = words_are (length p.code) [] p.code q.code }
+    record { fuel = in_range 1 MAX_FUEL p.fuel q.fuel.kept; code = few.0; fits = few.1; words = words_are (length p.code) [] p.code q.code }
 
 program_told : (memory : ℕ) (taken : List (List ℕ)) (p : ProgramPart) → IsProgram memory p → IsName p.name → IsNewName taken (length p.name) p.name → IsProgramAfter memory taken p
 program_told memory taken p h n new = record {
-  long = number 1 1 16 (length p.name) n.size.0 n.size.1 (omega (arith, n.size.1));
+  long = number 1 1 MAX_NAME (length p.name) n.size.0 n.size.1 (omega (arith, n.size.1));
   name = new;
-  fuel = number 4 1 1000000 p.fuel h.fuel.0 h.fuel.1 (omega (arith, h.fuel.1));
+  fuel = number 4 1 MAX_FUEL p.fuel h.fuel.0 h.fuel.1 (omega (arith, h.fuel.1));
   number_of_words = number 2 0 (most_words memory) (length p.code) (omega arith) (most_told memory (length p.code) h.code h.fits) (omega (arith, h.code));
   code = words_told [] p.code h.words;
 }
@@ -109,7 +111,7 @@ programs_are memory (suc n) before [] q = (tt, tt, tt)
 programs_are memory (suc n) before (x ∷ xs) q =
     let t = programs_are memory n (before ++ x ∷ []) xs q.1 in
     let new = subst (λ (taken : List (List ℕ)). AreNew taken (program_names xs)) (map_push (λ p. p.name) before x) t.2 in
-    ((program_is memory _ x q.0, t.0), (is_name_means x.name (in_range 1 16 (length x.name) q.0.long.kept) q.0.name.form, t.1), (q.0.name.fresh, new))
+    ((program_is memory _ x q.0, t.0), (is_name_means x.name (in_range 1 MAX_NAME (length x.name) q.0.long.kept) q.0.name.form, t.1), (q.0.name.fresh, new))
 
 programs_told : (memory : ℕ) (before xs : List ProgramPart) → AllByRecursion (IsProgram memory) xs → AllByRecursion IsName (program_names xs) → AreNew (program_names before) (program_names xs) → Each (Programs memory) (length xs) before xs
 programs_told memory before [] h n f = tt
@@ -128,7 +130,7 @@ tasks_are programs (suc n) before (x ∷ xs) q = (record { program = ltb-true x.
 below_told : (a b : ℕ) → a < b → nat_lt a b ≡ true
 below_told a b h = grind (arith, nat_tests)
 
-tasks_told : (programs : ℕ) → programs ≤ 16 → (before xs : List Spawn) → AllByRecursion (IsTask programs) xs → Each (λ _. IsTaskOf programs) (length xs) before xs
+tasks_told : (programs : ℕ) → programs ≤ MAX_PROGRAMS → (before xs : List Spawn) → AllByRecursion (IsTask programs) xs → Each (λ _. IsTaskOf programs) (length xs) before xs
 tasks_told programs few before [] h = tt
 tasks_told programs few before (x ∷ xs) h =
     (record { program = record { kept = below_told x.program programs h.0.program; small = omega (arith, h.0.program) }; arg = record { kept = refl; small = h.0.arg } }, tasks_told programs few (before ++ x ∷ []) xs h.1)
@@ -137,16 +139,17 @@ tasks_told programs few before (x ∷ xs) h =
 
 pub read_is_set : (s : TaskSet) → IsRead s → IsTaskSet s
 read_is_set s q =
-    let memory = both (is_in_range 1024 65536 s.memory) (eqb (s.memory % 4) 0) q.header.memory.kept in
-    let records = in_range (max 1 (length s.tasks)) 256 s.records q.header.records.kept in
+    let memory = both (is_in_range MIN_MEMORY MAX_MEMORY s.memory) (eqb (s.memory % 4) 0) q.header.memory.kept in
+    let records = in_range (max 1 (length s.tasks)) (max_records s.format) s.records q.header.records.kept in
     record {
-      cores = in_range 1 8 s.cores q.header.cores.kept;
-      memory = in_range 1024 65536 s.memory memory.0;
+      format = in_range 1 MAX_FORMAT s.format q.header.format.kept;
+      cores = in_range 1 MAX_CORES s.cores q.header.cores.kept;
+      memory = in_range MIN_MEMORY MAX_MEMORY s.memory memory.0;
       aligned = eqb-true (s.memory % 4) 0 memory.1;
       records = (omega (arith, records.0), records.1);
-      objects = in_range 1 64 (length s.objects) q.header.objects.kept;
+      objects = in_range 1 (max_objects s.format) (length s.objects) q.header.objects.kept;
       each_object = (objects_are (length s.objects) [] s.objects q.objects).0;
-      programs = in_range 1 16 (length s.programs) q.header.programs.kept;
+      programs = in_range 1 MAX_PROGRAMS (length s.programs) q.header.programs.kept;
       each_program = (programs_are s.memory (length s.programs) [] s.programs q.programs).0;
       tasks = omega (arith, records.0);
       each_task = tasks_are (length s.programs) (length s.tasks) [] s.tasks q.tasks;
@@ -161,18 +164,19 @@ read_is_named s q =
       programs = record { each = p.1; once = new_are_distinct [] (program_names s.programs) p.2 };
     }
 
-memory_told : (n : ℕ) → 1024 ≤ n → n ≤ 65536 → n % 4 ≡ 0 → is_memory n ≡ true
+memory_told : (n : ℕ) → MIN_MEMORY ≤ n → n ≤ MAX_MEMORY → n % 4 ≡ 0 → is_memory n ≡ true
 memory_told n l h e = grind (arith, nat_tests)
 
 pub set_is_read : (s : TaskSet) → IsTaskSet s → IsNamed s → IsRead s
 set_is_read s h n = record {
   header = record {
-    cores = number 1 1 8 s.cores h.cores.0 h.cores.1 (omega (arith, h.cores.1));
-    objects = number 1 1 64 (length s.objects) h.objects.0 h.objects.1 (omega (arith, h.objects.1));
-    programs = number 1 1 16 (length s.programs) h.programs.0 h.programs.1 (omega (arith, h.programs.1));
-    tasks = number 2 0 256 (length s.tasks) (omega arith) (omega (arith, h.tasks, h.records.1)) (omega (arith, h.tasks, h.records.1));
+    format = number 2 1 MAX_FORMAT s.format h.format.0 h.format.1 (omega (arith, h.format.1));
+    cores = number 1 1 MAX_CORES s.cores h.cores.0 h.cores.1 (omega (arith, h.cores.1));
+    objects = number 1 1 (max_objects s.format) (length s.objects) h.objects.0 h.objects.1 (omega (arith, h.objects.1, most_objects s.format));
+    programs = number 1 1 MAX_PROGRAMS (length s.programs) h.programs.0 h.programs.1 (omega (arith, h.programs.1));
+    tasks = number 2 0 (max_records s.format) (length s.tasks) (omega arith) (omega (arith, h.tasks, h.records.1)) (omega (arith, h.tasks, h.records.1, most_records s.format));
     memory = record { kept = memory_told s.memory h.memory.0 h.memory.1 h.aligned; small = omega (arith, h.memory.1) };
-    records = number 2 (max 1 (length s.tasks)) 256 s.records (omega (arith, h.tasks, h.records.0)) h.records.1 (omega (arith, h.records.1));
+    records = number 2 (max 1 (length s.tasks)) (max_records s.format) s.records (omega (arith, h.tasks, h.records.0)) h.records.1 (omega (arith, h.records.1, most_records s.format));
   };
   objects = objects_told [] s.objects h.each_object n.objects.each (distinct_are_new (object_names s.objects) n.objects.once);
   programs = programs_told s.memory [] s.programs h.each_program n.programs.each (distinct_are_new (program_names s.programs) n.programs.once);

@@ -4,7 +4,9 @@ use Rattle.std.specs.List.{AllByRecursion}
 use Rattle.std.proofs.lemmas.List.{length-map}
 use Rattle.byteorder.specs.Endian.{little_bytes}
 use Rattle.kernel_model.specs.Effects.{Spawn}
+use Rattle.nv_base.specs.declared.limits.TheConstants.{MAX_RECORDS}
 use Rattle.nv_base.specs.declared.lines.Spawn as base
+use Rattle.set_model.proofs.LimitFacts.{few_records}
 use Rattle.set_model.specs.Limits.{IsTaskSet}
 use Rattle.set_model.specs.Names.{IsName, IsNamed}
 use Rattle.set_model.specs.Sets.{ObjectPart, ProgramPart, TaskSet, object_at, program_at}
@@ -29,5 +31,5 @@ object_name_is_short set o h l = object_name set.objects _ o h.objects.each l
 pub program_name_is_short : (set : TaskSet) (p : ℕ) → IsNamed set → p < length set.programs → length (program_at set p).name ≤ 16
 program_name_is_short set p h l = program_name set.programs _ p h.programs.each l
 
-pub tasks_are_few : (set : TaskSet) (tasks : List base.Spawn) → IsTaskSet set → map spawn_of tasks ≡ set.tasks → (length tasks ≡ length set.tasks) × (length set.tasks ≤ 256)
-tasks_are_few set tasks h e = (sym (length-map tasks spawn_of) ∙ ap (λ (ts : List Spawn). length ts) e, omega (arith, h.tasks, h.records.1))
+pub tasks_are_few : (set : TaskSet) (tasks : List base.Spawn) → IsTaskSet set → map spawn_of tasks ≡ set.tasks → (length tasks ≡ length set.tasks) × (length set.tasks ≤ MAX_RECORDS)
+tasks_are_few set tasks h e = (sym (length-map tasks spawn_of) ∙ ap (λ (ts : List Spawn). length ts) e, omega (arith, h.tasks, few_records set h))

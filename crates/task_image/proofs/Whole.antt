@@ -86,7 +86,7 @@ read_is_packed bytes set h e =
     let spelled : bytes ≡ packed w.value = t.0.left ∙ ap (λ (rest : List ℕ). packed w.value ++ rest) b.0 ∙ append-nil (packed w.value) in
     subst (λ (s : TaskSet). (bytes ≡ packed s) × IsTaskSet s × IsNamed s) b.1 (spelled, read_is_set w.value t.1, read_is_named w.value t.1)
 
-pub place_is_near : (bytes : List ℕ) (place : ℕ) → AreBytes bytes → unpacked bytes ≡ Err place → (place ≤ length bytes) × (place ≤ 84804)
+pub place_is_near : (bytes : List ℕ) (place : ℕ) → AreBytes bytes → unpacked bytes ≡ Err place → (place ≤ length bytes) × (place ≤ 106244)
 unfolding unpacked whole
 place_is_near bytes place h e =
     elim (stopped (task_set (start bytes)) behind place (refused_by (and_then (task_set (start bytes)) behind) place e)) [

@@ -29,11 +29,11 @@ packed_task t =
     little_bytes 1 t.program
     ++ little_bytes 4 t.arg
 
--- magic and version; cores, objects, programs and a zero; tasks; memory; records and a zero
+-- magic and format; cores, objects, programs and a zero; tasks; memory; records and a zero
 unfoldable pub packed_header : TaskSet → List ℕ
 packed_header set =
     codes "NVKS"
-    ++ little_bytes 2 1
+    ++ little_bytes 2 set.format
     ++ little_bytes 1 set.cores
     ++ little_bytes 1 (length set.objects)
     ++ little_bytes 1 (length set.programs)

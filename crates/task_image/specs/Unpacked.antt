@@ -3,6 +3,8 @@ use Rattle.std.specs.Prelude.{ℕ, ◌/◌, ◌%◌, ◌==◌, ◌&&◌, Bool, t
 use Rattle.std.specs.Int.{is_in_range}
 use Rattle.byteorder.specs.Endian.{little_bytes}
 use Rattle.kernel_model.specs.Effects.{Spawn}
+use Rattle.nv_base.specs.declared.limits.TheConstants.{MAX_CODE, MAX_CORES, MAX_FORMAT, MAX_FUEL, MAX_MEMORY, MAX_NAME, MAX_PROGRAMS, MAX_SIZE, MAX_SLOTS, MIN_MEMORY, MIN_SLOTS}
+use Rattle.set_model.specs.Limits.{max_objects, max_records}
 use Rattle.set_model.specs.Sets.{ObjectPart, ProgramPart, TaskSet}
 use Rattle.task_image.specs.Reading.{Here, Reader, ◌>>=◌, done, number, literal, new_name, several, end}
 
@@ -13,20 +15,20 @@ words n = several n (λ _. number 4 (λ _. true)) []
 -- with a name that no object before it has
 unfoldable pub object : List (List ℕ) → Reader ObjectPart
 object taken = do
-  length_of_name ← number 1 (is_in_range 1 16)
+  length_of_name ← number 1 (is_in_range 1 MAX_NAME)
   name ← new_name taken length_of_name
-  size ← number 1 (is_in_range 1 64)
-  slots ← number 1 (is_in_range 2 8)
+  size ← number 1 (is_in_range 1 MAX_SIZE)
+  slots ← number 1 (is_in_range MIN_SLOTS MAX_SLOTS)
   first ← words size
   done (record { name = name; size = size; slots = slots; first = first })
 
 -- that fits so much private memory, with a name that no program before it has
 unfoldable pub program : ℕ → List (List ℕ) → Reader ProgramPart
 program memory taken = do
-  length_of_name ← number 1 (is_in_range 1 16)
+  length_of_name ← number 1 (is_in_range 1 MAX_NAME)
   name ← new_name taken length_of_name
-  fuel ← number 4 (is_in_range 1 1000000)
-  number_of_words ← number 2 (is_in_range 0 (min 1024 (memory / 4)))
+  fuel ← number 4 (is_in_range 1 MAX_FUEL)
+  number_of_words ← number 2 (is_in_range 0 (min MAX_CODE (memory / 4)))
   code ← words number_of_words
   done (record { name = name; fuel = fuel; code = code })
 
@@ -38,10 +40,11 @@ task programs = do
   done (record { program = program; arg = arg })
 
 abbrev pub is_memory : ℕ → Bool
-is_memory n = is_in_range 1024 65536 n && n % 4 == 0
+is_memory n = is_in_range MIN_MEMORY MAX_MEMORY n && n % 4 == 0
 
 -- the numbers before the first object
 pub record Header : Type 0 where
+  pub format : ℕ
   pub cores : ℕ
   pub objects : ℕ
   pub programs : ℕ
@@ -52,16 +55,16 @@ pub record Header : Type 0 where
 unfoldable pub header : Reader Header
 header = do
   magic ← literal (codes "NVKS")
-  version ← literal (little_bytes 2 1)
-  cores ← number 1 (is_in_range 1 8)
-  objects ← number 1 (is_in_range 1 64)
-  programs ← number 1 (is_in_range 1 16)
+  format ← number 2 (is_in_range 1 MAX_FORMAT)
+  cores ← number 1 (is_in_range 1 MAX_CORES)
+  objects ← number 1 (is_in_range 1 (max_objects format))
+  programs ← number 1 (is_in_range 1 MAX_PROGRAMS)
   zero ← literal (little_bytes 1 0)
-  tasks ← number 2 (is_in_range 0 256)
+  tasks ← number 2 (is_in_range 0 (max_records format))
   memory ← number 4 is_memory
-  records ← number 2 (is_in_range (max 1 tasks) 256)
+  records ← number 2 (is_in_range (max 1 tasks) (max_records format))
   zeros ← literal (little_bytes 2 0)
-  done (record { cores = cores; objects = objects; programs = programs; tasks = tasks; memory = memory; records = records })
+  done (record { format = format; cores = cores; objects = objects; programs = programs; tasks = tasks; memory = memory; records = records })
 
 unfoldable pub task_set : Reader TaskSet
 task_set = do
@@ -69,7 +72,7 @@ task_set = do
   objects ← several h.objects (λ before. object (map (λ o. o.name) before)) []
   programs ← several h.programs (λ before. program h.memory (map (λ p. p.name) before)) []
   tasks ← several h.tasks (λ _. task h.programs) []
-  done (record { cores = h.cores; memory = h.memory; records = h.records; objects = objects; programs = programs; tasks = tasks })
+  done (record { format = h.format; cores = h.cores; memory = h.memory; records = h.records; objects = objects; programs = programs; tasks = tasks })
 
 -- a set, and nothing after it
 unfoldable pub whole : Reader TaskSet

@@ -10,6 +10,7 @@ use crate::names::take_name;
 use crate::refusal::Stop;
 use byteorder::{ByteOrder, LittleEndian};
 use indexmap::IndexSet;
+use nv_base::limits::{MAX_FORMAT, MAX_MEMORY, MIN_MEMORY};
 use std::marker::Model;
 
 /// A place in bytes, and the bytes from there on.
@@ -87,6 +88,20 @@ impl<'a> Cursor<'a> {
         Ok(number)
     }
 
+    /// A number of two bytes that is a format: 1 or 2.
+    #[tactic(auto, unfolding(crate::specs::Reading::field))]
+    pub(crate) fn format(&mut self) -> Result<u8, Stop>
+        ensures { Gives (λ n. n) result self.new (number 2 (is_in_range 1 MAX_FORMAT) self.old) }
+    {
+        let bytes = self.ahead(2)?;
+        let number = LittleEndian::read_u16(bytes);
+        if number < 1 || u16::from(MAX_FORMAT) < number {
+            return Err(Stop::Refused(self.place));
+        }
+        self.pass(2);
+        Ok(number as u8)
+    }
+
     /// A number of four bytes from low to high.
     #[tactic(auto, unfolding(crate::specs::Reading::field))]
     pub(crate) fn word(&mut self, low: u32, high: u32) -> Result<u32, Stop>
@@ -116,7 +131,7 @@ impl<'a> Cursor<'a> {
         ensures { Gives (λ n. n) result self.new (number 4 is_memory self.old) }
     {
         let number = LittleEndian::read_u32(self.ahead(4)?);
-        if number < 1024 || 65_536 < number || number % 4 != 0 {
+        if number < MIN_MEMORY || MAX_MEMORY < number || number % 4 != 0 {
             return Err(Stop::Refused(self.place));
         }
         self.pass(4);

@@ -7,10 +7,14 @@ ghost use Rattle.task_image.specs.HeaderView.{header_of};
 
 use crate::cursor::Cursor;
 use crate::refusal::Stop;
+use nv_base::limits::{MAX_CORES, MAX_PROGRAMS};
+use task_set::{max_objects, max_records};
 
 /// The numbers before the first object.
 #[derive(Clone, Copy)]
 pub struct Header {
+    /// By which the most objects and task records go.
+    pub format: u8,
     /// How many cores there are.
     pub cores: u8,
     /// How many objects follow.
@@ -31,16 +35,17 @@ pub(crate) fn read_header(cursor: &mut Cursor<'_>) -> Result<Header, Stop>
     ensures { Gives header_of result cursor.new (header cursor.old) }
 {
     cursor.literal(b"NVKS")?;
-    cursor.literal(&[1, 0])?;
-    let cores = cursor.byte(1, 8)?;
-    let objects = cursor.byte(1, 64)?;
-    let programs = cursor.byte(1, 16)?;
+    let format = cursor.format()?;
+    let cores = cursor.byte(1, MAX_CORES)?;
+    let objects = cursor.byte(1, max_objects(format))?;
+    let programs = cursor.byte(1, MAX_PROGRAMS)?;
     cursor.literal(&[0])?;
-    let tasks = cursor.half(0, 256)?;
+    let tasks = cursor.half(0, max_records(format))?;
     let memory = cursor.memory()?;
-    let records = cursor.half(tasks.max(1), 256)?;
+    let records = cursor.half(tasks.max(1), max_records(format))?;
     cursor.literal(&[0, 0])?;
     Ok(Header {
+        format,
         cores,
         objects,
         programs,

@@ -25,7 +25,7 @@ pub fn none_begins_another()
 
 /// A refused place is in the bytes or at their end, and at most where the longest packed set ends.
 pub fn place_is_near()
-    ensures { (bytes : List ℕ) (place : ℕ) → AreBytes bytes → unpacked bytes ≡ Err place → (place ≤ length bytes) × (place ≤ 84804) }
+    ensures { (bytes : List ℕ) (place : ℕ) → AreBytes bytes → unpacked bytes ≡ Err place → (place ≤ length bytes) × (place ≤ 106244) }
 {}
 
 /// A refusal rests on the bytes up to the end of its field, of which the longest has 16: bytes that agree so far are refused at the same place.

@@ -9,6 +9,7 @@ ghost use Rattle.task_image.specs.Unpacked.{words, object, program, task};
 use crate::cursor::Cursor;
 use crate::refusal::Stop;
 use indexmap::IndexSet;
+use nv_base::limits::{MAX_CODE, MAX_FUEL, MAX_NAME, MAX_SIZE, MAX_SLOTS, MIN_SLOTS};
 use nv_base::{ProgId, Spawn};
 use std::alloc::Global;
 use task_set::{Name, ObjPart, ObjectParts, ProgPart, ProgramParts, Tasks, Words};
@@ -32,10 +33,10 @@ fn object<'a>(
     ensures reading { Gives (λ o. o) result cursor.new (object (map (λ k. k.now) taken.old.keys) cursor.old) }
     ensures taken { IfOk result (λ o. map (λ k. k.now) taken.new.keys ≡ map (λ k. k.now) taken.old.keys ++ o.name ∷ []) }
 {
-    let length_of_name = cursor.byte(1, 16)?;
+    let length_of_name = cursor.byte(1, MAX_NAME)?;
     let name = cursor.new_name(taken, length_of_name)?;
-    let size = cursor.byte(1, 64)?;
-    let slots = cursor.byte(2, 8)?;
+    let size = cursor.byte(1, MAX_SIZE)?;
+    let slots = cursor.byte(MIN_SLOTS, MAX_SLOTS)?;
     let first = words(alloc, cursor, u16::from(size))?;
     Ok(ObjPart {
         name: Name::from_slice(alloc, name)?,
@@ -55,10 +56,10 @@ fn program<'a>(
     ensures reading { Gives (λ p. p) result cursor.new (program memory (map (λ k. k.now) taken.old.keys) cursor.old) }
     ensures taken { IfOk result (λ p. map (λ k. k.now) taken.new.keys ≡ map (λ k. k.now) taken.old.keys ++ p.name ∷ []) }
 {
-    let length_of_name = cursor.byte(1, 16)?;
+    let length_of_name = cursor.byte(1, MAX_NAME)?;
     let name = cursor.new_name(taken, length_of_name)?;
-    let fuel = cursor.word(1, 1_000_000)?;
-    let number_of_words = cursor.half(0, (memory / 4).min(1024) as u16)?;
+    let fuel = cursor.word(1, MAX_FUEL)?;
+    let number_of_words = cursor.half(0, (memory / 4).min(u32::from(MAX_CODE)) as u16)?;
     let code = words(alloc, cursor, number_of_words)?;
     Ok(ProgPart {
         name: Name::from_slice(alloc, name)?,

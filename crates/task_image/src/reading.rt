@@ -24,6 +24,7 @@ fn set_parts(alloc: Global, cursor: &mut Cursor<'_>) -> Result<SetParts, Stop>
     let programs = programs(alloc, cursor, header.memory, header.programs)?;
     let tasks = tasks(alloc, cursor, header.programs, header.tasks)?;
     Ok(SetParts {
+        format: header.format,
         cores: header.cores,
         memory: header.memory,
         records: header.records,

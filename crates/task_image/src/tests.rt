@@ -61,6 +61,7 @@ fn parts(rt: &HostRuntime) -> Result<SetParts, NoMemory> {
         arg: 7,
     })?;
     Ok(SetParts {
+        format: 1,
         cores: 1,
         memory: 1024,
         records: 1,
@@ -95,6 +96,7 @@ fn the_bytes_are_read_as_the_set(rt: HostRuntime) -> Result<(), Fail> {
         assert!(rt; false);
         return Ok(());
     };
+    assert_eq!(rt; set.format(), 1);
     assert_eq!(rt; set.cores(), 1);
     assert_eq!(rt; set.memory(), 1024);
     assert_eq!(rt; set.records(), 1);
@@ -136,9 +138,10 @@ fn one_more_byte_is_refused_at_its_place(rt: HostRuntime) -> Result<(), Fail> {
 }
 
 // a place, the byte that is put there, and the place of the field that breaks its rule by it
-const BROKEN: [(usize, u8, u32); 31] = [
+const BROKEN: [(usize, u8, u32); 32] = [
     (0, 0x4f, 0), // another magic
-    (4, 2, 4), // version 2
+    (4, 0, 4), // version 0
+    (4, 3, 4), // version 3
     (5, 1, 4), // version 257
     (6, 0, 6), // no cores
     (6, 9, 6), // 9 cores
@@ -185,6 +188,45 @@ fn a_broken_rule_is_refused_at_its_field(rt: HostRuntime) -> Result<(), Fail> {
     bytes[36] = 1;
     bytes[37] = 4;
     assert_eq!(rt; refused_at(&rt, &bytes), Some(36));
+    Ok(())
+}
+
+// the bytes as a set of format 2 with so many records
+fn of_format_2(records: u16) -> [u8; 91] {
+    let mut bytes = PACKED;
+    bytes[4] = 2;
+    bytes[16] = (records % 256) as u8;
+    bytes[17] = (records / 256) as u8;
+    bytes
+}
+
+#[test]
+fn format_2_has_up_to_1024_records(rt: HostRuntime) -> Result<(), Fail> {
+    let Ok(set) = read_set(rt.alloc(), &of_format_2(1024)) else {
+        assert!(rt; false);
+        return Ok(());
+    };
+    assert_eq!(rt; set.format(), 2);
+    assert_eq!(rt; set.records(), 1024);
+    let bytes = write_set(rt.alloc(), &set)?;
+    assert!(rt; bytes.as_slice() == of_format_2(1024).as_slice());
+    assert_eq!(rt; refused_at(&rt, &of_format_2(1025)), Some(16));
+    // 1,025 tasks are too many by themselves
+    let mut tasks = of_format_2(1024);
+    tasks[10] = 1;
+    tasks[11] = 4;
+    assert_eq!(rt; refused_at(&rt, &tasks), Some(10));
+    Ok(())
+}
+
+#[test]
+fn format_2_has_up_to_128_objects(rt: HostRuntime) -> Result<(), Fail> {
+    let mut bytes = of_format_2(1);
+    // as an object, what follows the first has the name add and 100 words
+    bytes[7] = 128;
+    assert_eq!(rt; refused_at(&rt, &bytes), Some(32));
+    bytes[7] = 129;
+    assert_eq!(rt; refused_at(&rt, &bytes), Some(7));
     Ok(())
 }
 

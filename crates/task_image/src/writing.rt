@@ -126,7 +126,7 @@ fn header_of(alloc: Global, set: &TaskSet) -> Result<Vec<u8>, NoMemory>
 {
     let mut out = Vec::new(alloc);
     out.extend_from_slice(b"NVKS")?;
-    put_half(&mut out, 1)?;
+    put_half(&mut out, u16::from(set.format()))?;
     put_byte(&mut out, set.cores())?;
     put_byte(&mut out, set.objects())?;
     put_byte(&mut out, set.programs())?;

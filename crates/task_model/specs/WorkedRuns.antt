@@ -62,6 +62,7 @@ breaks = 1048691 ∷ []
 -- an object of one word and one of two, and two programs of the same code
 abbrev pub set_of : List ℕ → TaskSet
 set_of code = record {
+  format = 1;
   cores = 1;
   memory = 1024;
   records = 1;

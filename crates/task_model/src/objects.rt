@@ -7,6 +7,7 @@ ghost use Rattle.set_model.specs.Formatted.{formatted};
 ghost use Rattle.task_model.specs.TaskSteps.{with_part};
 ghost use Rattle.task_model.specs.Shape.{AreAlike, HasShape};
 
+use nv_base::limits::{MAX_OBJECTS, MAX_SIZE};
 use nv_base::{NoMemory, ObjId};
 use rv_core::Machine;
 use set_model::laws::formatted_state_is_fit;
@@ -14,7 +15,7 @@ use std::alloc::Global;
 use std::marker::Model;
 use task_set::TaskSet;
 
-/// The words of one object, at most 64, which contracts see as their list.
+/// The words of one object, at most as many as the limits allow, which contracts see as their list.
 #[derive(Drop)]
 struct Words {
     items: Vec<u32>,
@@ -22,17 +23,18 @@ struct Words {
 
 impl Model for Words {
     ghost use Rattle.std.specs.Prelude.{List, ℕ, ◌≤◌, length};
+    ghost use Rattle.nv_base.specs.declared.limits.TheConstants.{MAX_SIZE};
 
     ghost Value = { List ℕ };
 
     ghost view = { λ w. w.items.items };
 
-    ghost invariant = { λ w. length w.items.items ≤ 64 };
+    ghost invariant = { λ w. length w.items.items ≤ MAX_SIZE };
 }
 
 impl Words {
     fn of(alloc: Global, words: &[u32]) -> Result<Words, NoMemory>
-        requires { length words.now ≤ 64 }
+        requires { length words.now ≤ MAX_SIZE }
         ensures { IfOk result (λ w. w ≡ words.now) }
     {
         Ok(Words {
@@ -42,7 +44,7 @@ impl Words {
 
     fn as_slice(&self) -> &[u32]
         ensures exact { result.now ≡ self.now }
-        ensures small { length result.now ≤ 64 }
+        ensures small { length result.now ≤ MAX_SIZE }
     {
         self.items.as_slice()
     }
@@ -72,8 +74,8 @@ impl Words {
     }
 }
 
-/// The words of each object, by its number: at most 64 objects of at most 64 words, which contracts see as a list of
-/// lists.
+/// The words of each object, by its number: at most as many objects and words as the limits allow. Contracts see a
+/// list of lists.
 #[derive(Drop)]
 pub struct Objects {
     items: Vec<Words>,
@@ -81,12 +83,13 @@ pub struct Objects {
 
 impl Model for Objects {
     ghost use Rattle.std.specs.Prelude.{List, ℕ, ◌≤◌, length};
+    ghost use Rattle.nv_base.specs.declared.limits.TheConstants.{MAX_OBJECTS};
 
     ghost Value = { List (List ℕ) };
 
     ghost view = { λ o. o.items.items };
 
-    ghost invariant = { λ o. length o.items.items ≤ 64 };
+    ghost invariant = { λ o. length o.items.items ≤ MAX_OBJECTS };
 }
 
 impl Objects {
@@ -102,7 +105,7 @@ impl Objects {
     /// How many objects there are.
     pub fn len(&self) -> usize
         ensures exact { result ≡ length self.now }
-        ensures few { result ≤ 64 }
+        ensures few { result ≤ MAX_OBJECTS }
     {
         self.items.len()
     }
@@ -111,15 +114,15 @@ impl Objects {
     pub fn get(&self, object: usize) -> &[u32]
         requires { object < length self.now }
         ensures exact { result.now ≡ words_of self.now object }
-        ensures small { length result.now ≤ 64 }
+        ensures small { length result.now ≤ MAX_SIZE }
     {
         self.items[object].as_slice()
     }
 
     /// Adds an object behind the others. `NoMemory` leaves the objects as they were.
     pub fn push(&mut self, alloc: Global, words: &[u32]) -> Result<(), NoMemory>
-        requires few { length self.old < 64 }
-        requires small { length words.now ≤ 64 }
+        requires few { length self.old < MAX_OBJECTS }
+        requires small { length words.now ≤ MAX_SIZE }
         ensures { MatchResult result (λ _. self.new ≡ self.old ++ words.now ∷ []) (λ _. self.new ≡ self.old) }
     {
         let words = Words::of(alloc, words)?;

@@ -13,7 +13,8 @@ ghost use Rattle.task_model.specs.Progress.{Turns, reads_noted};
 
 use crate::objects::Objects;
 use crate::spawns::{MAX_SPAWNS, Spawns};
-use nv_base::{NoMemory, ObjId, Outcome, ProgId, Set64, Spawn, TrapCause};
+use nv_base::limits::MAX_OBJECTS;
+use nv_base::{NoMemory, ObjId, ObjSet, Outcome, ProgId, Spawn, TrapCause};
 use rv_core::{Machine, Service, Step};
 use std::alloc::Global;
 
@@ -22,8 +23,8 @@ use std::alloc::Global;
 pub(crate) struct Progress {
     // the objects as the task sees them
     pub(crate) values: Objects,
-    pub(crate) reads: Set64,
-    pub(crate) written: Set64,
+    pub(crate) reads: ObjSet,
+    pub(crate) written: ObjSet,
     pub(crate) spawns: Spawns,
 }
 
@@ -47,8 +48,8 @@ impl Progress {
     {
         Ok(Progress {
             values: objects.copy(alloc)?,
-            reads: Set64::empty(),
-            written: Set64::empty(),
+            reads: ObjSet::empty(),
+            written: ObjSet::empty(),
             spawns: Spawns::with_room(alloc)?,
         })
     }
@@ -94,7 +95,7 @@ impl Progress {
         ensures refusal { (set : TaskSet) → HasShape set self.now.values → result_err result ≡ refusal set machine.now object at }
         ensures object { IfOk result (λ o. o.0 ≡ object) }
         ensures inside { OnOk result (object < length self.now.values) }
-        ensures few { OnOk result (object < 64) }
+        ensures few { OnOk result (object < MAX_OBJECTS) }
         ensures place { OnOk result (IsPlace machine.now at (length (words_of self.now.values object))) }
     {
         if object as usize >= self.values.len() {
@@ -117,7 +118,7 @@ impl Progress {
         ensures refusal { (set : TaskSet) → HasShape set self.now.values → result_err result ≡ part_refusal set machine.now object at first count }
         ensures object { IfOk result (λ o. o.0 ≡ object) }
         ensures inside { OnOk result (object < length self.now.values) }
-        ensures few { OnOk result (object < 64) }
+        ensures few { OnOk result (object < MAX_OBJECTS) }
         ensures range { OnOk result (first + count ≤ length (words_of self.now.values object)) }
         ensures place { OnOk result (IsPlace machine.now at count) }
     {
@@ -133,8 +134,8 @@ impl Progress {
     }
 
     /// The objects read from outside, with this one, unless the task wrote it.
-    fn reads_with(&self, object: ObjId) -> Set64
-        requires { object.0 < 64 }
+    fn reads_with(&self, object: ObjId) -> ObjSet
+        requires { object.0 < MAX_OBJECTS }
         ensures { result ≡ reads_noted self.now object.0 }
     {
         let mut reads = self.reads;

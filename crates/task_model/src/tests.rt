@@ -3,7 +3,7 @@
 ghost use Rattle.std.specs.Prelude.{◌<◌};
 
 use super::*;
-use nv_base::{NoMemory, ObjId, Outcome, ProgId, Set64, Spawn, TrapCause};
+use nv_base::{NoMemory, ObjId, ObjSet, Outcome, ProgId, Spawn, TrapCause};
 use rv_core::Machine;
 use std::test::Fail;
 use task_set::{
@@ -121,6 +121,7 @@ fn parts(rt: &HostRuntime, code: &[u32], fuel: u32) -> Result<SetParts, NoMemory
     programs.push(program(rt, b"waits", 100, &WAITS)?)?;
     programs.push(program(rt, b"tested", fuel, code)?)?;
     Ok(SetParts {
+        format: 1,
         cores: 1,
         memory: 1024,
         records: 4,
@@ -145,10 +146,10 @@ fn has_words(objects: &Objects, x: u32, y: [u32; 2]) -> bool {
     objects.len() == 2 && objects.get(0) == [x].as_slice() && objects.get(1) == y.as_slice()
 }
 
-fn only(object: ObjId) -> Set64
+fn only(object: ObjId) -> ObjSet
     requires { object.0 < 64 }
 {
-    let mut set = Set64::empty();
+    let mut set = ObjSet::empty();
     set.add(object);
     set
 }
@@ -183,7 +184,7 @@ fn a_task_reads_one_object_and_writes_the_other(rt: HostRuntime) -> Result<(), F
 fn a_task_sees_its_own_write_and_leaves_the_last(rt: HostRuntime) -> Result<(), Fail> {
     let whole = run(&rt, &WRITES_TWICE, 100)?;
     assert!(rt; whole.outcome == Outcome::Exit(0));
-    assert!(rt; whole.reads == Set64::empty());
+    assert!(rt; whole.reads == ObjSet::empty());
     assert!(rt; whole.written == only(ObjId(0)));
     assert!(rt; has_words(&whole.values, 14, [6, 7]));
     Ok(())
@@ -194,12 +195,12 @@ fn a_trap_leaves_the_objects_as_they_were(rt: HostRuntime) -> Result<(), Fail> {
     let whole = run(&rt, &BREAKS, 100)?;
     assert!(rt; whole.outcome == Outcome::Trap(TrapCause::Break));
     assert!(rt; whole.reads == only(ObjId(0)));
-    assert!(rt; whole.written == Set64::empty());
+    assert!(rt; whole.written == ObjSet::empty());
     assert!(rt; has_words(&whole.values, 5, [6, 7]));
     let whole = run(&rt, &CLEARS, 100)?;
     assert!(rt; whole.outcome == Outcome::Trap(TrapCause::Break));
-    assert!(rt; whole.reads == Set64::empty());
-    assert!(rt; whole.written == Set64::empty());
+    assert!(rt; whole.reads == ObjSet::empty());
+    assert!(rt; whole.written == ObjSet::empty());
     assert!(rt; has_words(&whole.values, 5, [6, 7]));
     Ok(())
 }
@@ -208,7 +209,7 @@ fn a_trap_leaves_the_objects_as_they_were(rt: HostRuntime) -> Result<(), Fail> {
 fn a_read_is_tested(rt: HostRuntime) -> Result<(), Fail> {
     let whole = run(&rt, &STRAYS, 100)?;
     assert!(rt; whole.outcome == Outcome::Trap(TrapCause::Object));
-    assert!(rt; whole.reads == Set64::empty());
+    assert!(rt; whole.reads == ObjSet::empty());
     let whole = run(&rt, &OVERRUNS, 100)?;
     assert!(rt; whole.outcome == Outcome::Trap(TrapCause::CallRange));
     assert!(rt; whole.reads == only(ObjId(0)));
@@ -230,7 +231,7 @@ fn a_task_spawns(rt: HostRuntime) -> Result<(), Fail> {
         },
     ];
     assert!(rt; whole.spawns.as_slice() == wanted.as_slice());
-    assert!(rt; whole.reads == Set64::empty());
+    assert!(rt; whole.reads == ObjSet::empty());
     Ok(())
 }
 
@@ -271,7 +272,7 @@ fn a_task_reads_a_part(rt: HostRuntime) -> Result<(), Fail> {
     let whole = run(&rt, &READS_PART, 100)?;
     assert!(rt; whole.outcome == Outcome::Exit(7));
     assert!(rt; whole.reads == only(ObjId(1)));
-    assert!(rt; whole.written == Set64::empty());
+    assert!(rt; whole.written == ObjSet::empty());
     Ok(())
 }
 
@@ -279,9 +280,9 @@ fn a_task_reads_a_part(rt: HostRuntime) -> Result<(), Fail> {
 fn a_part_is_tested(rt: HostRuntime) -> Result<(), Fail> {
     let whole = run(&rt, &PAST_END, 100)?;
     assert!(rt; whole.outcome == Outcome::Trap(TrapCause::CallRange));
-    assert!(rt; whole.reads == Set64::empty());
+    assert!(rt; whole.reads == ObjSet::empty());
     let whole = run(&rt, &AROUND, 100)?;
     assert!(rt; whole.outcome == Outcome::Trap(TrapCause::CallRange));
-    assert!(rt; whole.reads == Set64::empty());
+    assert!(rt; whole.reads == ObjSet::empty());
     Ok(())
 }

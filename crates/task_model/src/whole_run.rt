@@ -13,7 +13,7 @@ ghost use Rattle.task_model.specs.WholeRun.{IsWholeRun};
 use crate::objects::Objects;
 use crate::progress::Progress;
 use crate::spawns::Spawns;
-use nv_base::{NoMemory, Outcome, ProgId, Set64, TrapCause};
+use nv_base::{NoMemory, ObjSet, Outcome, ProgId, TrapCause};
 use rv_core::Machine;
 use std::alloc::Global;
 use task_set::TaskSet;
@@ -24,9 +24,9 @@ pub struct Whole {
     /// How it ended.
     pub outcome: Outcome,
     /// The objects that it read from outside.
-    pub reads: Set64,
+    pub reads: ObjSet,
     /// The objects that it wrote, none after a trap.
-    pub written: Set64,
+    pub written: ObjSet,
     /// All objects, with its writes put in.
     pub values: Objects,
     /// The tasks that it spawned, none after a trap.
@@ -59,7 +59,7 @@ fn whole_of(progress: Progress, outcome: Outcome, objects: &Objects) -> Whole
             Whole {
                 outcome,
                 reads,
-                written: Set64::empty(),
+                written: ObjSet::empty(),
                 values,
                 spawns,
             }

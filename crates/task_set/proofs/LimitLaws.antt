@@ -6,14 +6,16 @@ use Rattle.std.specs.Cmp.Derive.{both_true}
 use Rattle.std.proofs.lemmas.Bool.{leb-true, le-leb, ltb-true, lt-ltb, eqb-true}
 use Rattle.std.proofs.Common.{eq-eqb}
 use Rattle.kernel_model.specs.Effects.{Spawn}
+use Rattle.nv_base.specs.declared.limits.TheConstants.{MAX_CODE, MAX_CORES, MAX_FORMAT, MAX_FUEL, MAX_MEMORY, MAX_PROGRAMS, MAX_SIZE, MAX_SLOTS, MIN_MEMORY, MIN_SLOTS}
 use Rattle.set_model.specs.Sets.{ObjectPart, ProgramPart, TaskSet}
-use Rattle.set_model.specs.Limits.{IsWithin, IsWord, IsObject, IsProgram, IsTask, IsTaskSet}
+use Rattle.set_model.specs.Limits.{IsWithin, IsWord, IsObject, IsProgram, IsTask, IsTaskSet, max_objects, max_records}
 use Rattle.task_set.specs.declared.refusals.LimitKind.{LimitKind}
-use Rattle.task_set.specs.declared.refusals.LimitKind.TheVariants.{Cores, Memory, Records, Objects, Size, Slots, First, Programs, Fuel, Code, Tasks, TaskProgram}
-use Rattle.task_set.specs.FirstBroken.{first_broken, cores_hold, memory_holds, records_hold, objects_hold, sizes_hold, slots_hold, firsts_hold, programs_hold, fuels_hold, codes_hold, tasks_hold, task_programs_hold}
+use Rattle.task_set.specs.declared.refusals.LimitKind.TheVariants.{Format, Cores, Memory, Records, Objects, Size, Slots, First, Programs, Fuel, Code, Tasks, TaskProgram}
+use Rattle.task_set.specs.FirstBroken.{first_broken, format_holds, cores_hold, memory_holds, records_hold, objects_hold, sizes_hold, slots_hold, firsts_hold, programs_hold, fuels_hold, codes_hold, tasks_hold, task_programs_hold}
 use Rattle.task_set.specs.Ranges.{HasWords}
 
 record AllHold (set : TaskSet) : Type 0 where
+  format : format_holds set ≡ true
   cores : cores_hold set ≡ true
   memory : memory_holds set ≡ true
   records : records_hold set ≡ true
@@ -34,7 +36,8 @@ kept false kind rest e = let f : Some kind ≡ None = e in absurd (cc)
 all_hold : (set : TaskSet) → first_broken set ≡ None → AllHold set
 unfolding first_broken
 all_hold set e =
-    let a = kept (cores_hold set) Cores _ e in
+    let z = kept (format_holds set) Format _ e in
+    let a = kept (cores_hold set) Cores _ z.1 in
     let b = kept (memory_holds set) Memory _ a.1 in
     let c = kept (records_hold set) Records _ b.1 in
     let d = kept (objects_hold set) Objects _ c.1 in
@@ -47,6 +50,7 @@ all_hold set e =
     let l = kept (tasks_hold set) Tasks _ k.1 in
     let m = kept (task_programs_hold set) TaskProgram _ l.1 in
     record {
+      format = z.0;
       cores = a.0;
       memory = b.0;
       records = c.0;
@@ -63,7 +67,7 @@ all_hold set e =
 
 none_if_all_hold : (set : TaskSet) → AllHold set → first_broken set ≡ None
 unfolding first_broken
-none_if_all_hold set h = rw (h.cores, h.memory, h.records, h.objects, h.sizes, h.slots, h.firsts, h.programs, h.fuels, h.codes, h.tasks, h.task_programs) refl
+none_if_all_hold set h = rw (h.format, h.cores, h.memory, h.records, h.objects, h.sizes, h.slots, h.firsts, h.programs, h.fuels, h.codes, h.tasks, h.task_programs) refl
 
 both : (a b : Bool) → (a && b) ≡ true → (a ≡ true) × (b ≡ true)
 both true b e = (refl, e)
@@ -75,24 +79,24 @@ within low high n e = let h = both (nat_le low n) (nat_le n high) e in (leb-true
 in_range : (low high n : ℕ) → IsWithin low high n → is_in_range low high n ≡ true
 in_range low high n h = both_true (le-leb low n h.0) (le-leb n high h.1)
 
-each_object : (objects : List ObjectPart) → list_all (λ o. is_in_range 1 64 o.size) objects ≡ true → list_all (λ o. is_in_range 2 8 o.slots) objects ≡ true → list_all (λ o. length o.first == o.size) objects ≡ true
+each_object : (objects : List ObjectPart) → list_all (λ o. is_in_range 1 MAX_SIZE o.size) objects ≡ true → list_all (λ o. is_in_range MIN_SLOTS MAX_SLOTS o.slots) objects ≡ true → list_all (λ o. length o.first == o.size) objects ≡ true
     → AllByRecursion (λ o. AllByRecursion IsWord o.first) objects → AllByRecursion IsObject objects
 each_object [] e f g w = tt
 each_object (o ∷ objects) e f g w =
-    let h = both (is_in_range 1 64 o.size) (list_all (λ p. is_in_range 1 64 p.size) objects) e in
-    let i = both (is_in_range 2 8 o.slots) (list_all (λ p. is_in_range 2 8 p.slots) objects) f in
+    let h = both (is_in_range 1 MAX_SIZE o.size) (list_all (λ p. is_in_range 1 MAX_SIZE p.size) objects) e in
+    let i = both (is_in_range MIN_SLOTS MAX_SLOTS o.slots) (list_all (λ p. is_in_range MIN_SLOTS MAX_SLOTS p.slots) objects) f in
     let j = both (length o.first == o.size) (list_all (λ p. length p.first == p.size) objects) g in
-    (record { size = within 1 64 o.size h.0; slots = within 2 8 o.slots i.0; first = eqb-true (length o.first) o.size j.0; words = w.0 }, each_object objects h.1 i.1 j.1 w.1)
+    (record { size = within 1 MAX_SIZE o.size h.0; slots = within MIN_SLOTS MAX_SLOTS o.slots i.0; first = eqb-true (length o.first) o.size j.0; words = w.0 }, each_object objects h.1 i.1 j.1 w.1)
 
-each_program : (memory : ℕ) (programs : List ProgramPart) → list_all (λ p. is_in_range 1 1000000 p.fuel) programs ≡ true
-    → list_all (λ p. nat_le (length p.code) 1024 && nat_le (4 * length p.code) memory) programs ≡ true → AllByRecursion (λ p. AllByRecursion IsWord p.code) programs
+each_program : (memory : ℕ) (programs : List ProgramPart) → list_all (λ p. is_in_range 1 MAX_FUEL p.fuel) programs ≡ true
+    → list_all (λ p. nat_le (length p.code) MAX_CODE && nat_le (4 * length p.code) memory) programs ≡ true → AllByRecursion (λ p. AllByRecursion IsWord p.code) programs
     → AllByRecursion (IsProgram memory) programs
 each_program memory [] e f w = tt
 each_program memory (p ∷ programs) e f w =
-    let h = both (is_in_range 1 1000000 p.fuel) (list_all (λ q. is_in_range 1 1000000 q.fuel) programs) e in
-    let i = both (nat_le (length p.code) 1024 && nat_le (4 * length p.code) memory) (list_all (λ q. nat_le (length q.code) 1024 && nat_le (4 * length q.code) memory) programs) f in
-    let j = both (nat_le (length p.code) 1024) (nat_le (4 * length p.code) memory) i.0 in
-    (record { fuel = within 1 1000000 p.fuel h.0; code = leb-true (length p.code) 1024 j.0; fits = leb-true (4 * length p.code) memory j.1; words = w.0 }, each_program memory programs h.1 i.1 w.1)
+    let h = both (is_in_range 1 MAX_FUEL p.fuel) (list_all (λ q. is_in_range 1 MAX_FUEL q.fuel) programs) e in
+    let i = both (nat_le (length p.code) MAX_CODE && nat_le (4 * length p.code) memory) (list_all (λ q. nat_le (length q.code) MAX_CODE && nat_le (4 * length q.code) memory) programs) f in
+    let j = both (nat_le (length p.code) MAX_CODE) (nat_le (4 * length p.code) memory) i.0 in
+    (record { fuel = within 1 MAX_FUEL p.fuel h.0; code = leb-true (length p.code) MAX_CODE j.0; fits = leb-true (4 * length p.code) memory j.1; words = w.0 }, each_program memory programs h.1 i.1 w.1)
 
 each_task : (n : ℕ) (tasks : List Spawn) → list_all (λ t. nat_lt t.program n) tasks ≡ true → AllByRecursion (λ t. IsWord t.arg) tasks → AllByRecursion (IsTask n) tasks
 each_task n [] e w = tt
@@ -101,61 +105,63 @@ each_task n (t ∷ tasks) e w =
     (record { program = ltb-true t.program n h.0; arg = w.0 }, each_task n tasks h.1 w.1)
 
 pub within_if_none : (set : TaskSet) → HasWords set → first_broken set ≡ None → IsTaskSet set
-unfolding cores_hold memory_holds records_hold objects_hold sizes_hold slots_hold firsts_hold programs_hold fuels_hold codes_hold tasks_hold task_programs_hold
+unfolding format_holds cores_hold memory_holds records_hold objects_hold sizes_hold slots_hold firsts_hold programs_hold fuels_hold codes_hold tasks_hold task_programs_hold
 within_if_none set w e =
     let h = all_hold set e in
-    let m = both (is_in_range 1024 65536 set.memory) (set.memory % 4 == 0) h.memory in
+    let m = both (is_in_range MIN_MEMORY MAX_MEMORY set.memory) (set.memory % 4 == 0) h.memory in
     record {
-      cores = within 1 8 set.cores h.cores;
-      memory = within 1024 65536 set.memory m.0;
+      format = within 1 MAX_FORMAT set.format h.format;
+      cores = within 1 MAX_CORES set.cores h.cores;
+      memory = within MIN_MEMORY MAX_MEMORY set.memory m.0;
       aligned = eqb-true (set.memory % 4) 0 m.1;
-      records = within 1 256 set.records h.records;
-      objects = within 1 64 (length set.objects) h.objects;
+      records = within 1 (max_records set.format) set.records h.records;
+      objects = within 1 (max_objects set.format) (length set.objects) h.objects;
       each_object = each_object set.objects h.sizes h.slots h.firsts w.objects;
-      programs = within 1 16 (length set.programs) h.programs;
+      programs = within 1 MAX_PROGRAMS (length set.programs) h.programs;
       each_program = each_program set.memory set.programs h.fuels h.codes w.programs;
       tasks = leb-true (length set.tasks) set.records h.tasks;
       each_task = each_task (length set.programs) set.tasks h.task_programs w.tasks;
     }
 
-sizes_all : (objects : List ObjectPart) → AllByRecursion IsObject objects → list_all (λ o. is_in_range 1 64 o.size) objects ≡ true
+sizes_all : (objects : List ObjectPart) → AllByRecursion IsObject objects → list_all (λ o. is_in_range 1 MAX_SIZE o.size) objects ≡ true
 sizes_all [] h = refl
-sizes_all (o ∷ objects) h = both_true (in_range 1 64 o.size h.0.size) (sizes_all objects h.1)
+sizes_all (o ∷ objects) h = both_true (in_range 1 MAX_SIZE o.size h.0.size) (sizes_all objects h.1)
 
-slots_all : (objects : List ObjectPart) → AllByRecursion IsObject objects → list_all (λ o. is_in_range 2 8 o.slots) objects ≡ true
+slots_all : (objects : List ObjectPart) → AllByRecursion IsObject objects → list_all (λ o. is_in_range MIN_SLOTS MAX_SLOTS o.slots) objects ≡ true
 slots_all [] h = refl
-slots_all (o ∷ objects) h = both_true (in_range 2 8 o.slots h.0.slots) (slots_all objects h.1)
+slots_all (o ∷ objects) h = both_true (in_range MIN_SLOTS MAX_SLOTS o.slots h.0.slots) (slots_all objects h.1)
 
 firsts_all : (objects : List ObjectPart) → AllByRecursion IsObject objects → list_all (λ o. length o.first == o.size) objects ≡ true
 firsts_all [] h = refl
 firsts_all (o ∷ objects) h = both_true (eq-eqb (length o.first) o.size h.0.first) (firsts_all objects h.1)
 
-fuels_all : (memory : ℕ) (programs : List ProgramPart) → AllByRecursion (IsProgram memory) programs → list_all (λ p. is_in_range 1 1000000 p.fuel) programs ≡ true
+fuels_all : (memory : ℕ) (programs : List ProgramPart) → AllByRecursion (IsProgram memory) programs → list_all (λ p. is_in_range 1 MAX_FUEL p.fuel) programs ≡ true
 fuels_all memory [] h = refl
-fuels_all memory (p ∷ programs) h = both_true (in_range 1 1000000 p.fuel h.0.fuel) (fuels_all memory programs h.1)
+fuels_all memory (p ∷ programs) h = both_true (in_range 1 MAX_FUEL p.fuel h.0.fuel) (fuels_all memory programs h.1)
 
 codes_all : (memory : ℕ) (programs : List ProgramPart) → AllByRecursion (IsProgram memory) programs
-    → list_all (λ p. nat_le (length p.code) 1024 && nat_le (4 * length p.code) memory) programs ≡ true
+    → list_all (λ p. nat_le (length p.code) MAX_CODE && nat_le (4 * length p.code) memory) programs ≡ true
 codes_all memory [] h = refl
 codes_all memory (p ∷ programs) h =
-    both_true (both_true (le-leb (length p.code) 1024 h.0.code) (le-leb (4 * length p.code) memory h.0.fits)) (codes_all memory programs h.1)
+    both_true (both_true (le-leb (length p.code) MAX_CODE h.0.code) (le-leb (4 * length p.code) memory h.0.fits)) (codes_all memory programs h.1)
 
 task_programs_all : (n : ℕ) (tasks : List Spawn) → AllByRecursion (IsTask n) tasks → list_all (λ t. nat_lt t.program n) tasks ≡ true
 task_programs_all n [] h = refl
 task_programs_all n (t ∷ tasks) h = both_true (lt-ltb t.program n h.0.program) (task_programs_all n tasks h.1)
 
 pub none_if_within : (set : TaskSet) → IsTaskSet set → first_broken set ≡ None
-unfolding cores_hold memory_holds records_hold objects_hold sizes_hold slots_hold firsts_hold programs_hold fuels_hold codes_hold tasks_hold task_programs_hold
+unfolding format_holds cores_hold memory_holds records_hold objects_hold sizes_hold slots_hold firsts_hold programs_hold fuels_hold codes_hold tasks_hold task_programs_hold
 none_if_within set h =
     none_if_all_hold set (record {
-      cores = in_range 1 8 set.cores h.cores;
-      memory = both_true (in_range 1024 65536 set.memory h.memory) (eq-eqb (set.memory % 4) 0 h.aligned);
-      records = in_range 1 256 set.records h.records;
-      objects = in_range 1 64 (length set.objects) h.objects;
+      format = in_range 1 MAX_FORMAT set.format h.format;
+      cores = in_range 1 MAX_CORES set.cores h.cores;
+      memory = both_true (in_range MIN_MEMORY MAX_MEMORY set.memory h.memory) (eq-eqb (set.memory % 4) 0 h.aligned);
+      records = in_range 1 (max_records set.format) set.records h.records;
+      objects = in_range 1 (max_objects set.format) (length set.objects) h.objects;
       sizes = sizes_all set.objects h.each_object;
       slots = slots_all set.objects h.each_object;
       firsts = firsts_all set.objects h.each_object;
-      programs = in_range 1 16 (length set.programs) h.programs;
+      programs = in_range 1 MAX_PROGRAMS (length set.programs) h.programs;
       fuels = fuels_all set.memory set.programs h.each_program;
       codes = codes_all set.memory set.programs h.each_program;
       tasks = le-leb (length set.tasks) set.records h.tasks;

@@ -1,6 +1,7 @@
 //! Task sets that keep all limits.
 #![tactic(auto)]
 
+mod formats;
 pub mod laws;
 mod limits;
 mod lists;
@@ -10,6 +11,7 @@ mod ranges;
 mod refusals;
 mod set;
 
+pub use formats::{max_objects, max_records};
 pub use lists::{Name, ObjectParts, ProgramParts, Tasks, Words};
 pub use parts::{ObjPart, ProgPart, SetParts};
 pub use refusals::{LimitKind, SetRefusal};

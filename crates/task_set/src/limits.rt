@@ -2,31 +2,43 @@
 
 ghost use Rattle.std.specs.Prelude.{◌≡◌, nat_lt};
 ghost use Rattle.std.specs.List.{list_all};
-ghost use Rattle.task_set.specs.FirstBroken.{first_broken, cores_hold, memory_holds, records_hold, objects_hold, sizes_hold, slots_hold, firsts_hold, programs_hold, fuels_hold, codes_hold, tasks_hold, task_programs_hold};
+ghost use Rattle.task_set.specs.FirstBroken.{first_broken, format_holds, cores_hold, memory_holds, records_hold, objects_hold, sizes_hold, slots_hold, firsts_hold, programs_hold, fuels_hold, codes_hold, tasks_hold, task_programs_hold};
 
+use crate::formats::{max_objects, max_records};
 use crate::parts::SetParts;
 use crate::refusals::LimitKind;
 use nv_base::Spawn;
+use nv_base::limits::{
+    MAX_CODE, MAX_CORES, MAX_FORMAT, MAX_FUEL, MAX_MEMORY, MAX_PROGRAMS, MAX_SIZE, MAX_SLOTS,
+    MIN_MEMORY, MIN_SLOTS,
+};
+
+#[tactic(auto, unfolding(crate::specs::FirstBroken::format_holds))]
+fn format_holds(parts: &SetParts) -> bool
+    ensures { result ≡ format_holds parts.now }
+{
+    1 <= parts.format && parts.format <= MAX_FORMAT
+}
 
 #[tactic(auto, unfolding(crate::specs::FirstBroken::cores_hold))]
 fn cores_hold(parts: &SetParts) -> bool
     ensures { result ≡ cores_hold parts.now }
 {
-    1 <= parts.cores && parts.cores <= 8
+    1 <= parts.cores && parts.cores <= MAX_CORES
 }
 
 #[tactic(auto, unfolding(crate::specs::FirstBroken::memory_holds))]
 fn memory_holds(parts: &SetParts) -> bool
     ensures { result ≡ memory_holds parts.now }
 {
-    1024 <= parts.memory && parts.memory <= 65_536 && parts.memory % 4 == 0
+    MIN_MEMORY <= parts.memory && parts.memory <= MAX_MEMORY && parts.memory % 4 == 0
 }
 
 #[tactic(auto, unfolding(crate::specs::FirstBroken::records_hold))]
 fn records_hold(parts: &SetParts) -> bool
     ensures { result ≡ records_hold parts.now }
 {
-    1 <= parts.records && parts.records <= 256
+    1 <= parts.records && parts.records <= max_records(parts.format)
 }
 
 #[tactic(auto, unfolding(crate::specs::FirstBroken::objects_hold))]
@@ -34,7 +46,7 @@ fn objects_hold(parts: &SetParts) -> bool
     ensures { result ≡ objects_hold parts.now }
 {
     let number = parts.objects.as_slice().len();
-    1 <= number && number <= 64
+    1 <= number && number <= usize::from(max_objects(parts.format))
 }
 
 #[tactic(auto, unfolding(crate::specs::FirstBroken::sizes_hold))]
@@ -45,7 +57,7 @@ fn sizes_hold(parts: &SetParts) -> bool
         .objects
         .as_slice()
         .iter()
-        .all(|o| 1 <= o.size && o.size <= 64)
+        .all(|o| 1 <= o.size && o.size <= MAX_SIZE)
 }
 
 #[tactic(auto, unfolding(crate::specs::FirstBroken::slots_hold))]
@@ -56,7 +68,7 @@ fn slots_hold(parts: &SetParts) -> bool
         .objects
         .as_slice()
         .iter()
-        .all(|o| 2 <= o.slots && o.slots <= 8)
+        .all(|o| MIN_SLOTS <= o.slots && o.slots <= MAX_SLOTS)
 }
 
 #[tactic(auto, unfolding(crate::specs::FirstBroken::firsts_hold))]
@@ -75,7 +87,7 @@ fn programs_hold(parts: &SetParts) -> bool
     ensures { result ≡ programs_hold parts.now }
 {
     let number = parts.programs.as_slice().len();
-    1 <= number && number <= 16
+    1 <= number && number <= usize::from(MAX_PROGRAMS)
 }
 
 #[tactic(auto, unfolding(crate::specs::FirstBroken::fuels_hold))]
@@ -86,7 +98,7 @@ fn fuels_hold(parts: &SetParts) -> bool
         .programs
         .as_slice()
         .iter()
-        .all(|p| 1 <= p.fuel && p.fuel <= 1_000_000)
+        .all(|p| 1 <= p.fuel && p.fuel <= MAX_FUEL)
 }
 
 #[tactic(auto, unfolding(crate::specs::FirstBroken::codes_hold))]
@@ -96,7 +108,7 @@ fn codes_hold(parts: &SetParts) -> bool
     let memory = parts.memory as usize;
     parts.programs.as_slice().iter().all(|p| {
         let words = p.code.as_slice().len();
-        words <= 1024 && 4 * words <= memory
+        words <= usize::from(MAX_CODE) && 4 * words <= memory
     })
 }
 
@@ -126,7 +138,9 @@ fn task_programs_hold(parts: &SetParts) -> bool
 pub(crate) fn first_broken(parts: &SetParts) -> Option<LimitKind>
     ensures { result ≡ first_broken parts.now }
 {
-    if !cores_hold(parts) {
+    if !format_holds(parts) {
+        Some(LimitKind::Format)
+    } else if !cores_hold(parts) {
         Some(LimitKind::Cores)
     } else if !memory_holds(parts) {
         Some(LimitKind::Memory)

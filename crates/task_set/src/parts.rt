@@ -77,6 +77,8 @@ impl ProgPart {
 /// The parts of a task set. Contracts see them as the definitions' record of a task set, which may break limits.
 #[derive(Drop)]
 pub struct SetParts {
+    /// By which the most objects and task records go: 1 or 2.
+    pub format: u8,
     /// How many cores there are.
     pub cores: u8,
     /// The private memory of each attempt, in bytes.
@@ -98,7 +100,7 @@ impl Model for SetParts {
 
     ghost Value = { TaskSet };
 
-    ghost view = { λ a. record { cores = a.cores; memory = a.memory; records = a.records; objects = a.objects; programs = a.programs; tasks = map spawn_of a.tasks } };
+    ghost view = { λ a. record { format = a.format; cores = a.cores; memory = a.memory; records = a.records; objects = a.objects; programs = a.programs; tasks = map spawn_of a.tasks } };
 }
 
 impl SetParts {
@@ -107,6 +109,7 @@ impl SetParts {
         ensures { IfOk result (λ a. a ≡ self.now) }
     {
         Ok(SetParts {
+            format: self.format,
             cores: self.cores,
             memory: self.memory,
             records: self.records,

@@ -3,13 +3,15 @@
 /// Which limit is broken, in the order in which they are looked at. This project's own.
 #[derive(Clone, Copy, PartialEq, Eq, Debug)]
 pub enum LimitKind {
+    /// Format 1 or 2.
+    Format,
     /// 1 to 8 cores.
     Cores,
     /// 1,024 to 65,536 bytes of private memory, a multiple of 4.
     Memory,
-    /// 1 to 256 task records.
+    /// 1 to 256 task records in format 1, 1 to 1,024 in format 2.
     Records,
-    /// 1 to 64 objects.
+    /// 1 to 64 objects in format 1, 1 to 128 in format 2.
     Objects,
     /// Each object has 1 to 64 words.
     Size,

@@ -1,6 +1,6 @@
 //! Checked task sets.
 
-ghost use Rattle.std.specs.Prelude.{◌≡◌, ◌<◌, map, length, IfOk, MatchResult};
+ghost use Rattle.std.specs.Prelude.{◌≡◌, ◌<◌, ◌≤◌, map, length, IfOk, MatchResult};
 ghost use Rattle.task_set.specs.Refusals.{IsRefused};
 ghost use Rattle.set_model.specs.Limits.{IsObject, IsProgram, IsTaskSet};
 ghost use Rattle.set_model.specs.Names.{IsNamed};
@@ -12,8 +12,9 @@ use crate::names::are_named;
 use crate::parts::{ObjPart, ProgPart, SetParts};
 use crate::ranges::has_words;
 use crate::refusals::SetRefusal;
+use nv_base::limits::{MAX_OBJECTS, MAX_RECORDS};
 use nv_base::{NoMemory, ObjId, ProgId, Spawn};
-use set_model::laws::{object_is_within, program_is_within};
+use set_model::laws::{any_format_is_below, object_is_within, program_is_within};
 use std::alloc::Global;
 use std::marker::Model;
 
@@ -64,6 +65,14 @@ impl TaskSet {
         })
     }
 
+    /// By which the most objects and task records go: 1 or 2.
+    pub fn format(&self) -> u8
+        ensures exact { result ≡ self.now.format }
+        ensures limits { IsTaskSet self.now }
+    {
+        self.parts.format
+    }
+
     /// How many cores there are: 1 to 8.
     pub fn cores(&self) -> u8
         ensures exact { result ≡ self.now.cores }
@@ -81,19 +90,23 @@ impl TaskSet {
         self.parts.memory
     }
 
-    /// How many tasks may be open at a time: 1 to 256.
+    /// How many tasks may be open at a time: 1 to 256 in format 1, 1 to 1,024 in format 2.
     pub fn records(&self) -> u16
         ensures exact { result ≡ self.now.records }
+        ensures few { result ≤ MAX_RECORDS }
         ensures limits { IsTaskSet self.now }
     {
+        any_format_is_below();
         self.parts.records
     }
 
-    /// How many objects there are: 1 to 64.
+    /// How many objects there are: 1 to 64 in format 1, 1 to 128 in format 2.
     pub fn objects(&self) -> u8
         ensures exact { result ≡ length self.now.objects }
+        ensures few { result ≤ MAX_OBJECTS }
         ensures limits { IsTaskSet self.now }
     {
+        any_format_is_below();
         self.parts.objects.as_slice().len() as u8
     }
 

@@ -34,6 +34,7 @@ fn parts(rt: &HostRuntime, name: &[u8], fuel: u32, task: u8) -> Result<SetParts,
         arg: 9,
     })?;
     Ok(SetParts {
+        format: 1,
         cores: 1,
         memory: 1024,
         records: 3,
@@ -58,6 +59,7 @@ fn a_set_and_its_copy_tell_the_parts(rt: HostRuntime) -> Result<(), Fail> {
         return Ok(());
     };
     let set = set.copy(rt.alloc())?;
+    assert_eq!(rt; set.format(), 1);
     assert_eq!(rt; set.cores(), 1);
     assert_eq!(rt; set.memory(), 1024);
     assert_eq!(rt; set.records(), 3);
@@ -90,6 +92,30 @@ fn the_first_broken_limit_is_told(rt: HostRuntime) -> Result<(), Fail> {
     wrong = parts(&rt, b"add", 100, 0)?;
     wrong.objects.push(object(&rt, b"x", 2, &[1])?)?;
     assert!(rt; refusal(&rt, wrong) == Some(SetRefusal::Limit(LimitKind::First)));
+    Ok(())
+}
+
+#[test]
+fn limits_go_by_the_format(rt: HostRuntime) -> Result<(), Fail> {
+    for (format, records, told) in [
+        (1, 256, None),
+        (1, 257, Some(SetRefusal::Limit(LimitKind::Records))),
+        (2, 1024, None),
+        (2, 1025, Some(SetRefusal::Limit(LimitKind::Records))),
+        (0, 256, Some(SetRefusal::Limit(LimitKind::Format))),
+        (3, 256, Some(SetRefusal::Limit(LimitKind::Format))),
+    ] {
+        let mut tried = parts(&rt, b"add", 100, 0)?;
+        tried.format = format;
+        tried.records = records;
+        assert!(rt; refusal(&rt, tried) == told);
+    }
+    let mut no_core = parts(&rt, b"add", 100, 0)?;
+    no_core.format = 3;
+    no_core.cores = 0;
+    assert!(rt; refusal(&rt, no_core) == Some(SetRefusal::Limit(LimitKind::Format)));
+    assert!(rt; max_objects(1) == 64 && max_objects(2) == 128);
+    assert!(rt; max_records(1) == 256 && max_records(2) == 1024);
     Ok(())
 }
 

@@ -10,11 +10,11 @@ ghost use Rattle.ver_table.specs.Slots.{IsLaid, begin_at};
 
 use arrayvec::ArrayVec;
 use interval::{Interval, Pin};
-use nv_base::{ObjId, Point};
+use nv_base::{ObjId, Point, limits};
 use std::marker::Model;
 
 /// How many slots an object may have.
-const MAX_SLOTS: usize = 8;
+const MAX_SLOTS: usize = limits::MAX_SLOTS as usize;
 
 /// The versions of one object by slot, their order, and the object's bound. Contracts see the definitions' record of them.
 #[derive(Drop)]
@@ -44,7 +44,7 @@ impl Model for Chain {
 impl Chain {
     /// One version alone, begun at `clock` in this slot.
     pub(crate) fn new(slots: u8, slot: u8, clock: Point) -> Chain
-        requires few { slots ≤ 8 }
+        requires few { slots ≤ MAX_SLOTS }
         requires inside { slot < slots }
         ensures { result ≡ one_version slots slot clock.0 }
     {
@@ -157,7 +157,7 @@ impl Chain {
 
 // The first of these slots whose version begins before `hi`.
 fn first_before(order: &[u8], begins: &[Point; MAX_SLOTS], hi: Option<Point>) -> Option<u8>
-    requires { (i : ℕ) → i < length order.now → slice_index order.now i < 8 }
+    requires { (i : ℕ) → i < length order.now → slice_index order.now i < MAX_SLOTS }
     ensures { result ≡ find (λ k. is_below (begin_at begins.now k) (number_of hi)) order.now }
 {
     for slot in order {

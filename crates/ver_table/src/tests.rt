@@ -33,6 +33,7 @@ fn parts(rt: &HostRuntime, slots: u8) -> Result<SetParts, NoMemory> {
         code: Words::from_slice(rt.alloc(), &[0x0000_006f])?,
     })?;
     Ok(SetParts {
+        format: 1,
         cores: 1,
         memory: 1024,
         records: 3,

@@ -1,5 +1,6 @@
 use Rattle.std.proofs.Common.{◌≡◌, ℕ, length, arith, refl, ◌∙◌, ap}
 use Rattle.object_sets.specs.ObjectSets.{is_among}
+use Rattle.set_model.proofs.LimitFacts.{few_objects, few_records}
 use Rattle.set_model.specs.Sets.{object_at}
 use Rattle.kernel_core.proofs.Counts.{sum_to, sum_to-all, sum_to-more, sum_to-none}
 use Rattle.kernel_core.proofs.kernel.Kernel.commit_writes.Goals as goal
@@ -9,7 +10,7 @@ loop-o-init c =
     let none = sum_to-none (λ o. (object_at c.args.self.now.set o).size) c.args.self.now.attempt.written in
     record {
       sum = omega (arith, none, c.from.ensures, c.objects.ensures.exact, c.from-2.ensures, c.records.ensures.exact);
-      few = omega (arith, c.from.ensures, c.objects.ensures.exact, c.from-2.ensures, c.records.ensures.exact, c.requires.kept.set.objects.1, c.requires.kept.set.records.1);
+      few = omega (arith, c.from.ensures, c.objects.ensures.exact, c.from-2.ensures, c.records.ensures.exact, few_objects _ c.requires.kept.set, few_records _ c.requires.kept.set);
     }
 
 pub loop-o-preserved : goal.loop-o-preserved

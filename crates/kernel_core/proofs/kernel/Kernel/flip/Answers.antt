@@ -1,4 +1,5 @@
 use Rattle.std.proofs.Common.{length, map, ap, sym, ◌∙◌, arith}
+use Rattle.set_model.proofs.LimitFacts.{few_objects, few_records}
 use Rattle.set_model.specs.Views.{spawn_of}
 use Rattle.kernel_core.specs.Shapes.{state_after}
 use Rattle.kernel_core.proofs.Keeping.{granted_in, taken, taken_number}
@@ -13,10 +14,10 @@ finish-requires c =
     let spawns = ap length c.as_slice.ensures.exact in
     let k = c.requires.kept in
     record {
-      few = omega (arith, k.objects.number, k.set.objects.1);
+      few = omega (arith, k.objects.number, few_objects _ k.set);
       same = k.words.number ∙ sym k.objects.number;
       sizes = λ o l. k.words.sizes o (omega (arith, l, k.objects.number, k.words.number)) ∙ sym (k.objects.sizes o l);
-      room = omega (arith, few, spawns, g.records, k.set.records.1);
+      room = omega (arith, few, spawns, g.records, few_records _ k.set);
       number = omega (arith, c.requires.few);
       ids = omega (arith, c.requires.few, k.next, k.spawns, spawns);
       first = g.first;

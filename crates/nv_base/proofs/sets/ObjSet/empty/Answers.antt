@@ -1,6 +1,6 @@
 use Rattle.std.proofs.Common.{refl}
 use Rattle.nv_base.specs.Bits.{objects_of}
-use Rattle.nv_base.proofs.sets.Set64.empty.Goals as goal
+use Rattle.nv_base.proofs.sets.ObjSet.empty.Goals as goal
 
 pub returns : goal.returns
 unfolding objects_of

@@ -1,7 +1,7 @@
 use Rattle.std.proofs.Common.{◌∙◌, ap}
 use Rattle.object_sets.specs.ObjectSets.{with_object}
 use Rattle.nv_base.proofs.Words.{objects_of-below, objects_of-increasing, objects_of-set, set_below}
-use Rattle.nv_base.proofs.sets.Set64.add.Goals as goal
+use Rattle.nv_base.proofs.sets.ObjSet.add.Goals as goal
 
 pub invariant_of-self : goal.invariant_of-self
 invariant_of-self c = set_below c.self.inside.bits c.args.o.0 c.self.invariant

@@ -2,7 +2,7 @@ use Rattle.std.proofs.Common.{◌∙◌, ap, sym, subst, nat_eq}
 use Rattle.std.proofs.lemmas.Nat.Bits.{shr_and_one}
 use Rattle.object_sets.specs.ObjectSets.{is_among, AreBelow, IsIncreasing}
 use Rattle.nv_base.proofs.Words.{is_among-objects_of, objects_of-below, objects_of-increasing}
-use Rattle.nv_base.proofs.sets.Set64.has.Goals as goal
+use Rattle.nv_base.proofs.sets.ObjSet.has.Goals as goal
 
 pub returns-clause-among : goal.returns-clause-among
 returns-clause-among c =
@@ -14,4 +14,4 @@ pub returns-clause-increasing : goal.returns-clause-increasing
 returns-clause-increasing c = subst IsIncreasing c.self.view_is (objects_of-increasing c.self.inside.bits)
 
 pub returns-clause-below : goal.returns-clause-below
-returns-clause-below c = subst (AreBelow 64) c.self.view_is (objects_of-below c.self.inside.bits)
+returns-clause-below c = subst (AreBelow 128) c.self.view_is (objects_of-below c.self.inside.bits)
