@@ -9,7 +9,7 @@ use Rattle.set_model.specs.Numbers.{first_index, sizes_of}
 use Rattle.device_model.specs.Words.{Words, words_from}
 use Rattle.device_model.specs.Layouts.{Kind, Layout, layout_of, kind_named, header_word, index_reads, read_place, reads, slot_place}
 use Rattle.device_model.specs.IndexWords.{Index, base_of, read_index}
-use Rattle.device_model.specs.Decoding.{Held, Stored, Blank, Damaged, Holds, decode, decode_kind, decided, durable_of, first_fault, first_true, held_by, index_in, is_faulty_head, is_faulty_read, read_objects}
+use Rattle.device_model.specs.Decoding.{Held, Stored, Blank, Damaged, Holds, decode_by, decode_kind, decided, durable_of, first_fault, first_true, held_by, index_in, is_faulty_head, is_faulty_read, read_objects}
 use Rattle.device_model.specs.Keeping.{IsHeld, KeepsIn, Keeps}
 use Rattle.device_model.specs.Places.{IsLaidOut}
 use Rattle.device_model.proofs.Writes.{length-words_from, word_from}
@@ -80,8 +80,8 @@ held-of (Holds kind h) = Some (kind, h)
 some-same : (x y : Kind × Held) → Some x ≡ Some y → x ≡ y
 some-same x y e = cc e
 
-pub decodes_keeps : (format : ℕ) (kind : Kind) (set : TaskSet) (h : Held) (words : Words) → ((k : Kind) → IsLaidOut set (layout_of k set)) → decode format set words ≡ Holds kind h → Keeps kind set h words
-unfolding decode decode_kind
+pub decodes_keeps : (format : ℕ) (kind : Kind) (set : TaskSet) (h : Held) (words : Words) → ((k : Kind) → IsLaidOut set (layout_of k set)) → decode_by format set words ≡ Holds kind h → Keeps kind set h words
+unfolding decode_by decode_kind
 decodes_keeps format kind set h words d e = by_blank (eqb (words 0) 0) refl
   where
     by_fault : (k : Kind) (fault : Option ℕ) → first_fault (layout_of k set) set words ≡ fault → decided k set words fault ≡ Holds kind h → Keeps kind set h words
@@ -101,12 +101,12 @@ decodes_keeps format kind set h words d e = by_blank (eqb (words 0) 0) refl
 
 -- ---- the first word, and the first fault
 
-pub decodes_blank : (format : ℕ) (set : TaskSet) (words : Words) → words 0 ≡ 0 → decode format set words ≡ Blank
-unfolding decode
+pub decodes_blank : (format : ℕ) (set : TaskSet) (words : Words) → words 0 ≡ 0 → decode_by format set words ≡ Blank
+unfolding decode_by
 decodes_blank format set words z = rw (eq-eqb (words 0) 0 z) refl
 
-pub decodes_other : (format : ℕ) (set : TaskSet) (words : Words) → words 0 ≢ 0 → kind_named format (words 0) ≡ None → decode format set words ≡ Damaged 0
-unfolding decode decode_kind
+pub decodes_other : (format : ℕ) (set : TaskSet) (words : Words) → words 0 ≢ 0 → kind_named format (words 0) ≡ None → decode_by format set words ≡ Damaged 0
+unfolding decode_by decode_kind
 decodes_other format set words z e =
     ap (λ (b : Bool). cond b Blank (decode_kind set words (kind_named format (words 0)))) (ne_eqb (words 0) 0 z) ∙ ap (decode_kind set words) e
 
@@ -122,8 +122,8 @@ first_true-some test from (suc n) j l m h t = ⊎_elim (later (λ p. first_true-
 
 pub decodes_damaged : (format : ℕ) (kind : Kind) (set : TaskSet) (words : Words) (j : ℕ) → words 0 ≢ 0 → kind_named format (words 0) ≡ Some kind → j < reads (layout_of kind set)
     → ((k : ℕ) → k < j → is_faulty_read (layout_of kind set) set words k ≡ false) → is_faulty_read (layout_of kind set) set words j ≡ true
-    → decode format set words ≡ Damaged (read_place (layout_of kind set) (words (layout_of kind set).root) j)
-unfolding decode decode_kind
+    → decode_by format set words ≡ Damaged (read_place (layout_of kind set) (words (layout_of kind set).root) j)
+unfolding decode_by decode_kind
 decodes_damaged format kind set words j z e a f t =
     ap (λ (b : Bool). cond b Blank (decode_kind set words (kind_named format (words 0)))) (ne_eqb (words 0) 0 z)
     ∙ ap (decode_kind set words) e
@@ -154,8 +154,8 @@ held_fits set l h k = (
 -- words without a fault
 pub decodes_held : (format : ℕ) (kind : Kind) (set : TaskSet) (words : Words) → words 0 ≢ 0 → kind_named format (words 0) ≡ Some kind
     → ((j : ℕ) → j < reads (layout_of kind set) → is_faulty_read (layout_of kind set) set words j ≡ false)
-    → decode format set words ≡ Holds kind (held_by (layout_of kind set) set words (read_index (length set.objects) (index_in (layout_of kind set) words)))
-unfolding decode decode_kind
+    → decode_by format set words ≡ Holds kind (held_by (layout_of kind set) set words (read_index (length set.objects) (index_in (layout_of kind set) words)))
+unfolding decode_by decode_kind
 decodes_held format kind set words z e f =
     ap (λ (b : Bool). cond b Blank (decode_kind set words (kind_named format (words 0)))) (ne_eqb (words 0) 0 z)
     ∙ ap (decode_kind set words) e

@@ -7,7 +7,7 @@ use Rattle.set_model.specs.Numbers.{first_index}
 use Rattle.device_model.specs.Words.{Words, words_from}
 use Rattle.device_model.specs.Layouts.{Kind, Plain, Paged, Migrated, Layout, layout_of, magic_of, kind_named, header_word, index_place, index_reads, reads, slot_place}
 use Rattle.device_model.specs.IndexWords.{Index, index_word, is_faulty, read_index}
-use Rattle.device_model.specs.Decoding.{Held, Blank, Holds, decode, decode_kind, decided, first_fault, first_true, held_by, index_in, is_faulty_head, is_faulty_read, read_objects}
+use Rattle.device_model.specs.Decoding.{Held, Blank, Holds, decode_by, decode_kind, decided, first_fault, first_true, held_by, index_in, is_faulty_head, is_faulty_read, read_objects}
 use Rattle.device_model.specs.Keeping.{KeepsIn, Keeps}
 use Rattle.device_model.specs.Places.{IsLaidOut}
 use Rattle.device_model.proofs.Writes.{words_are}
@@ -110,8 +110,8 @@ magic-is Migrated set = refl
 pub word-0 : (set : TaskSet) (l : Layout) (h : Held) (words : Words) → KeepsIn set l h words → words 0 ≡ l.magic
 word-0 set l h words k = k.header 0 (omega arith) (λ e. omega arith) (λ e. omega arith)
 
-pub keeps_decodes : (format : ℕ) (kind : Kind) (set : TaskSet) (h : Held) (words : Words) → kind_named format (magic_of kind) ≡ Some kind → IsLaidOut set (layout_of kind set) → Keeps kind set h words → decode format set words ≡ Holds kind h
-unfolding decode decode_kind
+pub keeps_decodes : (format : ℕ) (kind : Kind) (set : TaskSet) (h : Held) (words : Words) → kind_named format (magic_of kind) ≡ Some kind → IsLaidOut set (layout_of kind set) → Keeps kind set h words → decode_by format set words ≡ Holds kind h
+unfolding decode_by decode_kind
 keeps_decodes format kind set h words named d k =
     let magic : words 0 ≡ magic_of kind = word-0 set (layout_of kind set) h words k ∙ magic-is kind set in
     let nonzero : words 0 ≢ 0 = λ z. d.magic (sym (word-0 set (layout_of kind set) h words k) ∙ z) in

@@ -76,10 +76,14 @@ decode_kind set words None = Damaged 0
 decode_kind set words (Some kind) =
     decided kind set words (first_fault (layout_of kind set) set words)
 
--- what stands on a device of a format
-unfoldable pub decode : (format : ℕ) → TaskSet → Words → Stored
-decode format set words =
+-- what stands on a device, where those of a format are looked for
+unfoldable pub decode_by : (format : ℕ) → TaskSet → Words → Stored
+decode_by format set words =
     if words 0 == 0 then Blank else decode_kind set words (kind_named format (words 0))
+
+-- what stands on a device of a set
+abbrev pub decode : TaskSet → Words → Stored
+decode set words = decode_by set.format set words
 
 -- the kernel's model of what a device holds
 abbrev pub durable_of : Held → Durable

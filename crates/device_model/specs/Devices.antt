@@ -5,7 +5,7 @@ use Rattle.kernel_model.specs.Replay.{Base}
 use Rattle.kernel_model.specs.Durable.{Durable, last_of, state_left}
 use Rattle.set_model.specs.Sets.{TaskSet, object_at}
 use Rattle.device_model.specs.Words.{Change, Words, made, words_from}
-use Rattle.device_model.specs.Layouts.{Kind, Plain, Migrated, Layout, layout_of, need, read_place, slot_place}
+use Rattle.device_model.specs.Layouts.{IsKindOf, Kind, Plain, Migrated, Layout, layout_of, need, read_place, slot_place}
 use Rattle.device_model.specs.IndexWords.{Index, read_index}
 use Rattle.device_model.specs.Decoding.{Held, Holds, decode, held_by, index_in, is_faulty_read}
 use Rattle.device_model.specs.Keeping.{IsFree, IsHeld, Keeps}
@@ -72,9 +72,13 @@ IsHeldOn d h = IsHeld d.set (layout_on d) h
 abbrev pub KeepsOn : Device → Held → Words → Type 0
 KeepsOn d h words = Keeps d.kind d.set h words
 
--- they decode to a state, where devices of this format are looked for
-abbrev pub HoldsOn : (format : ℕ) → Device → Held → Words → Type 0
-HoldsOn format d h words = decode format d.set words ≡ Holds d.kind h
+-- they decode to a state
+abbrev pub HoldsOn : Device → Held → Words → Type 0
+HoldsOn d h words = decode d.set words ≡ Holds d.kind h
+
+-- devices of this kind are looked for: of format 1 for a set of format 1, and of each kind for one of format 2
+abbrev pub IsKindOn : Device → Type 0
+IsKindOn d = IsKindOf d.set.format d.kind
 
 -- a place on which a state does not rest
 abbrev pub IsFreeOn : Device → Held → ℕ → Type 0

@@ -31,9 +31,13 @@ adding = record {
   tasks = record { program = 0; arg = 7 } ∷ [];
 }
 
+-- the same in format 2
+abbrev pub adding_2 : TaskSet
+adding_2 = record adding { format = 2 }
+
 -- many objects and records
 abbrev pub greatest : TaskSet
-greatest = record adding {
+greatest = record adding_2 {
   records = 1024;
   objects = replicate 128 word_object;
 }
@@ -76,9 +80,9 @@ abbrev pub moved_first : Held
 moved_first = moved_held adding (at_first Plain)
 
 -- what the images of some writes decode to, from the first write on
-abbrev pub images_from : (format : ℕ) → TaskSet → List Change → Words → ℕ → ℕ → List Stored
-images_from format set log words k n =
-    map (λ i. decode format set (made (take i log) words)) (range_with_len k n)
+abbrev pub images_from : TaskSet → List Change → Words → ℕ → ℕ → List Stored
+images_from set log words k n =
+    map (λ i. decode set (made (take i log) words)) (range_with_len k n)
 
 abbrev pub PlainNumbers : Type 0
 PlainNumbers =
@@ -116,19 +120,19 @@ GreatestNumbers =
 -- inside a format nothing stands there, and then the first state
 abbrev pub FormatImages : Type 0
 FormatImages =
-    (images_from 1 adding (format_writes (layout_of Plain adding) adding) no_words 1 51
+    (images_from adding (format_writes (layout_of Plain adding) adding) no_words 1 51
     ≡ replicate 50 Blank ++ Holds Plain (at_first Plain) ∷ [])
-    × (images_from 2 adding (format_writes (layout_of Paged adding) adding) no_words 1 90
+    × (images_from adding_2 (format_writes (layout_of Paged adding) adding) no_words 1 90
     ≡ replicate 89 Blank ++ Holds Paged (at_first Paged) ∷ [])
 
 -- a commit is the state before it, until its last write
 abbrev pub CommitImages : Type 0
 CommitImages =
-    (images_from 1 adding (commit_writes (layout_of Plain adding) adding (at_first Plain) finish)
+    (images_from adding (commit_writes (layout_of Plain adding) adding (at_first Plain) finish)
     (first_words Plain) 0 16
     ≡ replicate 15 (Holds Plain (at_first Plain))
     ++ Holds Plain (committed (layout_of Plain adding) adding (at_first Plain) finish) ∷ [])
-    × (images_from 2 adding (commit_writes (layout_of Paged adding) adding (at_first Paged) finish)
+    × (images_from adding_2 (commit_writes (layout_of Paged adding) adding (at_first Paged) finish)
     (first_words Paged) 0 35
     ≡ replicate 34 (Holds Paged (at_first Paged))
     ++ Holds Paged (committed (layout_of Paged adding) adding (at_first Paged) finish) ∷ [])
@@ -139,35 +143,35 @@ CommitImages =
 -- a migration is the state of format 1, until its last write
 abbrev pub MigrationImages : Type 0
 MigrationImages =
-    images_from 2 adding (migration_writes adding (at_first Plain)) (first_words Plain) 0 69
+    images_from adding_2 (migration_writes adding (at_first Plain)) (first_words Plain) 0 69
     ≡ replicate 68 (Holds Plain (at_first Plain))
     ++ Holds Migrated moved_first ∷ []
 
 -- a boot counts
 abbrev pub BootImage : Type 0
 BootImage =
-    decode 1 adding (made (boot_writes (at_first Plain)) (first_words Plain))
+    decode adding (made (boot_writes (at_first Plain)) (first_words Plain))
     ≡ Holds Plain (booted (at_first Plain))
 
 -- a word in place of another, and what is damaged then
-abbrev pub damaged_at : (format place word : ℕ) → Words → Stored
-damaged_at format place word words = decode format adding (made ((place, word) ∷ []) words)
+abbrev pub damaged_at : TaskSet → (place word : ℕ) → Words → Stored
+damaged_at set place word words = decode set (made ((place, word) ∷ []) words)
 
 abbrev pub Damages : Type 0
 Damages =
-    (damaged_at 1 0 0 (first_words Plain) ≡ Blank)
-    × (damaged_at 1 0 1 (first_words Plain) ≡ Damaged 0)
-    × (damaged_at 1 1 0 (first_words Plain) ≡ Damaged 1)
-    × (damaged_at 1 1 2 (first_words Plain) ≡ Damaged 37)
-    × (damaged_at 1 3 2 (first_words Plain) ≡ Damaged 3)
-    × (damaged_at 1 21 0 (first_words Plain) ≡ Damaged 21)
-    × (damaged_at 1 22 1 (first_words Plain) ≡ Damaged 23)
-    × (damaged_at 1 30 2 (first_words Plain) ≡ Damaged 30)
-    × (damaged_at 1 31 2 (first_words Plain) ≡ Damaged 31)
-    × (damaged_at 1 32 0 (first_words Plain) ≡ Damaged 32)
-    × (damaged_at 1 33 1 (first_words Plain) ≡ Damaged 33)
-    × (damaged_at 2 22 0x80000002 (first_words Paged) ≡ Damaged 22)
-    × (damaged_at 2 22 1 (first_words Paged) ≡ Damaged 22)
-    × (damaged_at 2 22 0x80000001 (first_words Paged) ≡ Damaged 57)
-    × (damaged_at 2 36 1 (first_words Paged) ≡ Damaged 36)
-    × (damaged_at 1 0 0x324B564E (first_words Plain) ≡ Damaged 0)
+    (damaged_at adding 0 0 (first_words Plain) ≡ Blank)
+    × (damaged_at adding 0 1 (first_words Plain) ≡ Damaged 0)
+    × (damaged_at adding 1 0 (first_words Plain) ≡ Damaged 1)
+    × (damaged_at adding 1 2 (first_words Plain) ≡ Damaged 37)
+    × (damaged_at adding 3 2 (first_words Plain) ≡ Damaged 3)
+    × (damaged_at adding 21 0 (first_words Plain) ≡ Damaged 21)
+    × (damaged_at adding 22 1 (first_words Plain) ≡ Damaged 23)
+    × (damaged_at adding 30 2 (first_words Plain) ≡ Damaged 30)
+    × (damaged_at adding 31 2 (first_words Plain) ≡ Damaged 31)
+    × (damaged_at adding 32 0 (first_words Plain) ≡ Damaged 32)
+    × (damaged_at adding 33 1 (first_words Plain) ≡ Damaged 33)
+    × (damaged_at adding_2 22 0x80000002 (first_words Paged) ≡ Damaged 22)
+    × (damaged_at adding_2 22 1 (first_words Paged) ≡ Damaged 22)
+    × (damaged_at adding_2 22 0x80000001 (first_words Paged) ≡ Damaged 57)
+    × (damaged_at adding_2 36 1 (first_words Paged) ≡ Damaged 36)
+    × (damaged_at adding 0 0x324B564E (first_words Plain) ≡ Damaged 0)

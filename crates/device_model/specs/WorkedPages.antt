@@ -26,7 +26,7 @@ second_object = record { name = codes "y"; size = 1; slots = 3; first = 7 ∷ []
 -- two objects, 20 records, 12 tasks
 abbrev pub branching : TaskSet
 branching = record {
-  format = 1;
+  format = 2;
   cores = 1;
   memory = 1024;
   records = 20;
@@ -112,7 +112,7 @@ CountedPages =
 abbrev pub branching_image : Commit → ℕ → Stored
 branching_image c k =
     let log = commit_writes (layout_of Paged branching) branching branching_held c in
-    decode 2 branching (made (take k log) branching_words)
+    decode branching (made (take k log) branching_words)
 
 abbrev pub BranchingImages : Type 0
 BranchingImages =
@@ -133,7 +133,7 @@ acts = Boots ∷ Cuts finish 14 ∷ Boots ∷ Commits finish ∷ []
 
 abbrev pub JournalImages : Type 0
 JournalImages =
-    images_from 1 adding (journal (layout_of Plain adding) adding (at_first Plain) acts)
+    images_from adding (journal (layout_of Plain adding) adding (at_first Plain) acts)
     (first_words Plain) 0 32
     ≡ Holds Plain (at_first Plain) ∷ replicate 15 (Holds Plain (booted (at_first Plain)))
     ++ replicate 15 (Holds Plain (booted (booted (at_first Plain))))

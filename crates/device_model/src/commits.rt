@@ -12,13 +12,13 @@ ghost use Rattle.set_model.specs.Sets.{TaskSet, object_at};
 ghost use Rattle.set_model.specs.Limits.{IsTaskSet};
 ghost use Rattle.set_model.specs.Numbers.{sizes_of};
 ghost use Rattle.device_model.specs.Words.{Words, made, with_word, Change};
-ghost use Rattle.device_model.specs.Layouts.{IsKindOf, Kind, Layout, layout_of, slot_place, slots_at};
+ghost use Rattle.device_model.specs.Layouts.{Kind, Layout, layout_of, slot_place, slots_at};
 ghost use Rattle.device_model.specs.IndexWords.{Index, IsIndex, base_of};
 ghost use Rattle.device_model.specs.Decoding.{Held, durable_of};
 ghost use Rattle.device_model.specs.Keeping.{KeepsIn};
 ghost use Rattle.device_model.specs.Commits.{Commit, IsNext, IsUnderWay, commit_of, commit_turns, commit_writes, committed, writes_by, words_before_object, words_written};
 ghost use Rattle.device_model.specs.Counting.{sizes_on};
-ghost use Rattle.device_model.specs.Devices.{Device, HoldsOn, IsHeldOn, IsSlotWord, IsUnderWayOn, KeepsOn, commit_on, committed_on, image_after, layout_on, left_after, slot_on, slot_words_on};
+ghost use Rattle.device_model.specs.Devices.{IsKindOn, Device, HoldsOn, IsHeldOn, IsSlotWord, IsUnderWayOn, KeepsOn, commit_on, committed_on, image_after, layout_on, left_after, slot_on, slot_words_on};
 ghost use Rattle.device_model.specs.Places.{IsLaidOut};
 
 /// Each image of a commit before its last write keeps the state before.
@@ -26,10 +26,10 @@ pub fn cut_commit_keeps_state()
     ensures keeps { (d : Device) (h : Held) (c : Commit) (words : Words) (k : ℕ)
         → IsTaskSet d.set → IsNext d.set h c → KeepsOn d h words → k < length (commit_on d h c)
         → KeepsOn d h (image_after k (commit_on d h c) words) }
-    ensures decodes { (format : ℕ) (d : Device) (h : Held) (c : Commit) (words : Words) (k : ℕ)
-        → IsTaskSet d.set → IsKindOf format d.kind → IsNext d.set h c
-        → HoldsOn format d h words → k < length (commit_on d h c)
-        → HoldsOn format d h (image_after k (commit_on d h c) words) }
+    ensures decodes { (d : Device) (h : Held) (c : Commit) (words : Words) (k : ℕ)
+        → IsTaskSet d.set → IsKindOn d → IsNext d.set h c
+        → HoldsOn d h words → k < length (commit_on d h c)
+        → HoldsOn d h (image_after k (commit_on d h c) words) }
 {}
 
 /// After the last write they keep the state after.
@@ -37,9 +37,9 @@ pub fn whole_commit_keeps_next_state()
     ensures keeps { (d : Device) (h : Held) (c : Commit) (words : Words)
         → IsTaskSet d.set → IsNext d.set h c → KeepsOn d h words
         → KeepsOn d (committed_on d h c) (made (commit_on d h c) words) }
-    ensures decodes { (format : ℕ) (d : Device) (h : Held) (c : Commit) (words : Words)
-        → IsTaskSet d.set → IsKindOf format d.kind → IsNext d.set h c → HoldsOn format d h words
-        → HoldsOn format d (committed_on d h c) (made (commit_on d h c) words) }
+    ensures decodes { (d : Device) (h : Held) (c : Commit) (words : Words)
+        → IsTaskSet d.set → IsKindOn d → IsNext d.set h c → HoldsOn d h words
+        → HoldsOn d (committed_on d h c) (made (commit_on d h c) words) }
 {}
 
 /// A commit has as many writes as its turns. The commit of a finish has as many as the kernel's model counts, by the numbers of the set on its device; in format 1 these are the set's own.

@@ -5,10 +5,10 @@ ghost use Rattle.set_model.specs.Sets.{TaskSet};
 ghost use Rattle.set_model.specs.Limits.{IsTaskSet};
 ghost use Rattle.set_model.specs.Formatted.{formatted};
 ghost use Rattle.device_model.specs.Words.{Words, made};
-ghost use Rattle.device_model.specs.Layouts.{IsKindOf, Layout};
+ghost use Rattle.device_model.specs.Layouts.{Layout};
 ghost use Rattle.device_model.specs.Decoding.{Stored, decode, durable_of};
 ghost use Rattle.device_model.specs.Formats.{format_word, format_writes, formatted_held};
-ghost use Rattle.device_model.specs.Devices.{Device, HoldsOn, KeepsOn, first_on, format_on, image_after, layout_on, need_on};
+ghost use Rattle.device_model.specs.Devices.{IsKindOn, Device, HoldsOn, KeepsOn, first_on, format_on, image_after, layout_on, need_on};
 
 /// A format writes each word once, and word 0 twice.
 pub fn format_has_writes()
@@ -26,18 +26,18 @@ pub fn format_goes_in_order()
 
 /// From its first write until the magic is written no state stands there.
 pub fn cut_format_is_blank()
-    ensures { (format : ℕ) (d : Device) (words : Words) (k : ℕ)
+    ensures { (d : Device) (words : Words) (k : ℕ)
         → IsTaskSet d.set → 0 < k → k ≤ need_on d
-        → decode format d.set (image_after k (format_on d) words) ≡ Stored.Blank }
+        → decode d.set (image_after k (format_on d) words) ≡ Stored.Blank }
 {}
 
 /// After its last write the first state stands there.
 pub fn whole_format_keeps_first_state()
     ensures keeps { (d : Device) (words : Words) → IsTaskSet d.set
         → KeepsOn d (first_on d) (made (format_on d) words) }
-    ensures decodes { (format : ℕ) (d : Device) (words : Words)
-        → IsTaskSet d.set → IsKindOf format d.kind
-        → HoldsOn format d (first_on d) (made (format_on d) words) }
+    ensures decodes { (d : Device) (words : Words)
+        → IsTaskSet d.set → IsKindOn d
+        → HoldsOn d (first_on d) (made (format_on d) words) }
 {}
 
 /// It is the formatted state of the set, with no finish and no boot.

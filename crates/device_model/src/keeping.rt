@@ -7,21 +7,21 @@ ghost use Rattle.set_model.specs.Sets.{TaskSet};
 ghost use Rattle.set_model.specs.Limits.{IsTaskSet};
 ghost use Rattle.set_model.specs.Numbers.{sizes_of};
 ghost use Rattle.device_model.specs.Words.{Change, Words, made};
-ghost use Rattle.device_model.specs.Layouts.{IsKindOf, Layout, copy_place, kind_named, reads};
+ghost use Rattle.device_model.specs.Layouts.{Layout, copy_place, kind_named, reads};
 ghost use Rattle.device_model.specs.Decoding.{Held, Stored, decode, durable_of};
 ghost use Rattle.device_model.specs.Keeping.{IsHeld};
-ghost use Rattle.device_model.specs.Devices.{Device, HoldsOn, IsFreeOn, IsHeldOn, IsSlotWord, KeepsOn, held_on, index_on, is_faulty_on, layout_on, need_on, read_on, slot_on};
+ghost use Rattle.device_model.specs.Devices.{IsKindOn, Device, HoldsOn, IsFreeOn, IsHeldOn, IsSlotWord, KeepsOn, held_on, index_on, is_faulty_on, layout_on, need_on, read_on, slot_on};
 
 /// Words that keep a state decode to it.
 pub fn kept_state_is_decoded()
-    ensures { (format : ℕ) (d : Device) (h : Held) (words : Words)
-        → IsTaskSet d.set → IsKindOf format d.kind → KeepsOn d h words → HoldsOn format d h words }
+    ensures { (d : Device) (h : Held) (words : Words)
+        → IsTaskSet d.set → IsKindOn d → KeepsOn d h words → HoldsOn d h words }
 {}
 
 /// Words that decode to a state keep it.
 pub fn decoded_state_is_kept()
-    ensures { (format : ℕ) (d : Device) (h : Held) (words : Words)
-        → IsTaskSet d.set → HoldsOn format d h words → KeepsOn d h words }
+    ensures { (d : Device) (h : Held) (words : Words)
+        → IsTaskSet d.set → HoldsOn d h words → KeepsOn d h words }
 {}
 
 /// The index is read back from words that keep a state.
@@ -32,20 +32,20 @@ pub fn kept_index_is_read_back()
 
 /// Word 0 tells first: 0 is no state at all, and a word that names no kind is damage.
 pub fn first_word_tells()
-    ensures blank { (format : ℕ) (set : TaskSet) (words : Words)
-        → words 0 ≡ 0 → decode format set words ≡ Stored.Blank }
-    ensures other { (format : ℕ) (set : TaskSet) (words : Words)
-        → (words 0 ≡ 0 → ⊥) → kind_named format (words 0) ≡ Option.None
-        → decode format set words ≡ Stored.Damaged 0 }
+    ensures blank { (set : TaskSet) (words : Words)
+        → words 0 ≡ 0 → decode set words ≡ Stored.Blank }
+    ensures other { (set : TaskSet) (words : Words)
+        → (words 0 ≡ 0 → ⊥) → kind_named set.format (words 0) ≡ Option.None
+        → decode set words ≡ Stored.Damaged 0 }
 {}
 
 /// What is damaged is the place of the first faulty word, in the order of reading.
 pub fn first_faulty_word_is_damage()
-    ensures { (format : ℕ) (d : Device) (words : Words) (j : ℕ)
-        → (words 0 ≡ 0 → ⊥) → kind_named format (words 0) ≡ Option.Some d.kind
+    ensures { (d : Device) (words : Words) (j : ℕ)
+        → (words 0 ≡ 0 → ⊥) → kind_named d.set.format (words 0) ≡ Option.Some d.kind
         → j < reads (layout_on d) → ((k : ℕ) → k < j → is_faulty_on d words k ≡ false)
         → is_faulty_on d words j ≡ true
-        → decode format d.set words ≡ Stored.Damaged (read_on d words j) }
+        → decode d.set words ≡ Stored.Damaged (read_on d words j) }
 {}
 
 /// A state on a device is one that the kernel's model may start from.
@@ -57,10 +57,10 @@ pub fn held_state_is_fit()
 
 /// Words without a fault are those of a state.
 pub fn faultless_words_are_held()
-    ensures { (format : ℕ) (d : Device) (words : Words)
-        → (words 0 ≡ 0 → ⊥) → kind_named format (words 0) ≡ Option.Some d.kind
+    ensures { (d : Device) (words : Words)
+        → (words 0 ≡ 0 → ⊥) → kind_named d.set.format (words 0) ≡ Option.Some d.kind
         → ((j : ℕ) → j < reads (layout_on d) → is_faulty_on d words j ≡ false)
-        → HoldsOn format d (held_on d words) words }
+        → HoldsOn d (held_on d words) words }
 {}
 
 /// Writes to places on which a state does not rest leave it.

@@ -33,8 +33,8 @@ pub fn cut_migration_keeps_state()
         → IsTaskSet set → KeepsOn (plain set) h words → k < length (migration_writes set h)
         → KeepsOn (plain set) h (image_after k (migration_writes set h) words) }
     ensures decodes { (set : TaskSet) (h : Held) (words : Words) (k : ℕ)
-        → IsTaskSet set → HoldsOn 2 (plain set) h words → k < length (migration_writes set h)
-        → HoldsOn 2 (plain set) h (image_after k (migration_writes set h) words) }
+        → IsTaskSet set → set.format ≡ 2 → HoldsOn (plain set) h words → k < length (migration_writes set h)
+        → HoldsOn (plain set) h (image_after k (migration_writes set h) words) }
 {}
 
 /// After the last write they keep it in format 2.
@@ -43,8 +43,8 @@ pub fn whole_migration_keeps_moved_state()
         → IsTaskSet set → KeepsOn (plain set) h words
         → KeepsOn (migrated set) (moved_held set h) (made (migration_writes set h) words) }
     ensures decodes { (set : TaskSet) (h : Held) (words : Words)
-        → IsTaskSet set → HoldsOn 2 (plain set) h words
-        → HoldsOn 2 (migrated set) (moved_held set h) (made (migration_writes set h) words) }
+        → IsTaskSet set → set.format ≡ 2 → HoldsOn (plain set) h words
+        → HoldsOn (migrated set) (moved_held set h) (made (migration_writes set h) words) }
 {}
 
 /// It is the same state to the kernel's model.

@@ -14,7 +14,7 @@ use Rattle.kernel_model.specs.Replay.{Base}
 use Rattle.kernel_model.specs.Events.{Power, On, Boot, State, Event, state_after, still_owed, opened}
 use Rattle.kernel_model.specs.Fit.{HasIds, IsMachine}
 use Rattle.device_model.specs.Words.{Change, Words, made}
-use Rattle.device_model.specs.Decoding.{Stored, decode, durable_of}
+use Rattle.device_model.specs.Decoding.{Stored, decode_by, durable_of}
 use Rattle.device_model.specs.Decoding as decoding
 use Rattle.device_model.specs.Keeping.{KeepsIn}
 use Rattle.device_model.specs.Layouts.{IsKindOf, Kind, layout_of}
@@ -67,7 +67,7 @@ holds d r = let h = words_hold d.setting d.base d.last d.tables d.words d.state 
 
 -- what they hold is what they decode to
 pub holding_decodes : {M : Type 0} → (format : ℕ) (kind : Kind) (d : Configuration M) (words : Words) (s : State M) → IsSetting d.setting → d.setting.layout ≡ layout_of kind d.setting.set → IsKindOf format kind → Holds d words s →
-    (h : decoding.Held) × (decode format d.setting.set words ≡ Stored.Holds kind h) × (durable_of h ≡ durable_in d s)
+    (h : decoding.Held) × (decode_by format d.setting.set words ≡ Stored.Holds kind h) × (durable_of h ≡ durable_in d s)
 holding_decodes format kind d words s fit e k h =
     (h.held, keeps_decodes format kind d.setting.set h.held words k (subst (IsLaidOut d.setting.set) e fit.laid_out) (subst (λ l. KeepsIn d.setting.set l h.held words) e h.keeps), h.is_durable)
 

@@ -42,21 +42,30 @@ pub record Stage : Type 0 where
   pub scene : Scene
   pub set : TaskSet
 
+-- the format of the sets that lie on a kind of device
+abbrev pub format_of : Kind → ℕ
+format_of Plain = 1
+format_of Paged = 2
+format_of Migrated = 2
+
+abbrev pub set_on : Stage → TaskSet
+set_on x = record x.set { format = format_of x.kind }
+
 abbrev pub layout_on : Stage → Layout
-layout_on x = layout_of x.kind x.set
+layout_on x = layout_of x.kind (set_on x)
 
 abbrev pub setting_of : Stage → Setting Task
-setting_of x = record { steps = machine_of x.scene; set = x.set; layout = layout_on x }
+setting_of x = record { steps = machine_of x.scene; set = set_on x; layout = layout_on x }
 
 -- the base of a scene, in slot 0 of each object
 abbrev pub first_index_of : Stage → Index
-first_index_of x = let base = x.scene.base in record { clock = base.clock; number = base.number; next = base.next; last = None; slots = first_slots x.set; tasks = base.tasks }
+first_index_of x = let base = x.scene.base in record { clock = base.clock; number = base.number; next = base.next; last = None; slots = first_slots (set_on x); tasks = base.tasks }
 
 abbrev pub first_words_of : Stage → Words
-first_words_of x = fresh_word (layout_on x) x.set (first_index_of x) x.scene.base.objects
+first_words_of x = fresh_word (layout_on x) (set_on x) (first_index_of x) x.scene.base.objects
 
 abbrev pub first_on : Stage → Power → Tables Task
-first_on x On = let index = first_index_of x in record { power = On; boots = x.scene.boots; owed = None; entries = []; seats = replicate x.scene.cores Vacant; index = index; root = (layout_on x).first_root; chains = reopened x.set index }
+first_on x On = let index = first_index_of x in record { power = On; boots = x.scene.boots; owed = None; entries = []; seats = replicate x.scene.cores Vacant; index = index; root = (layout_on x).first_root; chains = reopened (set_on x) index }
 first_on x (Boot left) = record { power = Boot left; boots = x.scene.boots; owed = None; entries = []; seats = replicate x.scene.cores Vacant; index = no_index; root = 0; chains = [] }
 
 abbrev pub first_tables_of : Stage → Tables Task
@@ -70,12 +79,6 @@ goes x events = course (setting_of x) (first_words_of x) (first_tables_of x) eve
 abbrev pub prints : Stage → List Event → List Line
 prints x events = shown (goes x events).lines
 
--- the format of the sets that lie on a kind of device
-abbrev pub format_of : Kind → ℕ
-format_of Plain = 1
-format_of Paged = 2
-format_of Migrated = 2
-
 -- the objects that stand on a device, if it holds a state
 abbrev pub objects_in : Stored → Option Objects
 objects_in Blank = None
@@ -83,7 +86,7 @@ objects_in (Damaged place) = None
 objects_in (Holds kind h) = Some h.objects
 
 abbrev pub stands_in : Stage → List Event → Option Objects
-stands_in x events = objects_in (decode (format_of x.kind) x.set (made (goes x events).log (first_words_of x)))
+stands_in x events = objects_in (decode (set_on x) (made (goes x events).log (first_words_of x)))
 
 -- one task on one core: 15 writes, and the object in its other slot
 abbrev pub Smallest : Type 0

@@ -51,9 +51,9 @@ pub fn opened_tables_represent<M>()
 /// Words that stand for a state keep what is durable in it, and decode to it.
 pub fn words_hold_durable<M>()
     ensures keep { (c : Configuration M) → IsRepresented c → Holds c c.words c.state }
-    ensures decode { (format : ℕ) (kind : Kind) (c : Configuration M) → IsRepresented c
-        → c.setting.layout ≡ layout_of kind c.setting.set → IsKindOf format kind
-        → (h : Held) × (decode format c.setting.set c.words ≡ Stored.Holds kind h) × (durable_of h ≡ durable_in c c.state) }
+    ensures decode { (kind : Kind) (c : Configuration M) → IsRepresented c
+        → c.setting.layout ≡ layout_of kind c.setting.set → IsKindOf c.setting.set.format kind
+        → (h : Held) × (decode c.setting.set c.words ≡ Stored.Holds kind h) × (durable_of h ≡ durable_in c c.state) }
 {}
 
 /// A write to the device changes no table, but how many writes are left.

@@ -35,9 +35,9 @@ pub fn each_image_holds_durable<M>()
         → k ≤ length (course_at c events).log → (n : ℕ) × (n ≤ length events) × (writes_at c events n ≡ k) }
     ensures holds { (c : Configuration M) (events : List Event) (n k : ℕ) → IsRepresented c → HasIdsFor c events
         → n ≤ length events → writes_at c events n ≡ k → Holds c (image_at c events k) (state_at c events n) }
-    ensures decodes { (format : ℕ) (kind : Kind) (c : Configuration M) (events : List Event) (n k : ℕ) → IsRepresented c → HasIdsFor c events
-        → c.setting.layout ≡ layout_of kind c.setting.set → IsKindOf format kind → n ≤ length events → writes_at c events n ≡ k
-        → (h : Held) × (decode format c.setting.set (image_at c events k) ≡ Stored.Holds kind h) × (durable_of h ≡ durable_in c (state_at c events n)) }
+    ensures decodes { (kind : Kind) (c : Configuration M) (events : List Event) (n k : ℕ) → IsRepresented c → HasIdsFor c events
+        → c.setting.layout ≡ layout_of kind c.setting.set → IsKindOf c.setting.set.format kind → n ≤ length events → writes_at c events n ≡ k
+        → (h : Held) × (decode c.setting.set (image_at c events k) ≡ Stored.Holds kind h) × (durable_of h ≡ durable_in c (state_at c events n)) }
 {}
 
 /// An event whose write may or may not have been made leaves what is durable before it, or after it.

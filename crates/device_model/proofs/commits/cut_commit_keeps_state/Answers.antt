@@ -8,4 +8,4 @@ pub returns-clause-keeps : goal.returns-clause-keeps
 returns-clause-keeps g = λ d h c words k t n s a. commit_prefix d.set (layout_on d) h c words k (laid_out_set d.kind d.set t) n s a
 
 pub returns-clause-decodes : goal.returns-clause-decodes
-returns-clause-decodes g = λ format d. cut_commit format d.kind d.set
+returns-clause-decodes g = λ d. cut_commit d.set.format d.kind d.set

@@ -8,4 +8,4 @@ pub returns-clause-keeps : goal.returns-clause-keeps
 returns-clause-keeps g = λ d h c words t n s. commit_whole d.set (layout_on d) h c words (laid_out_set d.kind d.set t) n s
 
 pub returns-clause-decodes : goal.returns-clause-decodes
-returns-clause-decodes g = λ format d. whole_commit format d.kind d.set
+returns-clause-decodes g = λ d. whole_commit d.set.format d.kind d.set

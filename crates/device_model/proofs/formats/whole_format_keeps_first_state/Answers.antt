@@ -8,4 +8,4 @@ pub returns-clause-keeps : goal.returns-clause-keeps
 returns-clause-keeps g = λ d words t. format_whole d.set (layout_on d) words (laid_out_set d.kind d.set t) t
 
 pub returns-clause-decodes : goal.returns-clause-decodes
-returns-clause-decodes g = λ format d. whole_format format d.kind d.set
+returns-clause-decodes g = λ d. whole_format d.set.format d.kind d.set

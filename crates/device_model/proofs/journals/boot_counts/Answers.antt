@@ -8,4 +8,4 @@ pub returns-clause-keeps : goal.returns-clause-keeps
 returns-clause-keeps g = λ d h words t s. boot_whole d.set (layout_on d) h words (laid_out_set d.kind d.set t) s
 
 pub returns-clause-decodes : goal.returns-clause-decodes
-returns-clause-decodes g = λ format d. boot_decodes format d.kind d.set
+returns-clause-decodes g = λ d. boot_decodes d.set.format d.kind d.set

@@ -8,4 +8,4 @@ pub returns-clause-keeps : goal.returns-clause-keeps
 returns-clause-keeps g = λ d h acts words k t n s. journal_image d.set (layout_on d) h acts words k (laid_out_set d.kind d.set t) n s
 
 pub returns-clause-decodes : goal.returns-clause-decodes
-returns-clause-decodes g = λ format d. journal_decodes format d.kind d.set
+returns-clause-decodes g = λ d. journal_decodes d.set.format d.kind d.set

@@ -2,4 +2,4 @@ use Rattle.device_model.proofs.Decoded.{decoded}
 use Rattle.device_model.proofs.keeping.kept_state_is_decoded.Goals as goal
 
 pub returns : goal.returns
-returns g = λ format d. decoded format d.kind d.set
+returns g = λ d. decoded d.set.format d.kind d.set

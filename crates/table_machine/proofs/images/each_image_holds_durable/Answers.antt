@@ -6,5 +6,5 @@ pub returns : goal.returns
 returns g c = record {
   reached = λ d events k r ids l. image_reached d events k r ids l;
   holds = λ d events n k r ids l w. image_holds d events n k r ids l w;
-  decodes = λ format kind d events n k r ids e f l w. holding_decodes format kind d (image_at d events k) (state_at d events n) r.setting e f (image_holds d events n k r ids l w);
+  decodes = λ kind d events n k r ids e f l w. holding_decodes d.setting.set.format kind d (image_at d events k) (state_at d events n) r.setting e f (image_holds d events n k r ids l w);
 }
