@@ -6,8 +6,9 @@ advise() {
     while IFS='|' read -r _ name number when _ todo _; do
         name=${name// /}
         if [[ ${name,,} == "$cause" && $number == *[0-9]* ]]; then
-            echo "  why: ${when# }"
-            echo "  what to do: ${todo# }"
+            when=${when# } todo=${todo# }
+            echo "  why: ${when% }"
+            echo "  what to do: ${todo% }"
             break
         fi
     done <"$root/$page" >&2
