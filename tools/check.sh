@@ -20,9 +20,13 @@ line_of() { tail -n "+$2" "$1" | head -n 1 | head -c 200 | cat -v; }
 
 # Tells of the answer `error script LINE CAUSE` to a script.
 explain() {
-    local name=$1 script=$2 line=$3 cause=$4 page=docs/script.md
+    local name=$1 script=$2 line=$3 cause=$4 page=docs/script.md text
     echo "$name:$line: refused: $cause" >&2
-    [ "$line" = 0 ] || echo "    $(line_of "$script" "$line")" >&2
+    # (line 0 is the whole input)
+    if [ "$line" != 0 ]; then
+        text=$(line_of "$script" "$line")
+        echo "    ${text:-(here the input ends)}" >&2
+    fi
     [[ $cause == code\ * ]] && page=docs/assembler.md
     advise "$page" "${cause#code }"
 }
