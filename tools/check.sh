@@ -41,6 +41,7 @@ check_script() {
         exit 4
     }
     answer pack <"$room/script" >"$room/answer" || status=$?
+    [ "$status" != 5 ] || fail "no room for temporary files"
     if [ "$status" = 0 ]; then
         echo "$name: accepted"
         tell_if_not_built "$room/script"

@@ -21,7 +21,7 @@ build() {
 wait_for() {
     flock -n "$1" && return
     say "$2; waiting for it"
-    attend flock "$1" || fail "cannot lock"
+    attend flock "$1" </dev/null || fail "cannot lock"
 }
 
 # Proves until the sources have not changed meanwhile, so that it is known what the program was built of.

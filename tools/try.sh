@@ -9,15 +9,26 @@ try_program() {
         echo "error read"
         exit 4
     }
-    say "building without proofs, which takes about half a minute"
-    local status=0 line last=
+    say "building without proofs, which takes about a minute"
+    local status=0
     attend rt_on_program try -- "$@" <"$room/input" 2>"$room/said" || status=$?
-    while IFS= read -r line; do last=$line; done <"$room/said"
     # The statuses of rt itself are the same numbers as the program's, so its last line tells whether the program ended.
-    if [[ $last != run=ended* ]]; then
+    if [[ $(tail -n 1 "$room/said") != run=ended* ]]; then
         cat "$room/said" >&2
         fail "the checked build gave no answer"
     fi
+    tell_rest
     say "nothing of this answer was proved; without the word try it comes from the proved program"
     return "$status"
+}
+
+# Hands on what was said beside rt's own lines on the two runs that it makes.
+tell_rest() {
+    local line
+    while IFS= read -r line; do
+        case $line in
+        'interpreter: '* | 'checked: '* | 'run='*) ;;
+        *) echo "$line" >&2 ;;
+        esac
+    done <"$room/said"
 }
