@@ -65,7 +65,7 @@ prove_crates() {
     local number at_once
     number=$(crates_of_program | wc -l)
     at_once=$(checks_at_once)
-    say "proving the program's $number crates first, $at_once at a time; that can take a quarter of an hour"
+    say "proving the program's $number crates first, $at_once at a time; the first time that takes a quarter of an hour or more"
     SECONDS=0
     mkfifo "$room/said"
     # (rt all takes the crate of its folder, and those that this one uses)
