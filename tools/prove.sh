@@ -87,7 +87,7 @@ tell_progress() {
         status=0
         IFS= read -r -t 60 line || status=$?
         if [ "$status" = 0 ]; then
-            echo "$line" >>"$room/log"
+            printf '%s\n' "$line" >>"$room/log"
             [[ $line == "== "* && $line != "== summary" ]] || continue
             finished=$((finished + 1))
             say "crate $finished of $number: ${line#== }, $(time_so_far)"
@@ -114,7 +114,7 @@ tell_failure() {
     while IFS= read -r line; do
         case $line in
         'statements '* | 'library '* | 'logic'* | 'crate '* | 'by-macro'* | 'note: '* | *': proved' | *': ok') ;;
-        *) echo "$line" ;;
+        *) printf '%s\n' "$line" ;;
         esac
     done <"$room/log" | tail -n 20 >&2
     mkdir -p "$root/out" && mv "$room/log" "$log" || fail "the program was not built"
@@ -148,17 +148,19 @@ is_of_gate() {
     [[ $began =~ ^[1-9][0-9]+$ && $changed =~ ^[1-9][0-9]+$ ]] && [ "$changed" -lt "$began" ]
 }
 
-# Prints when the first out/ was made, and when a source or a proof was last changed, in nanoseconds.
+# Prints when the first out/ was made, and when a source or a proof was last changed, in nanoseconds. Nothing is printed where
+# a crate has no out/. The folders count too, since a file or a crate that is gone or came from elsewhere changes them.
 times_of_gate() (
+    set -o pipefail
     shopt -s globstar nullglob
     cd "$root" || exit
     outs=()
-    files=()
+    files=(crates crates.txt)
     while IFS=: read -r name _; do
         outs+=("crates/$name/out")
         files+=("crates/$name"/{src,specs,proofs}/**)
     done < <(crates_of_program)
-    began=$(stat -c %.9W -- "${outs[@]}" | sort -n | head -n 1) || exit
-    changed=$(stat -c %.9Z -- "${files[@]}" crates.txt | sort -n | tail -n 1)
+    began=$(stat -c %.9W -- "${outs[@]}" 2>/dev/null | sort -n | head -n 1) || exit
+    changed=$(stat -c %.9Z -- "${files[@]}" | sort -n | tail -n 1) || exit
     echo "${began//./} ${changed//./}"
 )

@@ -28,7 +28,7 @@ tell_rest() {
     while IFS= read -r line; do
         case $line in
         'interpreter: '* | 'checked: '* | 'run='*) ;;
-        *) echo "$line" >&2 ;;
+        *) printf '%s\n' "$line" >&2 ;;
         esac
     done <"$room/said"
 }
