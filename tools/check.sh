@@ -1,0 +1,61 @@
+# Says of a script whether it is accepted, and of one that is refused, where, why and what to do.
+
+# Says what a page's table of refusals has on a cause. Its rows are | Cause | number | when | example | what to do |.
+advise() {
+    local page=$1 cause=$2 name number when todo
+    while IFS='|' read -r _ name number when _ todo _; do
+        name=${name// /}
+        if [[ ${name,,} == "$cause" && $number == *[0-9]* ]]; then
+            when=${when# } todo=${todo# }
+            echo "  why: ${when% }"
+            echo "  what to do: ${todo% }"
+            break
+        fi
+    done <"$root/$page" >&2
+    echo "  see $page, Refusals" >&2
+}
+
+# Prints a line of a script, as far as it is wanted. Anything may stand there, so only printable bytes reach the terminal.
+line_of() { tail -n "+$2" "$1" | head -n 1 | head -c 200 | cat -v; }
+
+# Tells of the answer `error script LINE CAUSE` to a script.
+explain() {
+    local name=$1 script=$2 line=$3 cause=$4 page=docs/script.md text
+    echo "$name:$line: refused: $cause" >&2
+    # (line 0 is the whole input)
+    if [ "$line" != 0 ]; then
+        text=$(line_of "$script" "$line")
+        echo "    ${text:-(here the input ends)}" >&2
+    fi
+    [[ $cause == code\ * ]] && page=docs/assembler.md
+    advise "$page" "${cause#code }"
+}
+
+# Checks the standard input, which is called NAME in what is said. Returns the program's own status.
+check_script() {
+    local name=$1 status=0 line cause
+    make_room
+    # `pack` reads a script whole, and answers each refusal as `run` does. No input may have more bytes than these.
+    attend head -c 1048577 >"$room/script" || {
+        echo "error read"
+        exit 4
+    }
+    answer pack <"$room/script" >"$room/answer" || status=$?
+    [ "$status" != 5 ] || fail "no room for temporary files"
+    if [ "$status" = 0 ]; then
+        echo "$name: accepted"
+        tell_if_not_built "$room/script"
+    else
+        cat "$room/answer"
+        read -r _ _ line cause <"$room/answer"
+        [ "$status" = 3 ] && explain "$name" "$room/script" "$line" "$cause"
+    fi
+    return "$status"
+}
+
+# An accepted script may be one of which no run is built yet, which is no fault of the script.
+tell_if_not_built() {
+    local status=0
+    answer run <"$1" >/dev/null || status=$?
+    [ "$status" = 11 ] && say "no run of it is built yet: \`run\` answers it by error notbuilt (docs/manual.md, Answers)"
+}
