@@ -185,7 +185,7 @@ fn refused_scripts_are_named(rt: HostRuntime) -> Result<(), Fail> {
         assert!(rt; refuses(&rt, word, long.as_slice(), b"error script 0 long\n")?);
     }
     assert!(rt; refuses(&rt, "run", b"", b"error script 1 end\n")?);
-    assert!(rt; refuses(&rt, "pack", b"nvk 2\n", b"error script 1 range\n")?);
+    assert!(rt; refuses(&rt, "pack", b"nvk 3\n", b"error script 1 range\n")?);
     let code =
         b"nvk 1\ncores 1\nmemory 1024\nrecords 1\nobject x 1 2 5\nprogram add 100\naddi a0, a0, 4096\nend\nrun\n";
     let (status, put) = ends(&rt, &["run"], code, (&[], &[]))?;
