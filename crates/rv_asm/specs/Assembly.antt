@@ -1,5 +1,6 @@
 -- The words that lines stand for, or the first faulty line and its first cause. This project's own.
 use Rattle.std.specs.Prelude.{ℕ, ◌+◌, ◌*◌, nat_lt, ℤ, pos, ◌-ℤ◌, Bool, false, List, [], ◌∷◌, ◌++◌, length, map, Option, Some, None, Result, Ok, Err, if◌then◌else◌}
+use Rattle.nv_base.specs.declared.limits.TheConstants.{MAX_CODE}
 use Rattle.rv_isa.specs.Fields.{unsigned}
 use Rattle.rv_isa.specs.Words.{word_of}
 use Rattle.rv_isa.specs.declared.instruction.Instr.{Instr}
@@ -55,7 +56,7 @@ label_taken found n (Some label) = if is_before (found label) n then Err Twice e
 
 -- at most 1,024 words
 abbrev pub fitting : List ℕ → List ℕ → Result (List ℕ) AsmCause
-fitting words more = if nat_lt 1024 (length words + length more) then Err TooLong else Ok (words ++ more)
+fitting words more = if nat_lt MAX_CODE (length words + length more) then Err TooLong else Ok (words ++ more)
 
 -- the words after line n, or its first cause
 unfoldable pub line_after : Found → ℕ → List ℕ → Line → Result (List ℕ) AsmCause

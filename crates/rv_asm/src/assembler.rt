@@ -13,6 +13,7 @@ use crate::cause::{AsmCause, AsmRefusal, LineRefusal};
 use crate::labels::{Labels, Spot};
 use crate::lines::parse;
 use crate::words::{Code, code_of, count};
+use nv_base::limits::{MAX_CODE, MAX_INPUT};
 use plain_text::Lines;
 use std::alloc::{AllocError, Global};
 
@@ -46,7 +47,7 @@ fn note_line<'a>(
 /// The labels of all lines.
 #[tactic(auto, unfolding(crate::specs::Labels::labels_from))]
 fn labels_of<'a>(alloc: Global, lines: &[&'a [u8]]) -> Result<Labels<'a>, AllocError>
-    requires { length lines.now ≤ 1048576 }
+    requires { length lines.now ≤ MAX_INPUT }
     ensures { IfOk result (λ labels. find_in labels ≡ labels_in (map parsed (map (λ line. line.now) lines.now))) }
 {
     let mut labels = Labels::new(alloc);
@@ -94,14 +95,14 @@ fn take_line(
     number: u32,
     bytes: &[u8],
 ) -> Result<(), LineRefusal>
-    requires { vec_len words.old ≤ 1024 }
+    requires { vec_len words.old ≤ MAX_CODE }
     ensures line { Leaves words.new.items result (line_after (find_in labels.now) number words.old.items (parsed bytes.now)) }
-    ensures few { OnOk result (vec_len words.new ≤ 1024) }
+    ensures few { OnOk result (vec_len words.new ≤ MAX_CODE) }
 {
     let line = parse(bytes);
     check_label(labels, number, line.label)?;
     let code = code_of(labels, words.len() as u32, line.body?)?;
-    if 1024 < words.len() + code.count() as usize {
+    if usize::from(MAX_CODE) < words.len() + code.count() as usize {
         return Err(LineRefusal::Fault(AsmCause::TooLong));
     }
     push_code(words, code)?;
@@ -111,7 +112,7 @@ fn take_line(
 /// The words of lines whose labels are known.
 #[tactic(auto, unfolding(crate::specs::Assembly::lines_after))]
 fn encode_lines(alloc: Global, labels: &Labels<'_>, lines: &[&[u8]]) -> Result<Vec<u32>, AsmRefusal>
-    requires { length lines.now ≤ 1048576 }
+    requires { length lines.now ≤ MAX_INPUT }
     ensures { Gives (λ words. words.items) result (lines_after (find_in labels.now) 1 [] (map parsed (map (λ line. line.now) lines.now))) }
 {
     let mut words = Vec::new(alloc);
@@ -128,7 +129,7 @@ fn encode_lines(alloc: Global, labels: &Labels<'_>, lines: &[&[u8]]) -> Result<V
 /// The words of lines, which are counted from 1: each without its line feed, and with its comment.
 /// `At` the first faulty line with its first cause, `NoMemory` where memory ran out.
 pub fn assemble_lines(alloc: Global, lines: &[&[u8]]) -> Result<Vec<u32>, AsmRefusal>
-    requires { length lines.now ≤ 1048576 }
+    requires { length lines.now ≤ MAX_INPUT }
     ensures { Gives (λ words. words.items) result (assembled (map (λ line. line.now) lines.now)) }
 {
     let labels = labels_of(alloc, lines)?;
@@ -146,7 +147,7 @@ fn lines_of(alloc: Global, bytes: &[u8]) -> Result<Vec<&[u8]>, AllocError>
 /// The words of a text of at most 1,048,576 bytes. `At` the first faulty line, counted from 1, with its first cause,
 /// `NoMemory` where memory ran out.
 pub fn assemble(alloc: Global, text: &str) -> Result<Vec<u32>, AsmRefusal>
-    requires { length text.now ≤ 1048576 }
+    requires { length text.now ≤ MAX_INPUT }
     ensures { Gives (λ words. words.items) result (assembled (lines_in text.now)) }
 {
     let lines = lines_of(alloc, text.as_bytes())?;

@@ -12,6 +12,8 @@ ghost use Rattle.rv_asm.specs.Laws.{FirstFault, values_after};
 ghost use Rattle.rv_asm.specs.Loads.{loads};
 ghost use Rattle.rv_asm.specs.Numbers.{is_word};
 
+use nv_base::limits::MAX_CODE;
+
 /// A refusal is at the first line that is faulty: all lines before it are taken, and it is not, for this cause.
 pub fn refusal_is_first()
     ensures { (lines : List (List ℕ)) → (e : Error) → assembled lines ≡ Err e → FirstFault lines e }
@@ -19,7 +21,7 @@ pub fn refusal_is_first()
 
 /// Lines that are taken have at most 1,024 words.
 pub fn words_are_few()
-    ensures { (lines : List (List ℕ)) → (words : List ℕ) → assembled lines ≡ Ok words → length words ≤ 1024 }
+    ensures { (lines : List (List ℕ)) → (words : List ℕ) → assembled lines ≡ Ok words → length words ≤ MAX_CODE }
 {}
 
 /// A number of 32 bits is in the range of an instruction's form exactly where the instruction with this value is an

@@ -15,6 +15,7 @@ use crate::operations::{
     by_register, compute, put_in, read_in, size_of_load, size_of_store, taken,
 };
 use crate::services::{Service, Step};
+use nv_base::limits::MAX_MEMORY;
 use nv_base::{NoMemory, TrapCause};
 use rv_isa::{BranchOp, Instr, LoadOp, Reg, StoreOp, decode};
 use std::alloc::Global;
@@ -36,6 +37,7 @@ pub struct Machine {
 
 impl Model for Machine {
     ghost use Rattle.std.specs.Prelude.{◌≡◌, ◌≤◌, length, slice_index};
+    ghost use Rattle.nv_base.specs.declared.limits.TheConstants.{MAX_MEMORY};
     ghost use Rattle.rv_core.specs.State.{MachineState};
 
     ghost Value = { MachineState };
@@ -44,14 +46,14 @@ impl Model for Machine {
 
     ghost use Rattle.rv_core.specs.Bytes.{IsZeroFrom};
 
-    ghost invariant = { λ m. (length m.memory.items ≤ 65536) × (slice_index m.registers 0 ≡ 0)
+    ghost invariant = { λ m. (length m.memory.items ≤ MAX_MEMORY) × (slice_index m.registers 0 ≡ 0)
         × (m.used ≤ length m.memory.items) × IsZeroFrom m.used m.memory.items };
 }
 
 impl Machine {
     /// Takes room for so many bytes of memory, all zero, with no task.
     pub fn new(alloc: Global, bytes: u32) -> Result<Machine, NoMemory>
-        requires { bytes ≤ 65536 }
+        requires { bytes ≤ MAX_MEMORY }
         ensures exact { IfOk result (λ m. m ≡ blank bytes) }
         ensures room { IfOk result (λ m. length m.memory ≡ bytes) }
     {
@@ -71,7 +73,7 @@ impl Machine {
         requires { 4 * length code.now ≤ length self.old.memory }
         ensures exact { self.new ≡ first_state code.now arg fuel (length self.old.memory) }
         ensures room { length self.new.memory ≡ length self.old.memory }
-        ensures limit { length self.new.memory ≤ 65536 }
+        ensures limit { length self.new.memory ≤ MAX_MEMORY }
     {
         load_code(self.memory.as_mut_slice(), self.used, code);
         self.used = 4 * code.len();
@@ -88,7 +90,7 @@ impl Machine {
         requires { self.old.pc + 4 ≤ length self.old.memory }
         ensures exact { resumed self.old a0 ≡ Next self.new }
         ensures kept { Keeps self.old self.new }
-        ensures limit { length self.new.memory ≤ 65536 }
+        ensures limit { length self.new.memory ≤ MAX_MEMORY }
     {
         if let Some(value) = a0 {
             self.registers[10] = value;
@@ -116,7 +118,7 @@ impl Machine {
         requires { IsPlace self.old at 1 }
         ensures exact { self.new ≡ record self.old { memory = put_word self.old.memory at word } }
         ensures room { length self.new.memory ≡ length self.old.memory }
-        ensures limit { length self.new.memory ≤ 65536 }
+        ensures limit { length self.new.memory ≤ MAX_MEMORY }
     {
         self.put(StoreOp::Sw, at as usize, word);
     }
@@ -136,7 +138,7 @@ impl Machine {
         ensures counted { self.old.count < self.old.fuel → self.new.count ≡ self.old.count + 1 }
         ensures fuel { self.new.fuel ≡ self.old.fuel }
         ensures room { length self.new.memory ≡ length self.old.memory }
-        ensures limit { length self.new.memory ≤ 65536 }
+        ensures limit { length self.new.memory ≤ MAX_MEMORY }
         ensures waits { IsCall result → self.new.pc + 4 ≤ length self.new.memory }
     {
         if self.count >= self.fuel {
@@ -328,7 +330,7 @@ impl Machine {
     fn put(&mut self, op: StoreOp, at: usize, word: u32)
         requires { at + store_size op ≤ length self.old.memory }
         ensures exact { self.new ≡ record self.old { memory = put_at op self.old.memory at word } }
-        ensures limit { length self.new.memory ≤ 65536 }
+        ensures limit { length self.new.memory ≤ MAX_MEMORY }
         ensures kept { Keeps self.old self.new }
     {
         put_in(op, self.memory.as_mut_slice(), at, word);

@@ -1,6 +1,7 @@
 -- The limits of a schedule. This project's own.
 use Rattle.std.specs.Prelude.{ℕ, ◌+◌, ◌*◌, ◌<◌, ◌≤◌, List, [], ◌∷◌, length}
 use Rattle.std.specs.List.{AllByRecursion}
+use Rattle.nv_base.specs.declared.limits.TheConstants.{MAX_CORES, MAX_EVENTS}
 use Rattle.schedule_model.specs.Schedules.{StepItem, InOrder, Drawn, Schedule}
 
 -- how many steps an item stands for
@@ -20,6 +21,6 @@ IsItem cores (Drawn seed count) = 1 ≤ count
 
 pub record IsSchedule (s : Schedule) : Type 0 where
   pub some_core : 1 ≤ s.cores
-  pub few_cores : s.cores ≤ 8
+  pub few_cores : s.cores ≤ MAX_CORES
   pub proper : AllByRecursion (IsItem s.cores) s.items
-  pub short : steps_together s.items + length s.on_times ≤ 1000000
+  pub short : steps_together s.items + length s.on_times ≤ MAX_EVENTS

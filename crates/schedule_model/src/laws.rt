@@ -9,6 +9,8 @@ ghost use Rattle.schedule_model.specs.Failures.{with_failures, events_of};
 ghost use Rattle.schedule_model.specs.Limits.{IsItem, IsSchedule, steps_together};
 ghost use Rattle.schedule_model.specs.Parts.{cores_stepped, failure_count, IsOfCores};
 
+use nv_base::limits::MAX_EVENTS;
+
 /// Failures change neither the core steps nor their order.
 pub fn failures_keep_core_steps()
     ensures { (on_times steps : List ℕ) → cores_stepped (with_failures on_times steps) ≡ steps }
@@ -43,6 +45,6 @@ pub fn each_event_is_of_cores()
 
 /// Within the limits there are at most 1,000,000 events, and each core step is of one of the cores.
 pub fn events_are_within_limits()
-    ensures short { (s : Schedule) → IsSchedule s → length (events_of s) ≤ 1000000 }
+    ensures short { (s : Schedule) → IsSchedule s → length (events_of s) ≤ MAX_EVENTS }
     ensures cores { (s : Schedule) → IsSchedule s → AllByRecursion (λ core. core < s.cores) (cores_stepped (events_of s)) }
 {}

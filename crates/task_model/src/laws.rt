@@ -5,6 +5,7 @@ ghost use Rattle.rv_core.specs.State.{MachineState, Calls};
 ghost use Rattle.rv_core.specs.Machine.{service_of, step_of};
 ghost use Rattle.rv_core.specs.declared.services.Service.{Service};
 ghost use Rattle.kernel_model.specs.Fit.{IsSetUp, IsMachine};
+ghost use Rattle.kernel_model.specs.Runs.{max_spawns};
 ghost use Rattle.set_model.specs.Sets.{TaskSet};
 ghost use Rattle.set_model.specs.Limits.{IsTaskSet};
 ghost use Rattle.set_model.specs.Numbers.{sizes_of};
@@ -12,7 +13,13 @@ ghost use Rattle.set_model.specs.Formatted.{formatted};
 ghost use Rattle.task_model.specs.TaskSteps.{task_steps};
 ghost use Rattle.task_model.specs.WorkedRuns.{AddsToObject, AsksForAnother, PartOfOwnWrite, PartsRefused, ReadsPart, SpawnsOn, SpawnsTwo, SumsUp, TrapsAfterWrite, WritesPart};
 
+use nv_base::limits::MAX_SPAWNS;
 use set_model::laws::{formatted_state_is_fit, numbers_are_fit};
+
+/// A task may make as many tasks as the kernel's model allows.
+pub fn spawns_are_the_models()
+    ensures { MAX_SPAWNS ≡ max_spawns }
+{}
 
 /// Each step of a task uses up fuel, and its services name objects and programs of the set.
 pub fn tasks_are_a_machine()

@@ -1,6 +1,7 @@
 -- How a chain lies in memory: the slots of its versions, newest first, and each slot's begin and end. This project's own.
 use Rattle.std.specs.Prelude.{◌≡◌, ◌<◌, ◌≤◌, ℕ, false, List, [], ◌∷◌, Option, None, get_or, length, map}
 use Rattle.object_sets.specs.ObjectSets.{is_among}
+use Rattle.nv_base.specs.declared.limits.TheConstants.{MAX_SLOTS}
 use Rattle.nv_base.specs.declared.names.Point.{Point}
 use Rattle.interval.specs.Ranges.{number_of}
 use Rattle.ver_table.specs.Chains.{Chain, Stored}
@@ -22,14 +23,14 @@ end_at ends k = number_of (get_or ends k None)
 abbrev pub stored_at : List Point → List (Option Point) → ℕ → Stored
 stored_at begins ends k = record { slot = k; begin = begin_at begins k; end = end_at ends k }
 
--- at most eight slots, of which one at least has a version
+-- at most as many slots as the limits allow, of which one at least has a version
 pub record IsKept (slots : ℕ) (order : List ℕ) : Type 0 where
-  pub few : slots ≤ 8
+  pub few : slots ≤ MAX_SLOTS
   pub some : 1 ≤ length order
   pub are : AreSlots slots order
 
--- at most eight slots, of which one at least has a version, and none has two
+-- at most as many slots as the limits allow, of which one at least has a version, and none has two
 pub record IsLaid (c : Chain) : Type 0 where
-  pub few : c.slots ≤ 8
+  pub few : c.slots ≤ MAX_SLOTS
   pub some : 1 ≤ length c.stored
   pub are : AreSlots c.slots (map (λ v. v.slot) c.stored)
