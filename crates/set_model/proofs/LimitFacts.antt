@@ -1,5 +1,5 @@
 -- What the limits by format say of any format.
-use Rattle.std.proofs.Common.{◌≡◌, ℕ, ◌≤◌, ◌==◌, Bool, true, false, cond, length, arith}
+use Rattle.std.proofs.Common.{ℕ, ◌≤◌, ◌==◌, Bool, true, false, cond, length, arith}
 use Rattle.nv_base.specs.declared.limits.TheConstants.{MAX_OBJECTS, MAX_OBJECTS_1, MAX_RECORDS, MAX_RECORDS_1}
 use Rattle.set_model.specs.Sets.{TaskSet}
 use Rattle.set_model.specs.Limits.{IsTaskSet, max_objects, max_records}
