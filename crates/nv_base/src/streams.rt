@@ -6,12 +6,12 @@ ghost use Rattle.nv_base.specs.Streams.{AtEnd, Rose, Took, grown};
 use thiserror::Error;
 
 /// A source did not answer.
-#[derive(Debug, Drop, Error)]
+#[derive(Clone, Copy, PartialEq, Eq, Debug, Error)]
 #[error("the source failed")]
 pub struct SourceFailed;
 
 /// A sink did not answer.
-#[derive(Debug, Drop, Error)]
+#[derive(Clone, Copy, PartialEq, Eq, Debug, Error)]
 #[error("the sink failed")]
 pub struct SinkFailed;
 
