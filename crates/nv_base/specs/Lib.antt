@@ -2,4 +2,5 @@ pub mod Causes
 pub mod Bits
 pub mod WordBack
 pub mod Streams
-pub mod Room
+pub mod Memory
+pub mod StdStreams

@@ -4,7 +4,7 @@ use std::alloc::{AllocError, AllocFailed};
 use thiserror::Error;
 
 /// The allocator gave no memory.
-#[derive(Debug, Drop, Error)]
+#[derive(Clone, Copy, PartialEq, Eq, Debug, Error)]
 #[error("no memory")]
 pub struct NoMemory;
 

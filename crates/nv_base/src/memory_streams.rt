@@ -1,6 +1,7 @@
 // A source and a sink over memory, of whose calls some fail.
 
-ghost use Rattle.std.specs.Prelude.{◌≡◌, ◌≤◌, [], List, Option, Some, IfOk, drop, length, vec_capacity};
+ghost use Rattle.std.specs.Prelude.{◌≡◌, ◌≤◌, ◌<◌, ◌-◌, ◌↔◌, ◌⊎◌, [], List, Option, Ok, Some, Contains, IsErr, IfOk, OnErr, OnOk, drop, length, min, take as front, vec_capacity};
+ghost use Rattle.nv_base.specs.Streams.{AtEnd, Rose, Took, grown};
 
 use crate::memory::NoMemory;
 use crate::streams::{Sink, SinkFailed, Source, SourceFailed};
@@ -20,11 +21,15 @@ pub struct MemSource {
 }
 
 impl MemSource {
+    ghost use Rattle.nv_base.specs.Memory.{source_calls, source_faults, source_fails, source_left};
+
     /// A source that gives these bytes. The calls of `take` that `fails` lists, counted from 1,
     /// fail. `NoMemory` where the bytes or the list could not be copied.
     pub fn new(alloc: Global, bytes: &[u8], fails: &[u32]) -> Result<MemSource, NoMemory>
-        ensures left { IfOk result (λ s. ⟦<MemSource as Source>⟧.left s ≡ Some bytes.now) }
-        ensures faults { IfOk result (λ s. ⟦<MemSource as Source>⟧.faults s ≡ 0) }
+        ensures left { IfOk result (λ s. source_left s ≡ bytes.now) }
+        ensures fails { IfOk result (λ s. source_fails s ≡ fails.now) }
+        ensures calls { IfOk result (λ s. source_calls s ≡ 0) }
+        ensures faults { IfOk result (λ s. source_faults s ≡ 0) }
     {
         let mut copy = Vec::new(alloc);
         copy.extend_from_slice(bytes)?;
@@ -41,11 +46,24 @@ impl MemSource {
 }
 
 impl Source for MemSource {
-    ghost left = { λ s. Some (drop s.at s.bytes.items) };
+    ghost use Rattle.nv_base.specs.Memory.{next_call, source_calls, source_faults, source_fails, source_left};
 
-    ghost faults = { λ s. s.count };
+    ghost left = { λ s. Some (source_left s) };
 
-    fn take(&mut self, buf: &mut [u8]) -> Result<usize, SourceFailed> {
+    ghost faults = { λ s. source_faults s };
+
+    /// Fails exactly at a call that is listed, and otherwise takes as many bytes as are left and
+    /// the buffer has room for.
+    fn take(&mut self, buf: &mut [u8]) -> Result<usize, SourceFailed>
+        ensures took { IfOk result (λ n. Took (Some (source_left self.old)) (Some (source_left self.new)) buf.new n) }
+        ensures kept { OnErr result (source_left self.new ≡ source_left self.old) }
+        ensures still { OnOk result (source_faults self.new ≡ source_faults self.old) }
+        ensures failed { OnErr result (Rose (source_faults self.old) (source_faults self.new)) }
+        ensures errs { IsErr result ↔ Contains (source_fails self.old) (source_calls self.new) }
+        ensures count { IfOk result (λ n. n ≡ min (length (source_left self.old)) (length buf.new)) }
+        ensures calls { source_calls self.new ≡ next_call (source_calls self.old) }
+        ensures fails { source_fails self.new ≡ source_fails self.old }
+    {
         self.calls = self.calls.saturating_add(1);
         if self.fails.contains(&self.calls) {
             self.count = self.count.saturating_add(1);
@@ -73,15 +91,17 @@ pub struct MemSink {
 }
 
 impl MemSink {
-    ghost use Rattle.nv_base.specs.Room.{room_of};
+    ghost use Rattle.nv_base.specs.Memory.{room_of, sink_bytes, sink_calls, sink_fails, sink_faults};
 
     /// An empty sink with room for this many bytes. The calls of `put` that `fails` lists, counted
     /// from 1, fail, and so does each call on a full sink. `NoMemory` where the room or the list
     /// could not be made.
     pub fn new(alloc: Global, room: usize, fails: &[u32]) -> Result<MemSink, NoMemory>
         ensures room { IfOk result (λ s. room_of s ≡ room) }
-        ensures taken { IfOk result (λ s. ⟦<MemSink as Sink>⟧.taken s ≡ Some []) }
-        ensures faults { IfOk result (λ s. ⟦<MemSink as Sink>⟧.faults s ≡ 0) }
+        ensures bytes { IfOk result (λ s. sink_bytes s ≡ []) }
+        ensures fails { IfOk result (λ s. sink_fails s ≡ fails.now) }
+        ensures calls { IfOk result (λ s. sink_calls s ≡ 0) }
+        ensures faults { IfOk result (λ s. sink_faults s ≡ 0) }
     {
         let bytes = Vec::with_capacity(alloc, room)?;
         let mut failing = Vec::new(alloc);
@@ -97,18 +117,32 @@ impl MemSink {
 
     /// All bytes that the sink took.
     pub fn bytes(&self) -> &[u8]
-        ensures { ⟦<MemSink as Sink>⟧.taken self.now ≡ Some result.now }
+        ensures { result.now ≡ sink_bytes self.now }
     {
         self.bytes.as_slice()
     }
 }
 
 impl Sink for MemSink {
-    ghost taken = { λ s. Some s.bytes.items };
+    ghost use Rattle.nv_base.specs.Memory.{next_call, room_of, sink_bytes, sink_calls, sink_fails, sink_faults};
 
-    ghost faults = { λ s. s.count };
+    ghost taken = { λ s. Some (sink_bytes s) };
 
-    fn put(&mut self, piece: &[u8]) -> Result<usize, SinkFailed> {
+    ghost faults = { λ s. sink_faults s };
+
+    /// Fails exactly at a call that is listed or where the sink is full, and otherwise takes as
+    /// many bytes as the piece has and the sink has room for.
+    fn put(&mut self, piece: &[u8]) -> Result<usize, SinkFailed>
+        ensures put { IfOk result (λ n. Some (sink_bytes self.new) ≡ grown (Some (sink_bytes self.old)) (front n piece.now)) }
+        ensures kept { OnErr result (sink_bytes self.new ≡ sink_bytes self.old) }
+        ensures still { OnOk result (sink_faults self.new ≡ sink_faults self.old) }
+        ensures failed { OnErr result (Rose (sink_faults self.old) (sink_faults self.new)) }
+        ensures errs { IsErr result ↔ ((room_of self.old ≡ length (sink_bytes self.old)) ⊎ Contains (sink_fails self.old) (sink_calls self.new)) }
+        ensures count { IfOk result (λ n. n ≡ min (length piece.now) (room_of self.old - length (sink_bytes self.old))) }
+        ensures calls { sink_calls self.new ≡ next_call (sink_calls self.old) }
+        ensures fails { sink_fails self.new ≡ sink_fails self.old }
+        ensures room { room_of self.new ≡ room_of self.old }
+    {
         self.calls = self.calls.saturating_add(1);
         let free = self.room - self.bytes.len();
         if free == 0 || self.fails.contains(&self.calls) {

@@ -1,17 +1,17 @@
 // Where bytes come from and where they go.
 
-ghost use Rattle.std.specs.Prelude.{◌≡◌, ◌<◌, ◌≤◌, ℕ, List, Option, Ok, length, take, IfOk, OnErr};
+ghost use Rattle.std.specs.Prelude.{◌≡◌, ◌<◌, ◌≤◌, ℕ, List, Option, Ok, length, take, IfOk, OnErr, OnOk};
 ghost use Rattle.nv_base.specs.Streams.{AtEnd, Rose, Took, grown};
 
 use thiserror::Error;
 
 /// A source did not answer.
-#[derive(Debug, Drop, Error)]
+#[derive(Clone, Copy, PartialEq, Eq, Debug, Error)]
 #[error("the source failed")]
 pub struct SourceFailed;
 
 /// A sink did not answer.
-#[derive(Debug, Drop, Error)]
+#[derive(Clone, Copy, PartialEq, Eq, Debug, Error)]
 #[error("the sink failed")]
 pub struct SinkFailed;
 
@@ -30,6 +30,7 @@ pub trait Source {
         ensures took { IfOk result (λ n. Took (left self.old) (left self.new) buf.new n) }
         ensures end { result ≡ Ok 0 → 0 < length buf.new → AtEnd (left self.old) }
         ensures kept { OnErr result (left self.new ≡ left self.old) }
+        ensures still { OnOk result (faults self.new ≡ faults self.old) }
         ensures failed { OnErr result (Rose (faults self.old) (faults self.new)) }
         ensures never_falls { faults self.old ≤ faults self.new };
 }
@@ -49,6 +50,7 @@ pub trait Sink {
         ensures some { IfOk result (λ n. 0 < length piece.now → 0 < n) }
         ensures put { IfOk result (λ n. taken self.new ≡ grown (taken self.old) (take n piece.now)) }
         ensures kept { OnErr result (taken self.new ≡ taken self.old) }
+        ensures still { OnOk result (faults self.new ≡ faults self.old) }
         ensures failed { OnErr result (Rose (faults self.old) (faults self.new)) }
         ensures never_falls { faults self.old ≤ faults self.new };
 }

@@ -33,6 +33,7 @@ pub fn read_all<S: Source>(alloc: Global, src: &mut S, max: usize) -> Result<Vec
     ensures long { result ≡ Err ReadRefusal.TooLong → AreGone (S.left src.old) (S.left src.new) (max + 1) }
     ensures short { (result ≡ Err ReadRefusal.ReadFault) ⊎ (result ≡ Err ReadRefusal.NoMemory) → AtMostGone (S.left src.old) (S.left src.new) max }
     ensures fault { result ≡ Err ReadRefusal.ReadFault → Rose (S.faults src.old) (S.faults src.new) }
+    ensures still { (result ≡ Err ReadRefusal.ReadFault) ⊎ (S.faults src.new ≡ S.faults src.old) }
     ensures never_falls { S.faults src.old ≤ S.faults src.new }
 {
     let mut bytes = Vec::new(alloc);
@@ -60,6 +61,7 @@ pub fn put_all<K: Sink>(out: &mut K, bytes: &[u8]) -> Result<(), WriteFault>
     ensures all { OnOk result (K.taken out.new ≡ grown (K.taken out.old) bytes.now) }
     ensures front { OnErr result (PutFront (K.taken out.old) (K.taken out.new) bytes.now) }
     ensures fault { OnErr result (Rose (K.faults out.old) (K.faults out.new)) }
+    ensures still { OnOk result (K.faults out.new ≡ K.faults out.old) }
     ensures never_falls { K.faults out.old ≤ K.faults out.new }
 {
     let mut at = 0;

@@ -2,30 +2,42 @@
 //! What std says of the process is taken on trust: its words, what is read and written, and the status that it ends with.
 #![tactic(auto)]
 
-ghost use Rattle.std.specs.Prelude.{◌≡◌};
+ghost use Rattle.std.specs.Prelude.{◌≡◌, IfOk, OnErr, drop, map, string_bytes};
 ghost use Rattle.std.specs.Process.{exit_status};
+ghost use Rattle.std.specs.Rc.{rc_str_bytes};
+ghost use Rattle.std.specs.Vec.Iter.{into_iter_items};
 ghost use Rattle.script.specs.Exits.{exit_of};
+ghost use Rattle.sim_run.specs.Answers.{exchange};
+ghost use Rattle.sim_run.specs.Commands.{command_of};
+ghost use Rattle.nv_cli.specs.Calls.{EndsAs};
 
-use nv_base::{NoMemory, StdSink, StdSource};
+use nv_base::{NoMemory, Sink, Source, StdSink, StdSource};
 use sim_run::{Status, simulate};
-use std::env::Env;
+use std::alloc::Global;
+use std::env::{Args, Env};
 use std::process::ExitCode;
 use std::rc::RcStr;
 use std::{env, io};
 
-/// The words after the program's name. Words that are not all text are no command, as no words are.
-fn command_words<R: Env + AllocGlobal>(rt: &R) -> Result<Vec<RcStr>, NoMemory> {
-    let mut words = Vec::new(rt.alloc());
-    let mut texts = match env::args(rt) {
-        Ok(texts) => texts,
-        Err(error) if error.kind() == io::ErrorKind::OutOfMemory => return Err(NoMemory),
-        Err(_) => return Ok(words),
-    };
-    let _name = texts.next();
-    for text in texts {
-        words.push(RcStr::from_string(text)?)?;
+/// The words of a call: the arguments behind the program's name.
+fn command_words(alloc: Global, mut arguments: Args) -> Result<Vec<RcStr>, NoMemory>
+    ensures { IfOk result (λ words. map rc_str_bytes words.items ≡ drop 1 (map string_bytes (into_iter_items arguments))) }
+{
+    let _name = arguments.next();
+    let mut words = Vec::new(alloc);
+    for argument in arguments {
+        words.push(RcStr::from_string(argument)?)?;
     }
     Ok(words)
+}
+
+/// The words that the program was called with. Words that are not all text are no command, as no words are.
+fn given_words<R: Env + AllocGlobal>(rt: &R) -> Result<Vec<RcStr>, NoMemory> {
+    match env::args(rt) {
+        Ok(arguments) => command_words(rt.alloc(), arguments),
+        Err(error) if error.kind() == io::ErrorKind::OutOfMemory => Err(NoMemory),
+        Err(_) => Ok(Vec::new(rt.alloc())),
+    }
 }
 
 /// The exit status that stands for an answer.
@@ -35,14 +47,31 @@ fn exit_code(status: Status) -> ExitCode
     ExitCode::from(status.code())
 }
 
+/// The exit status of a call with these words, or of one whose words found no memory, and then nothing is read or put.
+fn call<S: Source, K: Sink>(
+    alloc: Global,
+    words: Result<Vec<RcStr>, NoMemory>,
+    src: &mut S,
+    out: &mut K,
+) -> ExitCode
+    ensures answered { IfOk words (λ ws. EndsAs (command_of (map rc_str_bytes ws.items)) (exchange S.left S.faults K.taken K.faults src.old src.new out.old out.new) (exit_status result)) }
+    ensures unread { OnErr words (exit_status result ≡ exit_of Status.NoMemory) }
+    ensures untouched { OnErr words ((S.left src.new ≡ S.left src.old) × (K.taken out.new ≡ K.taken out.old)) }
+{
+    match words {
+        Ok(words) => exit_code(simulate(alloc, words.as_slice(), src, out)),
+        Err(_) => exit_code(Status::NoMemory),
+    }
+}
+
 fn main(rt: HostRuntime) -> ExitCode {
-    let Ok(words) = command_words(&rt) else {
-        // the simulator was not called, so its output has nothing: a failure to say so changes no status
+    let words = given_words(&rt);
+    if words.is_err() {
+        // a failure to say so changes no status
         let _ = rt.eprintln("error memory");
-        return exit_code(Status::NoMemory);
-    };
+    }
     // both go straight to the system: no byte waits in the program
     let mut source = StdSource::new(rt.stdin());
     let mut sink = StdSink::new(rt.stdout());
-    exit_code(simulate(rt.alloc(), words.as_slice(), &mut source, &mut sink))
+    call(rt.alloc(), words, &mut source, &mut sink)
 }

@@ -1,6 +1,6 @@
 //! A script, from its first line to its last.
 
-ghost use Rattle.std.specs.Prelude.{◌≡◌, ◌≤◌, ◌<◌, ◌+◌, ◌^◌, length, Some, Ok};
+ghost use Rattle.std.specs.Prelude.{◌≡◌, ◌≤◌, ◌<◌, ◌+◌, ◌^◌, ◌⊎◌, length, Err, Some, Ok};
 ghost use Rattle.std.specs.Str.Lines.{lines};
 ghost use Rattle.script.specs.Answers.{Reads, Takes};
 ghost use Rattle.script.specs.declared.keyword.Stage.TheVariants.{Run};
@@ -120,7 +120,8 @@ fn refused(line: u32, cause: ScriptCause) -> ScriptRefusal
 /// The script, where its last line is `run`. Line `n` is behind the last one.
 fn finish(alloc: Global, draft: Draft, n: u32) -> Result<Script, ScriptRefusal>
     requires { draft.last ≡ Some Run → IsWithinLimits (script_of draft) }
-    ensures { Reads script result (ended (n, draft)) }
+    ensures reads { Reads script result (ended (n, draft)) }
+    ensures no_run { (draft.last ≡ Some Run) ⊎ (result ≡ Err (At (record { line = n; cause = ScriptCause.End }))) }
 {
     match draft.last {
         Some(Stage::Run) => whole(alloc, draft),
@@ -132,7 +133,8 @@ fn finish(alloc: Global, draft: Draft, n: u32) -> Result<Script, ScriptRefusal>
 /// first line that is refused and its first cause, `NoMemory` where there was not memory enough.
 #[tactic(auto, unfolding(crate::specs::Reading::read))]
 pub fn read_script(alloc: Global, bytes: &[u8]) -> Result<Script, ScriptRefusal>
-    ensures { Reads script result (read bytes.now) }
+    ensures reads { Reads script result (read bytes.now) }
+    ensures long { 1048576 < length bytes.now → result ≡ Err (At (record { line = 0; cause = ScriptCause.Long })) }
 {
     if LONGEST < bytes.len() {
         return Err(refused(0, ScriptCause::Long));

@@ -7,3 +7,4 @@ pub mod BadLines
 pub mod SameCores
 pub mod Promising
 pub mod Inputs
+pub mod Gone

@@ -1,11 +1,11 @@
 -- The answers of a call, each with its cause and with what was put. This project's own.
 use Rattle.std.specs.Prelude.{◌≡◌, ℕ, ◌+◌, ◌⊎◌, List, [], length, Option, Some, None}
-use Rattle.nv_base.specs.Streams.{AreGone, PutFront, Rose, grown}
-use Rattle.sim_run.specs.Replies.{Reply, Puts, Refuses, reply, status_of, most_input}
+use Rattle.nv_base.specs.Streams.{AreGone, AtMostGone, PutFront, Rose, grown}
+use Rattle.sim_run.specs.Replies.{Reply, Puts, Refuses, reply, status_of, most_input, too_long}
 use Rattle.script.specs.Exits.{line_for}
 use Rattle.sim_run.specs.declared.command.Command.{Command}
 use Rattle.script.specs.declared.status.Status.{Status}
-use Rattle.script.specs.declared.status.Status.TheVariants.{Done, Usage, ReadFault, WriteFault, NoMemory}
+use Rattle.script.specs.declared.status.Status.TheVariants.{Done, Usage, Script, ReadFault, WriteFault, NoMemory}
 
 -- a source and a sink at the call and at the return: the bytes left, the bytes taken, where they are told, and the counts of faults
 pub record Exchange : Type 0 where
@@ -17,6 +17,19 @@ pub record Exchange : Type 0 where
   pub taken_now : Option (List ℕ)
   pub write_faults : ℕ
   pub write_faults_now : ℕ
+
+-- the exchange of a call, by what its source and its sink tell before it and behind it
+abbrev pub exchange : {S K : Type 0} → (S → Option (List ℕ)) → (S → ℕ) → (K → Option (List ℕ)) → (K → ℕ) → S → S → K → K → Exchange
+exchange left read_faults taken write_faults source source_now sink sink_now = record {
+  left = left source;
+  left_now = left source_now;
+  read_faults = read_faults source;
+  read_faults_now = read_faults source_now;
+  taken = taken sink;
+  taken_now = taken sink_now;
+  write_faults = write_faults sink;
+  write_faults_now = write_faults sink_now;
+}
 
 abbrev pub ReadFailed : Exchange → Type 0
 ReadFailed x = Rose x.read_faults x.read_faults_now
@@ -75,3 +88,11 @@ NoFault x = (ReadFailed x → ⊥) × (WriteFailed x → ⊥)
 abbrev pub IsComplete : Option Command → Exchange → Status → Type 0
 IsComplete None x status = status ≡ Usage
 IsComplete (Some c) x status = NoFault x → OfInput x.left (λ input. (status ≡ status_of (reply c input)) ⊎ (status ≡ NoMemory))
+
+-- at most as many bytes as an input may have were read; or one more, and then the answer says so
+abbrev pub HasReadFew : Exchange → Status → Type 0
+HasReadFew x status = AtMostGone x.left x.left_now most_input ⊎ ((status ≡ Script too_long) × AreGone x.left x.left_now (most_input + 1))
+
+-- the source did not fail, or the answer says so
+abbrev pub TellsReadFault : Exchange → Status → Type 0
+TellsReadFault x status = (x.read_faults_now ≡ x.read_faults) ⊎ (status ≡ ReadFault)

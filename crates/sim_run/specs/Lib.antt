@@ -1,5 +1,6 @@
 pub mod Commands
 pub mod Replies
+pub mod Refusals
 pub mod Answers
 pub mod Promises
 pub mod Carried

@@ -7,11 +7,12 @@ ghost use Rattle.rv_asm.specs.Assembly.{assembled};
 ghost use Rattle.sim_run.specs.Carried.{Replied};
 ghost use Rattle.sim_run.specs.Replies.{Puts, asm_reply, assembly_reply, bad_line, words_text};
 
+use crate::refusals;
 use crate::texts::put_text;
 use nv_base::limits::MAX_INPUT;
 use nv_base::{NoMemory, Sink};
 use plain_text::{Lines, is_plain};
-use rv_asm::{AsmRefusal, assemble_lines};
+use rv_asm::assemble_lines;
 use rv_isa::push_hexadecimal;
 use script::{ScriptCause, ScriptError, Status};
 use std::alloc::{AllocError, Global};
@@ -70,11 +71,7 @@ fn assemble<K: Sink>(alloc: Global, lines: &[&[u8]], out: &mut K) -> Status
 {
     match assemble_lines(alloc, lines) {
         Ok(words) => put_words(alloc, words.as_slice(), out),
-        Err(AsmRefusal::NoMemory) => Status::NoMemory,
-        Err(AsmRefusal::At(error)) => Status::Script(ScriptError {
-            line: error.line,
-            cause: ScriptCause::Code(error.cause),
-        }),
+        Err(refusal) => refusals::of_assembly(refusal),
     }
 }
 

@@ -5,7 +5,7 @@ ghost use Rattle.std.specs.Rc.{rc_str_bytes};
 ghost use Rattle.nv_base.specs.Streams.{Rose};
 ghost use Rattle.sim_run.specs.Commands.{command_of};
 ghost use Rattle.sim_run.specs.Replies.{reply};
-ghost use Rattle.sim_run.specs.Answers.{Answered, IsComplete, OfInput};
+ghost use Rattle.sim_run.specs.Answers.{Answered, HasReadFew, IsComplete, OfInput, TellsReadFault, exchange};
 ghost use Rattle.script.specs.declared.status.Status.TheVariants as Status;
 ghost use Rattle.sim_run.specs.declared.command.Command.TheVariants as Command;
 ghost use Rattle.sim_run.specs.Promises.{IsPromised, KeepsHeadline};
@@ -40,9 +40,12 @@ fn answer<K: Sink>(alloc: Global, command: Command, input: &[u8], out: &mut K) -
 }
 
 /// All of a call but the line that names its answer.
+#[tactic(auto, using(crate::proofs::Gone::none_gone))]
 fn carry_out<S: Source, K: Sink>(alloc: Global, words: &[RcStr], src: &mut S, out: &mut K) -> Status
-    ensures answer { CarriedOut (command_of (map rc_str_bytes words.now)) (record { left = S.left src.old; left_now = S.left src.new; read_faults = S.faults src.old; read_faults_now = S.faults src.new; taken = K.taken out.old; taken_now = K.taken out.new; write_faults = K.faults out.old; write_faults_now = K.faults out.new }) result }
+    ensures answer { CarriedOut (command_of (map rc_str_bytes words.now)) (exchange S.left S.faults K.taken K.faults src.old src.new out.old out.new) result }
     ensures headline { command_of (map rc_str_bytes words.now) ≡ Some Command.Run → result ≡ Status.Done → OfInput (S.left src.old) IsPromised }
+    ensures few { HasReadFew (exchange S.left S.faults K.taken K.faults src.old src.new out.old out.new) result }
+    ensures told { TellsReadFault (exchange S.left S.faults K.taken K.faults src.old src.new out.old out.new) result }
     ensures source_never_falls { S.faults src.old ≤ S.faults src.new }
     ensures sink_never_falls { K.faults out.old ≤ K.faults out.new }
 {
@@ -65,9 +68,11 @@ pub fn simulate<S: Source, K: Sink>(
     src: &mut S,
     out: &mut K,
 ) -> Status
-    ensures answer { Answered (command_of (map rc_str_bytes words.now)) (record { left = S.left src.old; left_now = S.left src.new; read_faults = S.faults src.old; read_faults_now = S.faults src.new; taken = K.taken out.old; taken_now = K.taken out.new; write_faults = K.faults out.old; write_faults_now = K.faults out.new }) result }
-    ensures headline { KeepsHeadline (command_of (map rc_str_bytes words.now)) (record { left = S.left src.old; left_now = S.left src.new; read_faults = S.faults src.old; read_faults_now = S.faults src.new; taken = K.taken out.old; taken_now = K.taken out.new; write_faults = K.faults out.old; write_faults_now = K.faults out.new }) result }
-    ensures complete { IsComplete (command_of (map rc_str_bytes words.now)) (record { left = S.left src.old; left_now = S.left src.new; read_faults = S.faults src.old; read_faults_now = S.faults src.new; taken = K.taken out.old; taken_now = K.taken out.new; write_faults = K.faults out.old; write_faults_now = K.faults out.new }) result }
+    ensures answer { Answered (command_of (map rc_str_bytes words.now)) (exchange S.left S.faults K.taken K.faults src.old src.new out.old out.new) result }
+    ensures headline { KeepsHeadline (command_of (map rc_str_bytes words.now)) (exchange S.left S.faults K.taken K.faults src.old src.new out.old out.new) result }
+    ensures complete { IsComplete (command_of (map rc_str_bytes words.now)) (exchange S.left S.faults K.taken K.faults src.old src.new out.old out.new) result }
+    ensures few { HasReadFew (exchange S.left S.faults K.taken K.faults src.old src.new out.old out.new) result }
+    ensures told { TellsReadFault (exchange S.left S.faults K.taken K.faults src.old src.new out.old out.new) result }
     ensures source_never_falls { S.faults src.old ≤ S.faults src.new }
     ensures sink_never_falls { K.faults out.old ≤ K.faults out.new }
 {

@@ -1,7 +1,8 @@
 //! The input of a command, read to its end.
 
-ghost use Rattle.std.specs.Prelude.{◌≡◌, ◌≤◌, length, IfOk, IfErr};
-ghost use Rattle.nv_base.specs.Streams.{GaveAll, Rose};
+ghost use Rattle.std.specs.Prelude.{◌≡◌, ◌≤◌, ◌⊎◌, length, Err, IfOk, IfErr};
+ghost use Rattle.nv_base.specs.Streams.{AreGone, AtMostGone, GaveAll, Rose};
+ghost use Rattle.sim_run.specs.Replies.{too_long};
 ghost use Rattle.sim_run.specs.Carried.{Unread};
 
 use nv_base::limits::MAX_INPUT;
@@ -14,10 +15,13 @@ pub(crate) const MOST_INPUT: usize = MAX_INPUT as usize;
 
 /// All bytes that a source gives. `ReadFault` only where the source failed; `Script`, of line 0, where they are
 /// too many; `NoMemory`.
+#[tactic(auto, using(crate::proofs::Gone::all_gone))]
 pub(crate) fn read_input<S: Source>(alloc: Global, src: &mut S) -> Result<Vec<u8>, Status>
     ensures given { IfOk result (λ v. GaveAll (S.left src.old) (S.left src.new) v.items) }
     ensures within { IfOk result (λ v. length v.items ≤ MAX_INPUT) }
     ensures unread { IfErr result (Unread (S.left src.old) (S.left src.new) (Rose (S.faults src.old) (S.faults src.new))) }
+    ensures few { AtMostGone (S.left src.old) (S.left src.new) 1048576 ⊎ ((result ≡ Err (Status.Script too_long)) × AreGone (S.left src.old) (S.left src.new) 1048577) }
+    ensures told { (S.faults src.new ≡ S.faults src.old) ⊎ (result ≡ Err Status.ReadFault) }
     ensures never_falls { S.faults src.old ≤ S.faults src.new }
 {
     match read_all(alloc, src, MOST_INPUT) {

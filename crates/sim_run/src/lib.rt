@@ -8,6 +8,7 @@ mod input;
 mod names;
 mod packing;
 mod read_back;
+mod refusals;
 pub mod rows;
 mod run;
 mod texts;

@@ -9,11 +9,12 @@ ghost use Rattle.task_image.specs.Unpacked.{unpacked};
 ghost use Rattle.sim_run.specs.Carried.{Replied};
 ghost use Rattle.sim_run.specs.Replies.{Puts, dis_reply, pack_reply};
 
+use crate::refusals;
 use crate::texts::put_text;
 use nv_base::Sink;
-use script::{ScriptRefusal, Status, read_script, script_text};
+use script::{Status, read_script, script_text};
 use std::alloc::Global;
-use task_image::{ImageRefusal, read_set, write_set};
+use task_image::{read_set, write_set};
 use task_set::TaskSet;
 
 /// Puts a set as a script.
@@ -45,8 +46,7 @@ pub(crate) fn dis<K: Sink>(alloc: Global, input: &[u8], out: &mut K) -> Status
 {
     match read_set(alloc, input) {
         Ok(set) => put_script(alloc, &set, out),
-        Err(ImageRefusal::NoMemory) => Status::NoMemory,
-        Err(ImageRefusal::Bad(place)) => Status::Packed(place),
+        Err(refusal) => refusals::of_packed(refusal),
     }
 }
 
@@ -57,7 +57,6 @@ pub(crate) fn pack<K: Sink>(alloc: Global, input: &[u8], out: &mut K) -> Status
 {
     match read_script(alloc, input) {
         Ok(script) => put_packed(alloc, &script.set, out),
-        Err(ScriptRefusal::NoMemory) => Status::NoMemory,
-        Err(ScriptRefusal::At(error)) => Status::Script(error),
+        Err(refusal) => refusals::of_script(refusal),
     }
 }

@@ -11,9 +11,10 @@ ghost use Rattle.script.specs.Views.{script_of};
 ghost use Rattle.sim_run.specs.Carried.{Replied};
 ghost use Rattle.sim_run.specs.Replies.{run_reply};
 ghost use Rattle.sim_run.specs.Promises.{IsPromised};
-ghost use Rattle.sim_run.specs.Runs.{RunAnswers};
+ghost use Rattle.sim_run.specs.Runs.{Carries, RunAnswers};
 
 use crate::read_back::{put_line, put_tail};
+use crate::refusals;
 use headline::laws::report_keeps_headline;
 use kernel_core::Kernel;
 use kernel_core::laws::durable_is_left;
@@ -21,9 +22,39 @@ use nv_base::Sink;
 use power_trace::Schedule;
 use report::LineBuf;
 use schedule_model::laws::events_are_within_limits;
-use script::{Script, ScriptRefusal, Status, read_script};
+use script::{Script, Status, read_script};
 use std::alloc::Global;
 use task_set::TaskSet;
+
+/// Takes the turns of all events of a schedule of one core under continuous power, each with its line, and puts what
+/// is read back. It is handed no allocator, so no event takes memory.
+fn put_events<K: Sink>(
+    mut kernel: Kernel,
+    mut text: LineBuf,
+    schedule: &Schedule,
+    out: &mut K,
+) -> Status
+    requires begins { Carries kernel.set (events_of schedule.now) kernel 0 }
+    requires same_cores { schedule.now.cores ≡ 1 }
+    requires powered { failure_count (events_of schedule.now) ≡ 0 }
+    ensures answers { RunAnswers kernel.set (events_of schedule.now) (Rose (K.faults out.old) (K.faults out.new)) (K.taken out.old) (K.taken out.new) result }
+    ensures never_falls { K.faults out.old ≤ K.faults out.new }
+{
+    // what the kernel keeps is what is durable, and events are few
+    durable_is_left();
+    events_are_within_limits();
+    let steps = schedule.len();
+    for _ in 0..steps {
+        let line = kernel.turn();
+        let Ok(()) = put_line(out, &mut text, kernel.set(), &line) else {
+            return Status::WriteFault;
+        };
+    }
+    match put_tail(out, &mut text, &kernel) {
+        Ok(()) => Status::Done,
+        Err(_) => Status::WriteFault,
+    }
+}
 
 /// Runs the events of a schedule of one core under continuous power, each with its line, and puts what is read back.
 /// All memory is taken before anything is put.
@@ -39,26 +70,13 @@ pub(crate) fn run_events<K: Sink>(
     ensures answers { RunAnswers set (events_of schedule.now) (Rose (K.faults out.old) (K.faults out.new)) (K.taken out.old) (K.taken out.new) result }
     ensures never_falls { K.faults out.old ≤ K.faults out.new }
 {
-    // what the kernel keeps is what is durable, and events are few
-    durable_is_left();
-    events_are_within_limits();
-    let steps = schedule.len();
-    let Ok(mut text) = LineBuf::new(alloc) else {
+    let Ok(text) = LineBuf::new(alloc) else {
         return Status::NoMemory;
     };
-    let Ok(mut kernel) = Kernel::open(alloc, set) else {
+    let Ok(kernel) = Kernel::open(alloc, set) else {
         return Status::NoMemory;
     };
-    for _ in 0..steps {
-        let line = kernel.turn();
-        let Ok(()) = put_line(out, &mut text, kernel.set(), &line) else {
-            return Status::WriteFault;
-        };
-    }
-    match put_tail(out, &mut text, &kernel) {
-        Ok(()) => Status::Done,
-        Err(_) => Status::WriteFault,
-    }
+    put_events(kernel, text, schedule, out)
 }
 
 /// What a script is answered with: `NotBuilt` before any line where its set has another
@@ -87,7 +105,6 @@ pub(crate) fn run<K: Sink>(alloc: Global, input: &[u8], out: &mut K) -> Status
 {
     match read_script(alloc, input) {
         Ok(script) => run_script(alloc, script, out),
-        Err(ScriptRefusal::NoMemory) => Status::NoMemory,
-        Err(ScriptRefusal::At(error)) => Status::Script(error),
+        Err(refusal) => refusals::of_script(refusal),
     }
 }

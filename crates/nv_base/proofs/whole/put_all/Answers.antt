@@ -1,4 +1,4 @@
-use Rattle.std.proofs.Common.{arith}
+use Rattle.std.proofs.Common.{◌∙◌, arith}
 use Rattle.std.proofs.lemmas.Grind.{common_steps}
 use Rattle.nv_base.proofs.Puts.{put_rest}
 use Rattle.nv_base.proofs.whole.put_all.Goals as goal
@@ -7,5 +7,5 @@ pub loop-at-preserved : goal.loop-at-preserved
 loop-at-preserved g c = record {
   within = grind (arith, common_steps);
   put = put_rest _ _ _ _ _ _ c.loop-at.invariant.within c.in-Ok.ensures.within c.loop-at.invariant.put c.in-Ok.ensures.put;
-  never_falls = omega (arith, c.loop-at.invariant.never_falls, c.put.ensures.never_falls);
+  still = c.in-Ok.ensures.still ∙ c.loop-at.invariant.still;
 }

@@ -1,4 +1,4 @@
-use Rattle.std.proofs.Common.{◌-◌, ◌≤◌, vec_len}
+use Rattle.std.proofs.Common.{◌≡◌, ◌-◌, ◌≤◌, vec_len}
 use Rattle.nv_base.proofs.SoFar.{HasGiven}
 use Rattle.nv_base.proofs.whole.read_all.Given as goal
 
@@ -6,7 +6,7 @@ abbrev pub invariant-loop-bytes : goal.invariant-loop-bytes
 invariant-loop-bytes g l = record {
   within : vec_len l.bytes ≤ l.max;
   given : HasGiven (g.S.Source.left l.initial.src) (g.S.Source.left l.src) l.bytes.items;
-  never_falls : g.S.Source.faults l.initial.src ≤ g.S.Source.faults l.src;
+  still : g.S.Source.faults l.src ≡ g.S.Source.faults l.initial.src;
 }
 
 abbrev pub decreases-loop-bytes : goal.decreases-loop-bytes

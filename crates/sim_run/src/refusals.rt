@@ -1,0 +1,41 @@
+//! The answers that tell why an input was not taken. Only want of memory is told as want of memory.
+
+ghost use Rattle.std.specs.Prelude.{◌≡◌};
+ghost use Rattle.sim_run.specs.Refusals.{assembly_answer, packed_answer, script_answer};
+
+use rv_asm::AsmRefusal;
+use script::{ScriptCause, ScriptError, ScriptRefusal, Status};
+use task_image::ImageRefusal;
+
+/// Why a script was not read.
+pub(crate) fn of_script(refusal: ScriptRefusal) -> Status
+    ensures { result ≡ script_answer refusal }
+{
+    match refusal {
+        ScriptRefusal::At(error) => Status::Script(error),
+        ScriptRefusal::NoMemory => Status::NoMemory,
+    }
+}
+
+/// Why lines were not assembled.
+pub(crate) fn of_assembly(refusal: AsmRefusal) -> Status
+    ensures { result ≡ assembly_answer refusal }
+{
+    match refusal {
+        AsmRefusal::At(error) => Status::Script(ScriptError {
+            line: error.line,
+            cause: ScriptCause::Code(error.cause),
+        }),
+        AsmRefusal::NoMemory => Status::NoMemory,
+    }
+}
+
+/// Why bytes are no packed set.
+pub(crate) fn of_packed(refusal: ImageRefusal) -> Status
+    ensures { result ≡ packed_answer refusal }
+{
+    match refusal {
+        ImageRefusal::Bad(place) => Status::Packed(place),
+        ImageRefusal::NoMemory => Status::NoMemory,
+    }
+}
