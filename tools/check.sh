@@ -1,18 +1,25 @@
 # Says of a script whether it is accepted, and of one that is refused, where, why and what to do.
 
-# Says what a page's table of refusals has on a cause. Its rows are | Cause | number | when | example | what to do |.
-advise() {
-    local page=$1 cause=$2 name number when todo
-    while IFS='|' read -r _ name number when _ todo _; do
-        name=${name// /}
-        if [[ ${name,,} == "$cause" && $number == *[0-9]* ]]; then
-            when=${when# } todo=${todo# }
-            echo "  why: ${when% }"
-            echo "  what to do: ${todo% }"
-            break
+# Prints the second cell of the row of a page's tables whose first cell is this word in backquotes.
+second_cell() {
+    local page=$1 word=$2 first second
+    while IFS='|' read -r _ first second _; do
+        first=${first# } second=${second# }
+        if [ "${first% }" = "\`$word\`" ]; then
+            echo "${second% }"
+            return
         fi
-    done <"$root/$page" >&2
-    echo "  see $page, Refusals" >&2
+    done <"$root/$page"
+}
+
+# Says what the pages have on a cause: when it comes, and what to do about it.
+advise() {
+    local page=$1 cause=$2
+    {
+        echo "  why: $(second_cell "$page" "${cause#code }")"
+        echo "  what to do: $(second_cell docs/trouble.md "$cause")"
+        echo "  see $page, Refusals, and docs/trouble.md"
+    } >&2
 }
 
 # Prints a line of a script, as far as it is wanted. Anything may stand there, so only printable bytes reach the terminal.
@@ -28,7 +35,7 @@ explain() {
         echo "    ${text:-(here the input ends)}" >&2
     fi
     [[ $cause == code\ * ]] && page=docs/assembler.md
-    advise "$page" "${cause#code }"
+    advise "$page" "$cause"
 }
 
 # Checks the standard input, which is called NAME in what is said. Returns the program's own status.

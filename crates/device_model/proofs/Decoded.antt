@@ -1,4 +1,4 @@
--- The same laws, of what the words decode to.
+-- The images of formats, commits, boots and migrations, by what their words decode to.
 use Rattle.std.proofs.Common.{◌≡◌, ℕ, ◌<◌, ◌≤◌, List, length, take, refl}
 use Rattle.set_model.specs.Sets.{TaskSet}
 use Rattle.set_model.specs.Limits.{IsTaskSet}

@@ -1,4 +1,4 @@
--- Roots that are bits.
+-- The root word: the bits that a commit turns, and those that stay.
 use Rattle.std.proofs.Common.{◌≡◌, ℕ, zero, suc, ◌+◌, ◌-◌, ◌*◌, ◌/◌, ◌%◌, ◌^◌, ◌<◌, ◌≤◌, Bool, true, false, cond, arith, refl, ap, sym, ◌∙◌}
 use Rattle.std.proofs.lemmas.Nat.{pow-add, shl-shr, shr-shr}
 use Rattle.device_model.specs.Layouts.{bit, turned_bits}

@@ -1,4 +1,4 @@
-//! What intervals of the program say of those of the model.
+//! Laws of intervals: what raising and cutting make of those of the model.
 
 ghost use Rattle.std.specs.Prelude.{◌≡◌, ℕ, ◌≤◌, Some, ◌∷◌, List};
 ghost use Rattle.kernel_model.specs.Effects.{Write};

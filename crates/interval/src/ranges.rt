@@ -1,4 +1,4 @@
-// The points at which an attempt may stand.
+// Intervals, the points at which an attempt may stand: raised, cut, asked, and one point picked.
 
 ghost use Rattle.std.specs.Prelude.{◌≡◌, ◌<◌, ◌-◌, ◌^◌, Some, None, true, false, List, MatchOption};
 ghost use Rattle.kernel_model.specs.Effects.{Write};

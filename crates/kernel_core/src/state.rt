@@ -1,4 +1,4 @@
-//! What is durable.
+//! The durable state of a kernel: objects, open tasks, clock, number and next id.
 
 ghost use Rattle.std.specs.Prelude.{◌≡◌, ◌+◌, ◌^◌, ◌<◌, ◌≤◌, ℕ, IfOk, List, MatchOption, [], ◌∷◌, length, map};
 ghost use Rattle.kernel_model.specs.Effects.{Write, words_of};

@@ -1,4 +1,4 @@
--- What an iterator has left.
+-- What an iterator over lines or over words has left.
 use Rattle.std.specs.Prelude.{ℕ, List}
 use Rattle.std.specs.Str.Lines.{lines}
 use Rattle.plain_text.specs.Words.{words_in}

@@ -1,4 +1,4 @@
--- Numbers in a text.
+-- Numbers of so many digits, within limits, and word values. This project's own.
 use Rattle.std.specs.Prelude.{ℕ, ◌==◌, nat_le, nat_lt, ◌&&◌, ◌||◌, ◌-◌, ◌^◌, ◌%◌, Bool, not, List, [], ◌∷◌, length, Option, Some, None, Result, Ok, Err, if◌then◌else◌}
 use Rattle.std.specs.List.{list_all}
 use Rattle.std.specs.Char.{digit_value}

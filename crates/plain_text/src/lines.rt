@@ -1,4 +1,4 @@
-//! The lines of bytes.
+//! Bytes cut into lines, one after another.
 
 ghost use Rattle.std.specs.Prelude.{◌≡◌, ◌∷◌, ◌==◌, length, ◌<◌, ◌≤◌, position};
 ghost use Rattle.std.specs.Iterator.{YieldsFirstBy, item_count};

@@ -1,4 +1,4 @@
-//! Numbers of any number of digits.
+//! Numbers of any number of digits, with a cap.
 
 ghost use Rattle.std.specs.Prelude.{◌≡◌, ◌≤◌, min};
 ghost use Rattle.std.specs.Char.{digit_value as value_of_digit};

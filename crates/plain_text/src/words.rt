@@ -1,4 +1,4 @@
-//! The words of a line.
+//! A line cut into words, without its comment, and which bytes it may have.
 
 ghost use Rattle.std.specs.Prelude.{◌≡◌, ◌∷◌, ◌==◌, [], not, length, option_map, position, MatchOption};
 ghost use Rattle.std.specs.Iterator.{YieldsFirstBy, item_count};

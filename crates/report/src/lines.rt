@@ -1,4 +1,4 @@
-// The lines, one after another.
+// The lines of a report, each put in place of the last one.
 
 ghost use Rattle.std.specs.Prelude.{◌≡◌, ◌<◌, length};
 ghost use Rattle.set_model.specs.Sets.{object_at, program_at};

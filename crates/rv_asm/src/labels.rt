@@ -1,4 +1,4 @@
-//! Where labels stand.
+//! The labels of a text, each with its first line and the number of words before it.
 
 ghost use Rattle.std.specs.Prelude.{◌≡◌, Some, None, not, is_some, IfOk, OnOk, ℕ, List};
 ghost use Rattle.rv_asm.specs.Labels.{noted};

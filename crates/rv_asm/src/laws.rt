@@ -1,4 +1,4 @@
-//! Laws of what lines are assembled to.
+//! Laws of the assembler: the first refusal, how many words, what `li` leaves, and which numbers fit.
 
 ghost use Rattle.std.specs.Prelude.{◌≡◌, ◌≢◌, ◌≤◌, ◌<◌, ◌*◌, ◌^◌, ℕ, ℤ, List, Ok, Err, IsTrue, length};
 ghost use Rattle.rv_isa.specs.declared.instruction.Instr.{Instr as Instruction};

@@ -1,4 +1,4 @@
--- The limits of a schedule. This project's own.
+-- The limits of a schedule, and how many steps it has. This project's own.
 use Rattle.std.specs.Prelude.{ℕ, ◌+◌, ◌*◌, ◌<◌, ◌≤◌, List, [], ◌∷◌, length}
 use Rattle.std.specs.List.{AllByRecursion}
 use Rattle.nv_base.specs.declared.limits.TheConstants.{MAX_CORES, MAX_EVENTS}

@@ -1,4 +1,4 @@
--- Parts of a list of events.
+-- The core steps and the failures of a list of events. This project's own.
 use Rattle.std.specs.Prelude.{ℕ, ◌+◌, ◌<◌, List, [], ◌∷◌}
 use Rattle.kernel_model.specs.Events.{Event, CoreStep, Fail}
 

@@ -1,4 +1,4 @@
-//! What holds of the events of each schedule.
+//! Laws of schedules: failures keep the core steps, which on-times end, and how many events there are.
 
 ghost use Rattle.std.specs.Prelude.{ℕ, List, [], ◌≡◌, ◌+◌, ◌<◌, ◌≤◌, ◌↔◌, map, length, slice_get, sum, take, Some};
 ghost use Rattle.std.specs.List.{AllByRecursion};

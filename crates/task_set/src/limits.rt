@@ -1,4 +1,4 @@
-//! Which limit is broken first.
+//! Which limit of the parts is broken first, one test for each.
 
 ghost use Rattle.std.specs.Prelude.{◌≡◌, nat_lt};
 ghost use Rattle.std.specs.List.{list_all};

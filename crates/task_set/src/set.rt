@@ -1,4 +1,4 @@
-//! Checked task sets.
+//! Checked task sets: `build`, `copy` and the readers.
 
 ghost use Rattle.std.specs.Prelude.{◌≡◌, ◌<◌, ◌≤◌, map, length, IfOk, MatchResult};
 ghost use Rattle.task_set.specs.Refusals.{IsRefused};

@@ -1,4 +1,4 @@
-// The versions of all objects.
+// The table of versions: the versions of all objects, and what the kernel asks of them.
 
 ghost use Rattle.std.specs.Prelude.{◌≡◌, ◌<◌, ◌≤◌, Some, false, true, IfOk, IsSome, MatchOption, length, map, slice_set};
 ghost use Rattle.interval.specs.Ranges.{number_of, range_of};
