@@ -1,3 +1,4 @@
+-- What a sink took, piece by piece.
 use Rattle.std.proofs.Common.{◌≡◌, ℕ, ◌+◌, List, ◌++◌, Option, Some, None, refl, ap, ◌∙◌, sym, take, drop, take-add, append_assoc, ◌≤◌, ◌-◌, length, arith}
 use Rattle.std.proofs.lemmas.Grind.{common_steps}
 use Rattle.nv_base.specs.Streams.{grown}

@@ -1,3 +1,5 @@
+//! `decode`: from words to instructions.
+
 ghost use Rattle.std.specs.Prelude.{◌≡◌, ◌%◌, ◌↔◌, Some, None, IsNone, IfSome};
 ghost use Rattle.rv_isa.specs.Formats.{opcode, funct3, i_immediate, s_immediate, b_immediate, j_immediate};
 ghost use Rattle.rv_isa.specs.Ranges.{IsInstr};

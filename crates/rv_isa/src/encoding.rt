@@ -1,3 +1,5 @@
+//! `encode`: from instructions to words.
+
 ghost use Rattle.std.specs.Prelude.{◌≡◌, ◌≤◌, ◌<◌, ◌+◌, ◌*◌, ◌^◌, ℕ, Some};
 ghost use Rattle.rv_isa.specs.Fields.{unsigned, IsSigned};
 ghost use Rattle.rv_isa.specs.Ranges.{IsInstr, IsReg, IsImmediate};

@@ -1,3 +1,5 @@
+//! Fields of a word.
+
 ghost use Rattle.std.specs.Prelude.{◌≡◌, ◌+◌, ◌-◌, ◌*◌, ◌^◌, ◌<◌, ◌≤◌};
 ghost use Rattle.rv_isa.specs.Fields.{bits, unsigned, IsSigned};
 

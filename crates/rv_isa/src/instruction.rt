@@ -1,3 +1,5 @@
+//! Instructions and their parts: registers, operations, immediates.
+
 /// One of the 32 registers, by its number. Register 0 reads as zero, and a write to it is dropped.
 #[derive(Clone, Copy, PartialEq, Eq, Debug)]
 pub struct Reg(pub u8);

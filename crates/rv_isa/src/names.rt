@@ -1,3 +1,5 @@
+//! The ABI's names of registers, and the mnemonics.
+
 ghost use Rattle.std.specs.Prelude.{◌≡◌, ◌<◌};
 ghost use Rattle.rv_isa.specs.Names.{register_name as name_of_register, mnemonic_of, branch_name, load_name, store_name, imm_name, op_name};
 ghost use Rattle.rv_isa.specs.Ranges.{IsReg};

@@ -1,3 +1,5 @@
+//! The operands of an instruction as text, and which fields each writes.
+
 ghost use Rattle.std.specs.Prelude.{◌≡◌};
 ghost use Rattle.rv_isa.specs.Ranges.{IsInstr, IsReg};
 ghost use Rattle.rv_isa.specs.Texts.{operands_of, rd_of, rs1_of, rs2_of, number_of};
