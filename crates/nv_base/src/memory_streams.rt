@@ -1,7 +1,7 @@
 // A source and a sink over memory, of whose calls some fail.
 
-ghost use Rattle.std.specs.Prelude.{◌≡◌, ◌≤◌, ◌<◌, ◌-◌, ◌↔◌, ◌⊎◌, [], List, Option, Ok, Some, Contains, IsErr, IfOk, OnErr, OnOk, drop, length, min, take as front, vec_capacity};
-ghost use Rattle.nv_base.specs.Streams.{AtEnd, Rose, Took, grown};
+ghost use Rattle.std.specs.Prelude.{◌≡◌, ◌≤◌, ◌-◌, ◌↔◌, ◌⊎◌, [], Some, Contains, IsErr, IfOk, OnErr, OnOk, length, min, take as front, vec_capacity};
+ghost use Rattle.nv_base.specs.Streams.{Rose, Took, grown};
 
 use crate::memory::NoMemory;
 use crate::streams::{Sink, SinkFailed, Source, SourceFailed};

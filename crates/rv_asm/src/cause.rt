@@ -47,7 +47,7 @@ pub struct AsmError {
 }
 
 /// Why a text was not assembled.
-#[derive(Debug, Drop)]
+#[derive(Clone, Copy, PartialEq, Eq, Debug)]
 pub enum AsmRefusal {
     /// A line is faulty.
     At(AsmError),

@@ -4,7 +4,7 @@ use Rattle.std.proofs.lemmas.Bool.{cases_lt}
 use Rattle.nv_base.specs.Streams.{PutFront, Rose, grown}
 use Rattle.sim_run.specs.Replies.{Refuses, reply, status_of}
 use Rattle.script.specs.Exits.{line_for}
-use Rattle.sim_run.specs.Answers.{Answered, AnsweredTo, Exchange, HasReadEnough, IsComplete, IsCutOff, IsDone, NoFault, OfInput, PutsNamed}
+use Rattle.sim_run.specs.Answers.{Answered, AnsweredTo, Exchange, IsComplete, IsCutOff, IsDone, NoFault, OfInput, PutsNamed}
 use Rattle.sim_run.specs.Carried.{CarriedOut, CarriedOutTo, PutsName}
 use Rattle.sim_run.specs.declared.command.Command.{Command}
 use Rattle.script.specs.declared.status.Status.{Status}

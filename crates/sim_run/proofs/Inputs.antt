@@ -1,9 +1,9 @@
 -- From what was read, or not read, to what a call has done.
-use Rattle.std.proofs.Common.{◌≡◌, ℕ, ◌+◌, ◌<◌, ◌≤◌, cond, true, List, [], length, Option, Some, None, inl, inr, refl, ap, sym, ◌∙◌, subst, arith, ltb}
+use Rattle.std.proofs.Common.{◌≡◌, ℕ, ◌+◌, ◌≤◌, cond, true, List, [], length, Option, Some, None, inl, inr, ap, sym, subst, arith, ltb}
 use Rattle.std.proofs.lemmas.Bool.{lt-ltb}
 use Rattle.nv_base.specs.Streams.{AreGone, GaveAll}
-use Rattle.sim_run.specs.Replies.{Reply, Puts, Refuses, reply, reply_within, too_long, most_input}
-use Rattle.sim_run.specs.Answers.{Exchange, HasReadAll, IsCutOff, IsDone, OfInput, ReadFailed, WriteFailed}
+use Rattle.sim_run.specs.Replies.{Refuses, reply, reply_within, too_long, most_input}
+use Rattle.sim_run.specs.Answers.{Exchange, IsCutOff, IsDone, OfInput, ReadFailed, WriteFailed}
 use Rattle.sim_run.specs.Carried.{CarriedOutTo, Replied, Unread}
 use Rattle.sim_run.specs.declared.command.Command.{Command}
 use Rattle.script.specs.declared.status.Status.{Status}

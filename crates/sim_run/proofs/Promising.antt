@@ -1,6 +1,5 @@
 -- The report that was put is the one of which the headline holds.
-use Rattle.std.proofs.Common.{◌≡◌, ℕ, Bool, true, false, cond, List, length, Option, Some, None, Ok, subst, sym, ap, ◌∙◌, ltb, refl}
-use Rattle.nv_base.specs.Streams.{grown}
+use Rattle.std.proofs.Common.{◌≡◌, ℕ, Bool, true, false, cond, List, length, Option, Some, None, Ok, subst, sym, ap, ◌∙◌, ltb}
 use Rattle.schedule_model.specs.Failures.{events_of}
 use Rattle.headline.specs.Headline.{Headline, report_text}
 use Rattle.script.specs.Parts as scripts
@@ -9,7 +8,7 @@ use Rattle.script.specs.declared.status.Status.{Status}
 use Rattle.script.specs.declared.status.Status.TheVariants.{Done, NotBuilt, Script}
 use Rattle.sim_run.specs.declared.command.Command.{Command}
 use Rattle.sim_run.specs.declared.command.Command.TheVariants.{Run}
-use Rattle.sim_run.specs.Replies.{Reply, Puts, Refuses, is_built, most_input, reply, run_reply, too_long}
+use Rattle.sim_run.specs.Replies.{Puts, Refuses, is_built, most_input, reply, run_reply, too_long}
 use Rattle.sim_run.specs.Answers.{Answered, Exchange, IsDone, OfInput}
 use Rattle.sim_run.specs.Promises.{IsHeadlined, IsPromised, KeepsHeadline}
 

@@ -1,5 +1,5 @@
 -- A run of the kernel, event by event.
-use Rattle.std.proofs.Common.{◌≡◌, ℕ, zero, suc, ◌+◌, ◌<◌, ◌≤◌, List, [], ◌∷◌, ◌++◌, length, take, drop, Option, Some, refl, ap, sym, ◌∙◌, subst, append_assoc, arith}
+use Rattle.std.proofs.Common.{◌≡◌, ℕ, zero, suc, ◌+◌, ◌<◌, ◌≤◌, List, [], ◌∷◌, ◌++◌, length, take, drop, Option, Some, ap, sym, ◌∙◌, subst, append_assoc, arith}
 use Rattle.std.specs.List.{AllByRecursion}
 use Rattle.std.specs.Prelude.{slice_get}
 use Rattle.std.proofs.lemmas.Grind.{flat_map-append}
@@ -25,7 +25,7 @@ use Rattle.headline.specs.Run.{after, event_lines, first_state, report_text, sta
 use Rattle.kernel_core.specs.Kept.{IsKept, finishes}
 use Rattle.kernel_core.specs.Stands.{Leads, Stands, durable_of, left_in}
 use Rattle.kernel_core.specs.declared.kernel.Kernel.{Kernel}
-use Rattle.sim_run.specs.Runs.{Carries, first_lines_text, found_part, tail_of}
+use Rattle.sim_run.specs.Runs.{Carries, first_lines_text, tail_of}
 use Rattle.sim_run.proofs.Fronts.{front_later, front_next, put_more}
 
 -- without failures, each event of one core is its step

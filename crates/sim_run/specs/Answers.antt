@@ -1,7 +1,7 @@
 -- The answers of a call, each with its cause and with what was put. This project's own.
-use Rattle.std.specs.Prelude.{◌≡◌, ℕ, ◌+◌, ◌⊎◌, List, [], length, Option, Some, None}
+use Rattle.std.specs.Prelude.{◌≡◌, ℕ, ◌+◌, ◌⊎◌, List, [], Option, Some, None}
 use Rattle.nv_base.specs.Streams.{AreGone, AtMostGone, PutFront, Rose, grown}
-use Rattle.sim_run.specs.Replies.{Reply, Puts, Refuses, reply, status_of, most_input, too_long}
+use Rattle.sim_run.specs.Replies.{Puts, Refuses, reply, status_of, most_input, too_long}
 use Rattle.script.specs.Exits.{line_for}
 use Rattle.sim_run.specs.declared.command.Command.{Command}
 use Rattle.script.specs.declared.status.Status.{Status}

@@ -1,6 +1,6 @@
 -- What a call has done before the line that names its answer, and that line.
-use Rattle.std.specs.Prelude.{◌≡◌, ℕ, ◌⊎◌, List, [], Option, Some, None}
-use Rattle.nv_base.specs.Streams.{AreGone, PutFront, Rose, grown}
+use Rattle.std.specs.Prelude.{◌≡◌, ℕ, ◌⊎◌, List, Option, Some, None}
+use Rattle.nv_base.specs.Streams.{AreGone, PutFront, grown}
 use Rattle.sim_run.specs.Replies.{Reply, Puts, Refuses, reply, too_long, most_input}
 use Rattle.sim_run.specs.Answers.{Exchange, HasReadAll, HasReadEnough, IsCutOff, IsDone, OfInput, ReadFailed, WriteFailed}
 use Rattle.std.specs.Prelude.{◌+◌}

@@ -1,5 +1,5 @@
 -- What a run puts: the lines of its events, and then what is read back.
-use Rattle.std.specs.Prelude.{◌≡◌, ℕ, List, [], ◌∷◌, ◌++◌, Option, take, replicate, length}
+use Rattle.std.specs.Prelude.{◌≡◌, ℕ, List, ◌++◌, Option, take}
 use Rattle.std.specs.List.{flat_map}
 use Rattle.nv_base.specs.Streams.{PutFront, grown}
 use Rattle.rv_core.specs.State.{MachineState}

@@ -1,6 +1,6 @@
 //! The commands `dis` and `pack`: a packed set as a script, and a script as a packed set.
 
-ghost use Rattle.std.specs.Prelude.{◌≡◌, ◌≤◌, length};
+ghost use Rattle.std.specs.Prelude.{◌≤◌};
 ghost use Rattle.nv_base.specs.Streams.{Rose};
 ghost use Rattle.script.specs.Reading.{read};
 ghost use Rattle.script.specs.ScriptText.{script_text as text_of_set};

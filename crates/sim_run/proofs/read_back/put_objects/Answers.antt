@@ -1,4 +1,4 @@
-use Rattle.std.proofs.Common.{[], length, ap, sym, ◌∙◌, arith}
+use Rattle.std.proofs.Common.{length, ap, arith}
 use Rattle.sim_run.proofs.Fronts.{grown_nothing, rose_later}
 use Rattle.sim_run.proofs.ReadBack.{cut_object, last_object, next_object}
 use Rattle.sim_run.proofs.read_back.put_objects.Goals as goal

@@ -1,7 +1,6 @@
-use Rattle.std.proofs.Common.{◌≡◌, ◌<◌, length, map, subst, sym, ap, ◌∙◌}
+use Rattle.std.proofs.Common.{◌≡◌, ◌<◌, length, subst, sym}
 use Rattle.std.specs.List.{AllByRecursion, flat_map}
 use Rattle.nv_base.specs.Streams.{PutFront, grown}
-use Rattle.set_model.specs.Views.{task_of}
 use Rattle.report_text.specs.Lines.{open_text}
 use Rattle.kernel_core.specs.Stands.{durable_of}
 use Rattle.sim_run.proofs.read_back.put_open.Goals as goal

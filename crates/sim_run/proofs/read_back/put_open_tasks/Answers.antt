@@ -1,5 +1,4 @@
-use Rattle.std.proofs.Common.{◌≡◌, ◌<◌, length, map, subst, sym, ap, ◌∙◌}
-use Rattle.std.specs.List.{flat_map}
+use Rattle.std.proofs.Common.{◌<◌, length, subst, sym, ap, ◌∙◌}
 use Rattle.nv_base.specs.Streams.{PutFront, grown}
 use Rattle.set_model.specs.Views.{task_of}
 use Rattle.report_text.specs.Lines.{open_text}
