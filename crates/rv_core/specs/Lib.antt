@@ -9,3 +9,4 @@ pub mod Task
 pub mod Machine
 pub mod Example
 pub mod Products
+pub mod WorkedSteps

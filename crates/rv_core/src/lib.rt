@@ -4,6 +4,7 @@
 
 ghost use Rattle.rv_core.specs.Example.{Ends};
 ghost use Rattle.rv_core.specs.Products.{AreComputed};
+ghost use Rattle.rv_core.specs.WorkedSteps.{AreStepped};
 
 mod bytes;
 #[cfg(test)]
@@ -25,4 +26,9 @@ pub fn worked()
 /// Products and quotients of words, edges among them, as they were worked out by hand.
 pub fn products_and_quotients()
     ensures { AreComputed }
+{}
+
+/// Single steps of shifts, jumps, branches and comparisons, edges among them, as they were worked out by hand.
+pub fn worked_steps()
+    ensures { AreStepped }
 {}

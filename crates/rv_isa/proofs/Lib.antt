@@ -1,3 +1,4 @@
+mod Fronts
 mod TwosComplement
 mod Sums
 mod WordBack

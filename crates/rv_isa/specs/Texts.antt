@@ -1,6 +1,6 @@
 -- An instruction as a line of assembler text: its mnemonic and its operands (this project's own, after
 -- the RISC-V unprivileged ISA manual's assembly syntax).
-use Rattle.std.specs.Prelude.{ℕ, zero, suc, ◌==◌, ◌/◌, ◌%◌, List, [], ◌∷◌, ◌++◌, ℤ, pos, Option, Some, None, codes, if◌then◌else◌}
+use Rattle.std.specs.Prelude.{ℕ, zero, suc, ◌≡◌, ◌≤◌, ◌==◌, ◌/◌, ◌%◌, List, [], ◌∷◌, ◌++◌, length, take, ℤ, pos, Option, Some, None, codes, if◌then◌else◌}
 use Rattle.std.specs.List.{flat_map}
 use Rattle.std.specs.Fmt.{signed_decimal}
 use Rattle.std.specs.Char.{digit_char}
@@ -104,3 +104,9 @@ line_text word (Some i) = instruction_text word i
 -- the text of a word
 unfoldable pub text_of : ℕ → List ℕ
 text_of word = line_text word (instruction_of word)
+
+-- behind what stood there stands a front of the text, and nothing else
+pub record HasFront (before text now : List ℕ) : Type 0 where
+  pub count : ℕ
+  pub short : count ≤ length text
+  pub is_put : now ≡ before ++ take count text

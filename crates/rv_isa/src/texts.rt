@@ -1,10 +1,10 @@
 // Words as lines of assembler text.
 
-ghost use Rattle.std.specs.Prelude.{◌≡◌, ◌++◌, IfOk, OnOk, codes, string_bytes};
+ghost use Rattle.std.specs.Prelude.{◌≡◌, ◌≤◌, ◌++◌, IfOk, OnErr, OnOk, codes, string_bytes};
 ghost use Rattle.std.specs.Fmt.{signed_decimal};
 ghost use Rattle.rv_isa.specs.Names.{register_name as name_of_register};
 ghost use Rattle.rv_isa.specs.Ranges.{IsInstr, IsReg};
-ghost use Rattle.rv_isa.specs.Texts.{hexadecimal, instruction_text, operand_text, raw_text, row_text, text_of};
+ghost use Rattle.rv_isa.specs.Texts.{HasFront, hexadecimal, instruction_text, operand_text, raw_text, row_text, text_of};
 
 use crate::decoding::decode;
 use crate::instruction::{Instr, Reg};
@@ -17,7 +17,8 @@ use std::alloc::{AllocError, Global};
 const FENCE: u32 = 0x0FF0000F;
 
 fn push_number(out: &mut String, n: i32) -> Result<(), AllocError>
-    ensures { OnOk result (string_bytes out.new ≡ string_bytes out.old ++ signed_decimal n) }
+    ensures whole { OnOk result (string_bytes out.new ≡ string_bytes out.old ++ signed_decimal n) }
+    ensures cut_off { OnErr result (HasFront (string_bytes out.old) (signed_decimal n) (string_bytes out.new)) }
 {
     let mut digits = itoa::Buffer::new();
     out.push_str(digits.format(n))
@@ -25,7 +26,8 @@ fn push_number(out: &mut String, n: i32) -> Result<(), AllocError>
 
 fn push_address(out: &mut String, offset: i32, base: Reg) -> Result<(), AllocError>
     requires { IsReg base }
-    ensures { OnOk result (string_bytes out.new ≡ string_bytes out.old ++ (signed_decimal offset ++ codes "(" ++ name_of_register base ++ codes ")")) }
+    ensures whole { OnOk result (string_bytes out.new ≡ string_bytes out.old ++ (signed_decimal offset ++ codes "(" ++ name_of_register base ++ codes ")")) }
+    ensures cut_off { OnErr result (HasFront (string_bytes out.old) (signed_decimal offset ++ codes "(" ++ name_of_register base ++ codes ")") (string_bytes out.new)) }
 {
     push_number(out, offset)?;
     out.push_str("(")?;
@@ -35,7 +37,8 @@ fn push_address(out: &mut String, offset: i32, base: Reg) -> Result<(), AllocErr
 
 fn push_operand(out: &mut String, i: Instr, operand: Operand) -> Result<(), AllocError>
     requires { IsInstr i }
-    ensures { OnOk result (string_bytes out.new ≡ string_bytes out.old ++ operand_text i operand) }
+    ensures whole { OnOk result (string_bytes out.new ≡ string_bytes out.old ++ operand_text i operand) }
+    ensures cut_off { OnErr result (HasFront (string_bytes out.old) (operand_text i operand) (string_bytes out.new)) }
 {
     match operand {
         Operand::Rd => out.push_str(register_name(destination(i))),
@@ -48,7 +51,8 @@ fn push_operand(out: &mut String, i: Instr, operand: Operand) -> Result<(), Allo
 
 fn push_row(out: &mut String, i: Instr) -> Result<(), AllocError>
     requires { IsInstr i }
-    ensures { OnOk result (string_bytes out.new ≡ string_bytes out.old ++ row_text i) }
+    ensures whole { OnOk result (string_bytes out.new ≡ string_bytes out.old ++ row_text i) }
+    ensures cut_off { OnErr result (HasFront (string_bytes out.old) (row_text i) (string_bytes out.new)) }
 {
     out.push_str(mnemonic(i))?;
     if let [first, others @ ..] = operands(i) {
@@ -62,10 +66,13 @@ fn push_row(out: &mut String, i: Instr) -> Result<(), AllocError>
     Ok(())
 }
 
-/// So many hexadecimal digits of a number, in lower case, behind what is there. An error where they found no memory.
+/// So many hexadecimal digits of a number, in lower case, behind what is there: 8 at most, those of a word. An error
+/// where they found no memory; then a front of them was put.
 #[tactic(auto, unfolding(crate::specs::Texts::hexadecimal))]
 pub fn push_hexadecimal(out: &mut String, digits: u32, n: u32) -> Result<(), AllocError>
-    ensures { OnOk result (string_bytes out.new ≡ string_bytes out.old ++ hexadecimal digits n) }
+    requires { digits ≤ 8 }
+    ensures whole { OnOk result (string_bytes out.new ≡ string_bytes out.old ++ hexadecimal digits n) }
+    ensures cut_off { OnErr result (HasFront (string_bytes out.old) (hexadecimal digits n) (string_bytes out.new)) }
 {
     if digits == 0 {
         return Ok(());
@@ -75,17 +82,19 @@ pub fn push_hexadecimal(out: &mut String, digits: u32, n: u32) -> Result<(), All
 }
 
 fn push_raw(out: &mut String, word: u32) -> Result<(), AllocError>
-    ensures { OnOk result (string_bytes out.new ≡ string_bytes out.old ++ raw_text word) }
+    ensures whole { OnOk result (string_bytes out.new ≡ string_bytes out.old ++ raw_text word) }
+    ensures cut_off { OnErr result (HasFront (string_bytes out.old) (raw_text word) (string_bytes out.new)) }
 {
     out.push_str(".word 0x")?;
     push_hexadecimal(out, 8, word)
 }
 
 /// Puts the text of a word, by `text`, behind what is there. `NoMemory` where no room for it was found;
-/// then a beginning of it may have been put.
+/// then a front of it was put.
 #[tactic(auto, unfolding(crate::specs::Texts::text_of))]
 pub fn push_text(out: &mut String, word: u32) -> Result<(), NoMemory>
-    ensures { OnOk result (string_bytes out.new ≡ string_bytes out.old ++ text_of word) }
+    ensures whole { OnOk result (string_bytes out.new ≡ string_bytes out.old ++ text_of word) }
+    ensures cut_off { OnErr result (HasFront (string_bytes out.old) (text_of word) (string_bytes out.new)) }
 {
     match decode(word) {
         Some(Instr::Fence { .. }) if word != FENCE => push_raw(out, word)?,
