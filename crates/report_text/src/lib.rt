@@ -1,2 +1,4 @@
-//! The text of a report, line by line: definitions alone.
+//! The text of a report, line by line: definitions, and laws of them.
 #![tactic(auto)]
+
+pub mod laws;

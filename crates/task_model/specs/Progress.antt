@@ -1,5 +1,5 @@
 -- How the code's progress stands for what a run of the model has done. This project's own.
-use Rattle.std.specs.Prelude.{◌≡◌, ℕ, suc, List, length, map, Option, Some, None, if◌then◌else◌}
+use Rattle.std.specs.Prelude.{◌≡◌, ℕ, suc, List, [], length, map, Option, Some, None, if◌then◌else◌}
 use Rattle.object_sets.specs.ObjectSets.{IsIncreasing, is_among, with_object}
 use Rattle.rv_core.specs.State.{MachineState, StepResult}
 use Rattle.rv_core.specs.Machine.{step_of}
@@ -20,6 +20,10 @@ pub record Stands (set : TaskSet) (objects : Objects) (e : Effects) (p : Progres
   pub written : p.written ≡ map (λ w. w.object) e.writes
   pub increasing : IsIncreasing p.written
   pub spawns : map spawn_of p.spawns ≡ e.spawns
+
+-- nothing is done yet on these objects
+abbrev pub HasBegun : Progress → Objects → Type 0
+HasBegun p objects = (p.values ≡ objects) × (p.reads ≡ []) × (p.written ≡ []) × (p.spawns ≡ [])
 
 -- the objects read from outside, with one that is read now: it is among them, unless the task wrote it
 abbrev pub reads_noted : Progress → ℕ → List ℕ

@@ -1,6 +1,6 @@
 //! How far a run has come, and what its services make of it.
 
-ghost use Rattle.std.specs.Prelude.{◌≡◌, ◌+◌, ◌*◌, ◌<◌, ◌≤◌, [], IfOk, OnOk, Some, ℕ, length};
+ghost use Rattle.std.specs.Prelude.{◌≡◌, ◌+◌, ◌*◌, ◌<◌, ◌≤◌, IfOk, OnOk, Some, ℕ, length};
 ghost use Rattle.std.specs.Result.{result_err};
 ghost use Rattle.rv_core.specs.State.{Calls};
 ghost use Rattle.rv_core.specs.Machine.{put_words, service_of, step_of, IsPlace, Keeps};
@@ -9,7 +9,7 @@ ghost use Rattle.kernel_model.specs.Effects.{words_of};
 ghost use Rattle.set_model.specs.Sets.{TaskSet};
 ghost use Rattle.task_model.specs.TaskSteps.{part_refusal, refusal};
 ghost use Rattle.task_model.specs.Shape.{HasShape};
-ghost use Rattle.task_model.specs.Progress.{Turns, reads_noted};
+ghost use Rattle.task_model.specs.Progress.{HasBegun, Turns, reads_noted};
 
 use crate::objects::Objects;
 use crate::spawns::{MAX_SPAWNS, Spawns};
@@ -44,7 +44,7 @@ fn give_words(machine: &mut Machine, at: u32, words: &[u32])
 impl Progress {
     /// Nothing is done yet. All room is taken here.
     pub(crate) fn begin(alloc: Global, objects: &Objects) -> Result<Progress, NoMemory>
-        ensures { IfOk result (λ p. (p.values ≡ objects.now) × (p.reads ≡ []) × (p.written ≡ []) × (p.spawns ≡ [])) }
+        ensures { IfOk result (λ p. HasBegun p objects.now) }
     {
         Ok(Progress {
             values: objects.copy(alloc)?,

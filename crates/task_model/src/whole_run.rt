@@ -1,13 +1,13 @@
 //! A task from its first state to its end.
 
-ghost use Rattle.std.specs.Prelude.{◌≡◌, ◌<◌, IfOk, length};
+ghost use Rattle.std.specs.Prelude.{◌≡◌, ◌<◌, IfOk, OnErr, length};
 ghost use Rattle.kernel_model.specs.Effects.{Effects, ended};
 ghost use Rattle.kernel_model.specs.Runs.{whole_run};
 ghost use Rattle.set_model.specs.Sets.{TaskSet as Parts};
 ghost use Rattle.set_model.specs.Views.{outcome_of};
 ghost use Rattle.task_model.specs.TaskSteps.{task_steps};
 ghost use Rattle.task_model.specs.Shape.{AreAlike, HasShape};
-ghost use Rattle.task_model.specs.Progress.{Stands};
+ghost use Rattle.task_model.specs.Progress.{HasBegun, Stands};
 ghost use Rattle.task_model.specs.WholeRun.{IsWholeRun};
 
 use crate::objects::Objects;
@@ -67,8 +67,36 @@ fn whole_of(progress: Progress, outcome: Outcome, objects: &Objects) -> Whole
     }
 }
 
+/// Runs the task from its first state to its end, with the room that was taken for it.
+fn run_in_room(
+    mut progress: Progress,
+    machine: &mut Machine,
+    set: &TaskSet,
+    program: ProgId,
+    arg: u32,
+    objects: &Objects,
+) -> Whole
+    requires begun { HasBegun progress objects.now }
+    requires memory { length machine.old.memory ≡ set.now.memory }
+    requires program { program.0 < length set.now.programs }
+    requires shape { HasShape set.now objects.now }
+    ensures exact { IsWholeRun result (whole_run (task_steps set.now) program.0 arg objects.now) objects.now }
+    ensures shape { HasShape set.now result.values }
+    ensures room { length machine.new.memory ≡ set.now.memory }
+{
+    let fuel = set.fuel(program);
+    let programs = set.programs();
+    machine.load(set.code(program), arg, fuel);
+    for _ in 0..fuel {
+        if let Some(outcome) = progress.turn(machine, programs) {
+            return whole_of(progress, outcome, objects);
+        }
+    }
+    whole_of(progress, Outcome::Trap(TrapCause::Fuel), objects)
+}
+
 /// Runs the task of a program of the set from its first state to its end, on objects that nobody else changes. All
-/// memory is taken before the first step: `NoMemory` where there is too little.
+/// memory is taken before the first step: `NoMemory` where there is too little, and then the machine is as it was.
 pub fn run_whole(
     alloc: Global,
     machine: &mut Machine,
@@ -83,15 +111,8 @@ pub fn run_whole(
     ensures exact { IfOk result (λ w. IsWholeRun w (whole_run (task_steps set.now) program.0 arg objects.now) objects.now) }
     ensures shape { IfOk result (λ w. HasShape set.now w.values) }
     ensures room { length machine.new.memory ≡ set.now.memory }
+    ensures kept { OnErr result (machine.new ≡ machine.old) }
 {
-    let mut progress = Progress::begin(alloc, objects)?;
-    let fuel = set.fuel(program);
-    let programs = set.programs();
-    machine.load(set.code(program), arg, fuel);
-    for _ in 0..fuel {
-        if let Some(outcome) = progress.turn(machine, programs) {
-            return Ok(whole_of(progress, outcome, objects));
-        }
-    }
-    Ok(whole_of(progress, Outcome::Trap(TrapCause::Fuel), objects))
+    let progress = Progress::begin(alloc, objects)?;
+    Ok(run_in_room(progress, machine, set, program, arg, objects))
 }

@@ -3,16 +3,16 @@ use Rattle.kernel_model.specs.Runs.{whole_run}
 use Rattle.task_model.specs.TaskSteps.{task_steps}
 use Rattle.task_model.proofs.Rests.{begins, ends, goes, keeps_shape, keeps_shape_at_end, same_first, spent}
 use Rattle.task_model.proofs.Shapes.{has_shape}
-use Rattle.task_model.proofs.whole_run.run_whole.Goals as goal
+use Rattle.task_model.proofs.whole_run.run_in_room.Goals as goal
 
 pub loop-init : goal.loop-init
 loop-init c =
-    let p = c.in_ok-progress.ensures in
+    let p = c.requires.begun in
     let first = same_first c.args.set.now c.args.program.0 c.args.arg c.code.result.now c.fuel-fuel.result (length c.args.machine.now.memory) c.load.new.self c.load.ensures.exact
     c.code.ensures.exact c.fuel-fuel.ensures.exact c.requires.memory in
     record {
       rest =
-          begins c.args.set.now c.args.objects.now c.args.program.0 c.args.arg (c.fuel-fuel.result - 0) c.in_ok-progress.progress c.load.new.self c.requires.shape
+          begins c.args.set.now c.args.objects.now c.args.program.0 c.args.arg (c.fuel-fuel.result - 0) c.args.progress c.load.new.self c.requires.shape
           p.0 p.1 p.2 p.3 first (sym c.fuel-fuel.ensures.exact ∙ (omega arith));
       count = ap (λ m. m.count) c.load.ensures.exact;
       fuel = ap (λ m. m.fuel) c.load.ensures.exact;

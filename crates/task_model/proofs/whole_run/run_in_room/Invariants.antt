@@ -2,7 +2,7 @@ use Rattle.std.proofs.Common.{◌≡◌, ◌-◌, length}
 use Rattle.kernel_model.specs.Runs.{whole_run}
 use Rattle.task_model.specs.TaskSteps.{task_steps}
 use Rattle.task_model.proofs.Rests.{Rests}
-use Rattle.task_model.proofs.whole_run.run_whole.Given as goal
+use Rattle.task_model.proofs.whole_run.run_in_room.Given as goal
 
 abbrev pub invariant-loop : goal.invariant-loop
 invariant-loop l = record {
