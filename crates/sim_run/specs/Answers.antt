@@ -93,6 +93,6 @@ IsComplete (Some c) x status = NoFault x → OfInput x.left (λ input. (status �
 abbrev pub HasReadFew : Exchange → Status → Type 0
 HasReadFew x status = AtMostGone x.left x.left_now most_input ⊎ ((status ≡ Script too_long) × AreGone x.left x.left_now (most_input + 1))
 
--- the source did not fail, or the answer says so
+-- the source's count of faults stood still, or the answer says that it failed
 abbrev pub TellsReadFault : Exchange → Status → Type 0
 TellsReadFault x status = (x.read_faults_now ≡ x.read_faults) ⊎ (status ≡ ReadFault)
