@@ -134,7 +134,7 @@ fn finish(alloc: Global, draft: Draft, n: u32) -> Result<Script, ScriptRefusal>
 #[tactic(auto, unfolding(crate::specs::Reading::read))]
 pub fn read_script(alloc: Global, bytes: &[u8]) -> Result<Script, ScriptRefusal>
     ensures reads { Reads script result (read bytes.now) }
-    ensures long { 1048576 < length bytes.now → result ≡ Err (At (record { line = 0; cause = ScriptCause.Long })) }
+    ensures long { MAX_INPUT < length bytes.now → result ≡ Err (At (record { line = 0; cause = ScriptCause.Long })) }
 {
     if LONGEST < bytes.len() {
         return Err(refused(0, ScriptCause::Long));

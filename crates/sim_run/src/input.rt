@@ -1,6 +1,6 @@
 //! The input of a command, read to its end.
 
-ghost use Rattle.std.specs.Prelude.{◌≡◌, ◌≤◌, ◌⊎◌, length, Err, IfOk, IfErr};
+ghost use Rattle.std.specs.Prelude.{◌≡◌, ◌≤◌, ◌+◌, ◌⊎◌, length, Err, IfOk, IfErr};
 ghost use Rattle.nv_base.specs.Streams.{AreGone, AtMostGone, GaveAll, Rose};
 ghost use Rattle.sim_run.specs.Replies.{too_long};
 ghost use Rattle.sim_run.specs.Carried.{Unread};
@@ -20,7 +20,8 @@ pub(crate) fn read_input<S: Source>(alloc: Global, src: &mut S) -> Result<Vec<u8
     ensures given { IfOk result (λ v. GaveAll (S.left src.old) (S.left src.new) v.items) }
     ensures within { IfOk result (λ v. length v.items ≤ MAX_INPUT) }
     ensures unread { IfErr result (Unread (S.left src.old) (S.left src.new) (Rose (S.faults src.old) (S.faults src.new))) }
-    ensures few { AtMostGone (S.left src.old) (S.left src.new) 1048576 ⊎ ((result ≡ Err (Status.Script too_long)) × AreGone (S.left src.old) (S.left src.new) 1048577) }
+    ensures few { AtMostGone (S.left src.old) (S.left src.new) MAX_INPUT
+        ⊎ ((result ≡ Err (Status.Script too_long)) × AreGone (S.left src.old) (S.left src.new) (MAX_INPUT + 1)) }
     ensures told { (S.faults src.new ≡ S.faults src.old) ⊎ (result ≡ Err Status.ReadFault) }
     ensures never_falls { S.faults src.old ≤ S.faults src.new }
 {
