@@ -1,4 +1,4 @@
-//! No default of these definitions stands in a report.
+//! In a report each trap has a word, and each object its line.
 
 ghost use Rattle.std.specs.Prelude.{ℕ, ◌≡◌, ◌<◌, ◌+◌, ◌++◌, [], length, take, drop};
 ghost use Rattle.nv_base.specs.Causes.{cause_number, cause_word};
