@@ -9,8 +9,11 @@ use Rattle.rv_core.specs.State.{MachineState, StepResult, Next, Calls, Traps}
 use Rattle.rv_core.specs.Machine.{step_of, first_state, misfit, service_of, words_at, with_register}
 use Rattle.kernel_model.specs.Effects.{Exit}
 use Rattle.kernel_model.specs.Runs.{Step, Steps, Went, Reads, Writes, Spawns, Ends}
+use Rattle.kernel_model.specs.Worlds.{World}
 use Rattle.set_model.specs.Sets.{TaskSet, object_at, program_at}
 use Rattle.set_model.specs.Views.{trap_of}
+use Rattle.set_model.specs.Numbers.{sizes_of}
+use Rattle.set_model.specs.Formatted.{formatted}
 
 -- behind the ECALL
 abbrev pub past : MachineState → MachineState
@@ -99,3 +102,7 @@ task_steps set = record {
   spawned = given_index;
   left = λ s. s.fuel - s.count;
 }
+
+-- what stays in a run of a set from its formatted state
+abbrev pub world_of : TaskSet → World MachineState
+world_of set = record { steps = task_steps set; sizes = sizes_of set; base = formatted set }
