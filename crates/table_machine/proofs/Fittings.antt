@@ -86,7 +86,7 @@ turn_fits {M} x base s n fit lawful c at h = by c (subst (IsSoundCore (world_in 
     sized = base-sized sizes base lawful.set_up.based
 
     read-sizes : (reads : List Read) → AreFound base history reads → AllByRecursion (λ r. r.object < length base.objects) reads → AllByRecursion (λ r. length (read_words base history r) ≡ sizes.size r.object) reads
-    read-sizes = reads-size sizes base history sized (history-runs x.steps sizes lawful.set_up.machine base sized history lawful.sound.history.replays)
+    read-sizes = reads-size sizes base history sized (history-runs (world_in x base) lawful.set_up.machine sized history lawful.sound.history.replays)
 
     by : (c : Core M) → IsSoundCore (world_in x base) history c → IsFitting x.steps sizes c → IsFitting x.steps sizes (core_turn (world_in x base) history (all_but n s.cores) n c).core
     by Idle sound h = go (next_task (all_but n s.cores) (open_tasks base history))
