@@ -4,7 +4,7 @@ use Rattle.std.proofs.Math.Seq.{take-suc}
 use Rattle.std.proofs.lemmas.Bool.{cases_lt}
 use Rattle.std.proofs.lemmas.Option.{get_or_from_slice_get, slice_get_within}
 use Rattle.std.specs.Option.{option_to_list}
-use Rattle.kernel_model.specs.Items.{Entry, Item, listing}
+use Rattle.kernel_model.specs.Items.{Entry, FinishRecord, listing}
 use Rattle.kernel_model.specs.Worlds.{World}
 use Rattle.kernel_model.specs.Turns.{Line, Start}
 use Rattle.kernel_model.specs.Events.{Event, State, with_finish, lines_of, event_step, state_after}
@@ -100,7 +100,7 @@ module _ {M : Type 0} (world : World M) where
 
   -- what is listed stays listed
   grown : IsSetUp world → (events : List Event) (s : State M) → HasIds world.base (length s.history + length events) → IsSound world s →
-      (newer : List Item) × (listed (state_after world s events) ≡ newer ++ listed s)
+      (newer : List FinishRecord) × (listed (state_after world s events) ≡ newer ++ listed s)
   grown set_up [] s l h = ([], refl)
   grown set_up (e ∷ events) s l h = go (flipped_by s e) (listed_step world set_up.sized.index_writes s h e)
       (grown set_up events (event_step world s e).0 (omega (arith, l, history-step world s e)) (next_sound world set_up s h (sound-ids world set_up s.history h.history (omega (arith, l))) e))
@@ -108,16 +108,16 @@ module _ {M : Type 0} (world : World M) where
       t : State M
       t = (event_step world s e).0
 
-      go : (o : Option Item) → listed t ≡ with_finish o (listed s) → (newer : List Item) × (listed (state_after world t events) ≡ newer ++ listed t) →
-          (newer : List Item) × (listed (state_after world t events) ≡ newer ++ listed s)
-      go None f k = (k.0, k.1 ∙ ap (λ (l : List Item). k.0 ++ l) f)
-      go (Some i) f k = (k.0 ++ i ∷ [], k.1 ∙ ap (λ (l : List Item). k.0 ++ l) f ∙ sym (append_assoc k.0 (i ∷ []) (listed s)))
+      go : (o : Option FinishRecord) → listed t ≡ with_finish o (listed s) → (newer : List FinishRecord) × (listed (state_after world t events) ≡ newer ++ listed t) →
+          (newer : List FinishRecord) × (listed (state_after world t events) ≡ newer ++ listed s)
+      go None f k = (k.0, k.1 ∙ ap (λ (l : List FinishRecord). k.0 ++ l) f)
+      go (Some i) f k = (k.0 ++ i ∷ [], k.1 ∙ ap (λ (l : List FinishRecord). k.0 ++ l) f ∙ sym (append_assoc k.0 (i ∷ []) (listed s)))
 
 module _ {M : Type 0} (x : Execution M) where
   ids_of_first : (n : ℕ) → HasIds x.world.base (length (take n x.events))
   ids_of_first n = omega (arith, x.ids, length-take n x.events)
 
-  pub listing_grows : (m n : ℕ) → m ≤ n → (newer : List Item) × (listed (state_at x n) ≡ newer ++ listed (state_at x m))
+  pub listing_grows : (m n : ℕ) → m ≤ n → (newer : List FinishRecord) × (listed (state_at x n) ≡ newer ++ listed (state_at x m))
   listing_grows m n l =
       let k = grown x.world x.set_up rest (state_at x m) ids (run_sound x.world x.set_up (take m x.events) (ids_of_first m) x.cores x.power x.boots) in
       (k.0, ap listed (ap (state_after x.world (start_of x)) split ∙ state_after-append x.world (take m x.events) rest (start_of x)) ∙ k.1)

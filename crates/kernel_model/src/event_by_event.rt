@@ -2,7 +2,7 @@
 
 ghost use Rattle.std.specs.Prelude.{ℕ, ◌≡◌, ◌≤◌, ◌+◌, ◌++◌, ◌∷◌, [], ◌⊎◌, List, Option, length, take, slice_get};
 ghost use Rattle.std.specs.Option.{option_to_list};
-ghost use Rattle.kernel_model.specs.Items.{Item, listing};
+ghost use Rattle.kernel_model.specs.Items.{FinishRecord, listing};
 ghost use Rattle.kernel_model.specs.Worlds.{World};
 ghost use Rattle.kernel_model.specs.Turns.{Line};
 ghost use Rattle.kernel_model.specs.Events.{Event, State, lines_of, event_step, state_after};
@@ -47,7 +47,7 @@ pub fn lost_call_leaves<M>()
 
 /// What is listed stays listed, and in its place.
 pub fn listing_only_grows<M>()
-    ensures { (x : Execution M) (m n : ℕ) → m ≤ n → (newer : List Item) × (listed (state_at x n) ≡ newer ++ listed (state_at x m))
+    ensures { (x : Execution M) (m n : ℕ) → m ≤ n → (newer : List FinishRecord) × (listed (state_at x n) ≡ newer ++ listed (state_at x m))
         × (listing (listed (state_at x n)) ≡ listing (listed (state_at x m)) ++ listing newer) }
 {}
 

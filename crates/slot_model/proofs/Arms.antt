@@ -3,8 +3,8 @@ use Rattle.std.proofs.Common.{◌≡◌, ℕ, ◌-◌, ◌<◌, ◌≤◌, true,
 use Rattle.std.specs.List.{AllByRecursion}
 use Rattle.kernel_model.specs.Sizes.{Sizes}
 use Rattle.kernel_model.specs.Effects.{Run, Write}
-use Rattle.kernel_model.specs.Items.{Item}
-use Rattle.kernel_model.specs.Replay.{Base}
+use Rattle.kernel_model.specs.Items.{FinishRecord}
+use Rattle.kernel_model.specs.Replay.{DeviceState}
 use Rattle.kernel_model.specs.Worlds.{World}
 use Rattle.kernel_model.specs.Versions.{Version, chosen, versions}
 use Rattle.kernel_model.specs.Chain.{IsChain}
@@ -47,7 +47,7 @@ boot_stands {M} world floor s kept image n left h f off =
     subst₂ (StandsFor world.sizes world.base floor (event_step world s (CoreStep n)).0) (ap (λ p. kept_step world s n p kept) off) (ap (λ p. image_turn world.sizes world.base s.history kept.plan (acting_on p (get_or s.cores n Idle)) image) off)
     (event_stands world floor s kept image (CoreStep n) h f)
 
-calm_kept : {M : Type 0} → (sizes : Sizes) (base : Base) (history : List Item) (others : List (Core M)) (n : ℕ) (c d : Core M) (kept : Kept) → is_calm c d ≡ true → kept_turn sizes base history others n c d kept ≡ kept
+calm_kept : {M : Type 0} → (sizes : Sizes) (base : DeviceState) (history : List FinishRecord) (others : List (Core M)) (n : ℕ) (c d : Core M) (kept : Kept) → is_calm c d ≡ true → kept_turn sizes base history others n c d kept ≡ kept
 calm_kept sizes base history others n Idle d kept e = refl
 calm_kept sizes base history others n (Running a) Idle kept e = refl
 calm_kept sizes base history others n (Running a) (Running b) kept e = refl
@@ -62,7 +62,7 @@ calm_kept sizes base history others n (Ready a outcome) (Ready b o) kept e = ref
 calm_kept sizes base history others n (Ready a outcome) (Committing i left) kept e = absurd (cc e)
 calm_kept sizes base history others n (Committing i left) d kept e = absurd (cc e)
 
-calm_image : {M : Type 0} → (sizes : Sizes) (base : Base) (history : List Item) (plan : ℕ → ℕ) (c d : Core M) (image : Image) → is_calm c d ≡ true → image_turn sizes base history plan c image ≡ image
+calm_image : {M : Type 0} → (sizes : Sizes) (base : DeviceState) (history : List FinishRecord) (plan : ℕ → ℕ) (c d : Core M) (image : Image) → is_calm c d ≡ true → image_turn sizes base history plan c image ≡ image
 calm_image sizes base history plan Idle d image e = refl
 calm_image sizes base history plan (Running a) d image e = refl
 calm_image sizes base history plan (Copying a copied) d image e = refl
@@ -77,15 +77,15 @@ calm_stands {M} world floor s kept image n c d h f on at turn calm =
     (turn_stands world floor s kept image n c d h f on at turn)
 
 -- a commit under way
-pub under_way : {M : Type 0} → (sizes : Sizes) (base : Base) (floor : ℕ) (s : State M) (kept : Kept) (image : Image) (n : ℕ) (i : Item) (left : ℕ) → StandsFor sizes base floor s kept image → get_or s.cores n Idle ≡ Committing i left → IsUnderWay sizes base s.history s.cores kept image i left
+pub under_way : {M : Type 0} → (sizes : Sizes) (base : DeviceState) (floor : ℕ) (s : State M) (kept : Kept) (image : Image) (n : ℕ) (i : FinishRecord) (left : ℕ) → StandsFor sizes base floor s kept image → get_or s.cores n Idle ≡ Committing i left → IsUnderWay sizes base s.history s.cores kept image i left
 under_way sizes base floor s kept image n i left f at = subst (IsServed sizes base s.history s.cores kept image n) at (f.stands.served n)
 
 -- the last writes of a commit are none of its objects' words
-pub late_write : (sizes : Sizes) (base : Base) (history : List Item) (i : Item) (left : ℕ) → left ≤ late_writes sizes base history i → target sizes (commit_writes sizes base history i - left) i.run.writes ≡ None
+pub late_write : (sizes : Sizes) (base : DeviceState) (history : List FinishRecord) (i : FinishRecord) (left : ℕ) → left ≤ late_writes sizes base history i → target sizes (commit_writes sizes base history i - left) i.run.writes ≡ None
 late_write sizes base history i left l = no_target sizes (commit_writes sizes base history i - left) i.run.writes (let k = commit_writes-all sizes base history i in omega (arith, k, l))
 
 -- a commit writes only to spare slots
-pub free_writes : {M : Type 0} → (sizes : Sizes) (base : Base) (floor : ℕ) (history : List Item) (cores : List (Core M)) (kept : Kept) (image : Image) → Stands sizes base floor history cores kept image → (ws : List Write) → AllByRecursion (IsWrite sizes) ws →
+pub free_writes : {M : Type 0} → (sizes : Sizes) (base : DeviceState) (floor : ℕ) (history : List FinishRecord) (cores : List (Core M)) (kept : Kept) (image : Image) → Stands sizes base floor history cores kept image → (ws : List Write) → AllByRecursion (IsWrite sizes) ws →
     AllByRecursion (λ w. IsSpare (sizes.slots w.object) (is_needed base history w.object cores) (kept.chains w.object) (kept.plan w.object)) ws → AllByRecursion (IsFree sizes base history cores kept) ws
 free_writes {M} sizes base floor history cores kept image f ws r k = go ws r k
   where
@@ -104,12 +104,12 @@ free_writes {M} sizes base floor history cores kept image f ws r k = go ws r k
     go [] r k = tt
     go (w ∷ ws) r k = (record { object = r.0.object; spare = k.0; other = apart w.object r.0.object (kept.chains w.object) refl k.0 }, go ws r.1 k.1)
 
-pub taken_free : {M : Type 0} → (world : World M) (floor : ℕ) (s : State M) (kept : Kept) (image : Image) (n : ℕ) (i : Item) (left : ℕ) → IsLawful world s → StandsFor world.sizes world.base floor s kept image → get_or s.cores n Idle ≡ Committing i left →
+pub taken_free : {M : Type 0} → (world : World M) (floor : ℕ) (s : State M) (kept : Kept) (image : Image) (n : ℕ) (i : FinishRecord) (left : ℕ) → IsLawful world s → StandsFor world.sizes world.base floor s kept image → get_or s.cores n Idle ≡ Committing i left →
     AllByRecursion (IsFree world.sizes world.base s.history s.cores kept) i.run.writes
 taken_free world floor s kept image n i left h f at = free_writes world.sizes world.base floor s.history s.cores kept image f.stands i.run.writes (runs_of world s h.set_up h.sound n i left at).writes (under_way world.sizes world.base floor s kept image n i left f at).spare
 
 -- and each of its words to a place there
-pub free_target : {M : Type 0} → (sizes : Sizes) (base : Base) (history : List Item) (cores : List (Core M)) (kept : Kept) (made : ℕ) (run : Run) (t : Target) → IsRun sizes run →
+pub free_target : {M : Type 0} → (sizes : Sizes) (base : DeviceState) (history : List FinishRecord) (cores : List (Core M)) (kept : Kept) (made : ℕ) (run : Run) (t : Target) → IsRun sizes run →
     AllByRecursion (λ w. IsSpare (sizes.slots w.object) (is_needed base history w.object cores) (kept.chains w.object) (kept.plan w.object)) run.writes → target sizes made run.writes ≡ Some t → IsTarget sizes kept run.writes t
 free_target {M} sizes base history cores kept made run t fit k e = target_in sizes kept made run.writes t fit.in_order fit.writes (slots run.writes k) e
   where
@@ -117,6 +117,6 @@ free_target {M} sizes base history cores kept made run t fit k e = target_in siz
     slots [] k = tt
     slots (w ∷ ws) k = (k.0.place, slots ws k.1)
 
-pub target_free : {M : Type 0} → (world : World M) (floor : ℕ) (s : State M) (kept : Kept) (image : Image) (n : ℕ) (i : Item) (left made : ℕ) (t : Target) → IsLawful world s → StandsFor world.sizes world.base floor s kept image → get_or s.cores n Idle ≡ Committing i left →
+pub target_free : {M : Type 0} → (world : World M) (floor : ℕ) (s : State M) (kept : Kept) (image : Image) (n : ℕ) (i : FinishRecord) (left made : ℕ) (t : Target) → IsLawful world s → StandsFor world.sizes world.base floor s kept image → get_or s.cores n Idle ≡ Committing i left →
     target world.sizes made i.run.writes ≡ Some t → IsTarget world.sizes kept i.run.writes t
 target_free world floor s kept image n i left made t h f at e = free_target world.sizes world.base s.history s.cores kept made i.run t (runs_of world s h.set_up h.sound n i left at) (under_way world.sizes world.base floor s kept image n i left f at).spare e

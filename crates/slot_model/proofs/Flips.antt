@@ -3,7 +3,7 @@ use Rattle.std.proofs.Common.{◌≡◌, ℕ, zero, suc, true, cond, List, ◌�
 use Rattle.std.specs.Prelude.{is_some}
 use Rattle.std.proofs.lemmas.Bool.{cases_eq}
 use Rattle.kernel_model.specs.Effects.{written}
-use Rattle.kernel_model.specs.Items.{Item}
+use Rattle.kernel_model.specs.Items.{FinishRecord}
 use Rattle.kernel_model.specs.Worlds.{World}
 use Rattle.kernel_model.specs.Versions.{Read}
 use Rattle.kernel_model.specs.Intervals.{read_interval}
@@ -28,7 +28,7 @@ pub named_stays : {M : Type 0} → (world : World M) (s : State M) (kept : Kept)
 named_stays world s kept e o h f = named_step world h.set_up.sized.index_writes s h.sound.one_commits kept e o ∙ ap (λ j. newest_slot ((with_finished j (with_finished (durable_commit s.cores) kept)).chains o)) f
 
 -- the core that makes a last write commits
-flipped_at : {M : Type 0} → (c : Core M) (i : Item) → flipped_core c ≡ Some i → c ≡ Committing i 1
+flipped_at : {M : Type 0} → (c : Core M) (i : FinishRecord) → flipped_core c ≡ Some i → c ≡ Committing i 1
 flipped_at Idle i e = absurd (cc e)
 flipped_at (Running a) i e = absurd (cc e)
 flipped_at (Copying a k) i e = absurd (cc e)
@@ -38,7 +38,7 @@ flipped_at (Committing j (suc zero)) i e = let same : j ≡ i = cc e in ap (λ x
 flipped_at (Committing j (suc (suc left))) i e = absurd (cc e)
 
 -- before the last write no finish is durable that has not joined
-none_durable : {M : Type 0} → (s : State M) → ((j k : ℕ) → commits (get_or s.cores j Idle) ≡ true → commits (get_or s.cores k Idle) ≡ true → j ≡ k) → (e : Event) (i : Item) → flipped_by s e ≡ Some i → durable_commit s.cores ≡ None
+none_durable : {M : Type 0} → (s : State M) → ((j k : ℕ) → commits (get_or s.cores j Idle) ≡ true → commits (get_or s.cores k Idle) ≡ true → j ≡ k) → (e : Event) (i : FinishRecord) → flipped_by s e ≡ Some i → durable_commit s.cores ≡ None
 none_durable s one Fail i f = absurd (cc f)
 none_durable {M} s one (CoreStep n) i f = go s.power f
   where
@@ -50,7 +50,7 @@ none_durable {M} s one (CoreStep n) i f = go s.power f
     go (Boot left) f = absurd (cc f)
 
 -- the last write names the slots of the plan
-pub named_turns : {M : Type 0} → (world : World M) (s : State M) (kept : Kept) (e : Event) (i : Item) (o : ℕ) → IsLawful world s → flipped_by s e ≡ Some i →
+pub named_turns : {M : Type 0} → (world : World M) (s : State M) (kept : Kept) (e : Event) (i : FinishRecord) (o : ℕ) → IsLawful world s → flipped_by s e ≡ Some i →
     (named_slot s kept o ≡ newest_slot (kept.chains o)) × (named_slot (event_step world s e).0 (kept_after world s e kept) o ≡ cond (is_some (written i.run.writes o)) (kept.plan o) (newest_slot (kept.chains o)))
 named_turns {M} world s kept e i o h f = (
   ap (λ j. newest_slot ((with_finished j kept).chains o)) none,
@@ -66,14 +66,14 @@ named_turns {M} world s kept e i o h f = (
     at (Some words) = refl
 
 -- a finish that joins cuts those that read what it writes
-pub finish_cuts : {M : Type 0} → (world : World M) (s : State M) (n left start : ℕ) (i : Item) (reads : List Read) → IsLawful world s → get_or s.cores n Idle ≡ Committing i left → AreFound world.base s.history reads →
+pub finish_cuts : {M : Type 0} → (world : World M) (s : State M) (n left start : ℕ) (i : FinishRecord) (reads : List Read) → IsLawful world s → get_or s.cores n Idle ≡ Committing i left → AreFound world.base s.history reads →
     read_interval world.base (i ∷ s.history) start reads ≡ cut i.point (is_written_read i reads) (read_interval world.base s.history start reads)
 finish_cuts {M} world s n left start i reads h at k =
     let c : IsSoundCore {M = M} world s.history (Committing i left) = subst (IsSoundCore world s.history) at (h.sound.cores n) in
     cut_readers world.base i s.history (lawful_of world.base (i ∷ s.history) c.0.numbered c.0.ordered) c.0.numbered start reads k
 
 -- while a commit has writes left the newest slots are named
-pub commit_names : {M : Type 0} → (world : World M) (s : State M) (kept : Kept) (n left o : ℕ) (i : Item) → IsLawful world s → get_or s.cores n Idle ≡ Committing i (suc left) → named_slot s kept o ≡ newest_slot (kept.chains o)
+pub commit_names : {M : Type 0} → (world : World M) (s : State M) (kept : Kept) (n left o : ℕ) (i : FinishRecord) → IsLawful world s → get_or s.cores n Idle ≡ Committing i (suc left) → named_slot s kept o ≡ newest_slot (kept.chains o)
 commit_names {M} world s kept n left o i h e = ap (λ j. newest_slot ((with_finished j kept).chains o)) (durable_commit-none s.cores at)
   where
     at : (k : ℕ) → finished_by (get_or s.cores k Idle) ≡ None

@@ -1,8 +1,8 @@
 -- What stands goes on through any events, and at first the base's versions stand.
 use Rattle.std.proofs.Common.{◌≡◌, ℕ, ◌+◌, ◌<◌, ◌≤◌, List, [], ◌∷◌, get_or, length, replicate, take, arith, length-take}
 use Rattle.kernel_model.specs.Sizes.{Sizes}
-use Rattle.kernel_model.specs.Effects.{words_of}
-use Rattle.kernel_model.specs.Replay.{Base}
+use Rattle.kernel_model.specs.Effects.{object_words}
+use Rattle.kernel_model.specs.Replay.{DeviceState}
 use Rattle.kernel_model.specs.Worlds.{World}
 use Rattle.kernel_model.specs.Cores.{Core, Idle}
 use Rattle.kernel_model.specs.Room.{is_needed}
@@ -60,8 +60,8 @@ run_lawful {M} x n = record {
     sound = all_sound x.world x.set_up (take n x.events) (start_of x) (omega (arith, ids)) (opened_sound x.world x.set_up x.cores x.power x.boots)
 
 -- at first the base's versions stand, in the slots that the device names
-pub first_stands : (M : Type 0) (sizes : Sizes) (base : Base) (cores : ℕ) (power : Power) (boots : ℕ) (named : ℕ → ℕ) (image : Image) → IsSized sizes image →
-    ((o : ℕ) → o < sizes.objects → (named o < sizes.slots o) × (image o (named o) ≡ words_of base.objects o)) → StandsFor {M = M} sizes base base.clock (opened cores power boots) (first_kept base named) image
+pub first_stands : (M : Type 0) (sizes : Sizes) (base : DeviceState) (cores : ℕ) (power : Power) (boots : ℕ) (named : ℕ → ℕ) (image : Image) → IsSized sizes image →
+    ((o : ℕ) → o < sizes.objects → (named o < sizes.slots o) × (image o (named o) ≡ object_words base.objects o)) → StandsFor {M = M} sizes base base.clock (opened cores power boots) (first_kept base named) image
 first_stands M sizes base cores power boots named image sized h = record {
   since = floor_of_idle base (opened cores power boots) idle;
   stands = record {

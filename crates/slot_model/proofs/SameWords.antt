@@ -3,8 +3,8 @@ use Rattle.std.proofs.Common.{◌≡◌, ℕ, ◌-◌, ◌<◌, List, [], ◌∷
 use Rattle.std.specs.List.{AllByRecursion}
 use Rattle.kernel_model.specs.Sizes.{Sizes}
 use Rattle.kernel_model.specs.Effects.{Write}
-use Rattle.kernel_model.specs.Items.{Item}
-use Rattle.kernel_model.specs.Replay.{Base}
+use Rattle.kernel_model.specs.Items.{FinishRecord}
+use Rattle.kernel_model.specs.Replay.{DeviceState}
 use Rattle.kernel_model.specs.Worlds.{World}
 use Rattle.kernel_model.specs.Cores.{Committing, Copying, Core, Idle, Ready, Running}
 use Rattle.kernel_model.specs.Room.{is_needed}
@@ -20,7 +20,7 @@ use Rattle.slot_model.proofs.Chains.{standing_words}
 use Rattle.slot_model.proofs.EventLaws.{runs_of}
 
 -- where each slot of the commit has the same words
-same_written : {M : Type 0} → (sizes : Sizes) (base : Base) (history : List Item) (cores : List (Core M)) (kept : Kept) (before after : Image) → AreSame sizes before after → (ws : List Write) (made : ℕ) → AllByRecursion (IsWrite sizes) ws →
+same_written : {M : Type 0} → (sizes : Sizes) (base : DeviceState) (history : List FinishRecord) (cores : List (Core M)) (kept : Kept) (before after : Image) → AreSame sizes before after → (ws : List Write) (made : ℕ) → AllByRecursion (IsWrite sizes) ws →
     AllByRecursion (λ w. IsSpare (sizes.slots w.object) (is_needed base history w.object cores) (kept.chains w.object) (kept.plan w.object)) ws → AreWritten sizes kept.plan before made ws → AreWritten sizes kept.plan after made ws
 same_written sizes base history cores kept before after e [] made r p k = tt
 same_written sizes base history cores kept before after e (w ∷ ws) made r p k = (

@@ -4,7 +4,7 @@ ghost use Rattle.std.specs.Prelude.{ℕ, ◌<◌, ◌+◌, length};
 ghost use Rattle.kernel_model.specs.Events.{Event, State, Power, opened};
 ghost use Rattle.kernel_model.specs.Execution.{Execution, state_at};
 ghost use Rattle.kernel_model.specs.Fit.{IsSetUp, HasIds};
-ghost use Rattle.kernel_model.specs.Replay.{Base};
+ghost use Rattle.kernel_model.specs.Replay.{DeviceState};
 ghost use Rattle.kernel_model.specs.Sizes.{Sizes};
 ghost use Rattle.kernel_model.specs.Worlds.{World};
 ghost use Rattle.kernel_model.specs.Sound.{IsSound};
@@ -15,7 +15,7 @@ ghost use Rattle.slot_model.specs.Moments.{Moment, HoldBase, IsLawfulIn, IsNamed
 
 /// At first the base's versions stand, in the slots that the device names.
 pub fn first_state_stands<M>()
-    ensures { (sizes : Sizes) (base : Base) (cores : ℕ) (power : Power) (boots : ℕ) (named : ℕ → ℕ)
+    ensures { (sizes : Sizes) (base : DeviceState) (cores : ℕ) (power : Power) (boots : ℕ) (named : ℕ → ℕ)
         → (image : Image) → IsSized sizes image → HoldBase sizes base named image
         → StandsFor {M = M} sizes base base.clock (opened cores power boots) (first_kept base named)
         image }

@@ -2,9 +2,9 @@
 use Rattle.std.specs.Prelude.{ℕ, zero, suc, ◌+◌, List, [], ◌∷◌, Option, get_or}
 use Rattle.kernel_model.specs.Sizes.{Sizes}
 use Rattle.kernel_model.specs.Effects.{Outcome, Spawn, Write}
-use Rattle.kernel_model.specs.Runs.{Steps}
-use Rattle.kernel_model.specs.Items.{Item, Entry}
-use Rattle.kernel_model.specs.Replay.{Base}
+use Rattle.kernel_model.specs.Runs.{TaskMachine}
+use Rattle.kernel_model.specs.Items.{FinishRecord, Entry}
+use Rattle.kernel_model.specs.Replay.{DeviceState}
 use Rattle.kernel_model.specs.Worlds.{World}
 use Rattle.kernel_model.specs.Intervals.{Interval}
 use Rattle.kernel_model.specs.Events.{Power}
@@ -16,7 +16,7 @@ use Rattle.device_model.specs.Counting.{sizes_on}
 
 -- what never changes: the machine of the tasks, their set, and how the set lies on the device
 pub record Setting (M : Type 0) : Type 0 where
-  pub steps : Steps M
+  pub steps : TaskMachine M
   pub set : TaskSet
   pub layout : Layout
 
@@ -25,7 +25,7 @@ abbrev pub sizes_in : {M : Type 0} → Setting M → Sizes
 sizes_in x = sizes_on x.layout x.set
 
 -- what stays, where the history begins over this base
-abbrev pub world_in : {M : Type 0} → Setting M → Base → World M
+abbrev pub world_in : {M : Type 0} → Setting M → DeviceState → World M
 world_in x base = record { steps = x.steps; sizes = sizes_in x; base = base }
 
 -- an object: the greatest point that read or wrote it, and its versions by their slots, newest first
@@ -53,7 +53,7 @@ pub data Seat (M : Type 0) : Type 0 where
   Runs : Try M → Seat M
   Copies : Try M → (slot : ℕ) → Seat M  -- to its newest copy, word by word, from this slot
   Waits : Try M → Outcome → Seat M  -- for a verdict
-  Saves : Item → (after : Index) → (left : ℕ) → Seat M  -- a finish, with the index after it and so many writes left
+  Saves : FinishRecord → (after : Index) → (left : ℕ) → Seat M  -- a finish, with the index after it and so many writes left
 
 -- all that the kernel keeps. In a boot the last three are blank
 pub record Tables (M : Type 0) : Type 0 where
