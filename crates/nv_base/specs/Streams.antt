@@ -3,8 +3,8 @@
 use Rattle.std.specs.Prelude.{ℕ, ◌≡◌, ◌-◌, ◌^◌, ◌<◌, ◌≤◌, ◌⊎◌, List, [], ◌++◌, length, take, drop, Option, Some, None}
 
 -- the count of faults is greater than it was, or stands at the last value of its type
-abbrev pub Rose : ℕ → ℕ → Type 0
-Rose old new = (old ≤ new) × ((old < new) ⊎ (new ≡ 2 ^ 64 - 1))
+abbrev pub FaultCounted : ℕ → ℕ → Type 0
+FaultCounted old new = (old ≤ new) × ((old < new) ⊎ (new ≡ 2 ^ 64 - 1))
 
 -- the first n of the bytes left are in the buffer now, and are left no more
 abbrev pub Took : Option (List ℕ) → Option (List ℕ) → List ℕ → ℕ → Type 0
@@ -17,9 +17,9 @@ AtEnd None = Unit {0}
 AtEnd (Some left) = left ≡ []
 
 -- what was taken before, and the piece behind it
-abbrev pub grown : Option (List ℕ) → List ℕ → Option (List ℕ)
-grown None piece = None
-grown (Some taken) piece = Some (taken ++ piece)
+abbrev pub appended : Option (List ℕ) → List ℕ → Option (List ℕ)
+appended None piece = None
+appended (Some taken) piece = Some (taken ++ piece)
 
 -- these bytes were all that was left, and none is left now
 abbrev pub GaveAll : Option (List ℕ) → Option (List ℕ) → List ℕ → Type 0
@@ -37,4 +37,4 @@ AtMostGone old new n = (m : ℕ) × (m ≤ n) × AreGone old new m
 
 -- a front of the piece was put, and nothing else
 abbrev pub PutFront : Option (List ℕ) → Option (List ℕ) → List ℕ → Type 0
-PutFront old new piece = (n : ℕ) × (n ≤ length piece) × (new ≡ grown old (take n piece))
+PutFront old new piece = (n : ℕ) × (n ≤ length piece) × (new ≡ appended old (take n piece))

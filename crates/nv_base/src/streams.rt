@@ -1,7 +1,7 @@
 // Where bytes come from and where they go.
 
 ghost use Rattle.std.specs.Prelude.{◌≡◌, ◌<◌, ◌≤◌, ℕ, List, Option, Ok, length, take, IfOk, OnErr, OnOk};
-ghost use Rattle.nv_base.specs.Streams.{AtEnd, Rose, Took, grown};
+ghost use Rattle.nv_base.specs.Streams.{AtEnd, FaultCounted, Took, appended};
 
 use thiserror::Error;
 
@@ -31,7 +31,7 @@ pub trait Source {
         ensures end { result ≡ Ok 0 → 0 < length buf.new → AtEnd (left self.old) }
         ensures kept { OnErr result (left self.new ≡ left self.old) }
         ensures still { OnOk result (faults self.new ≡ faults self.old) }
-        ensures failed { OnErr result (Rose (faults self.old) (faults self.new)) }
+        ensures failed { OnErr result (FaultCounted (faults self.old) (faults self.new)) }
         ensures never_falls { faults self.old ≤ faults self.new };
 }
 
@@ -48,9 +48,9 @@ pub trait Sink {
     fn put(&mut self, piece: &[u8]) -> Result<usize, SinkFailed>
         ensures within { IfOk result (λ n. n ≤ length piece.now) }
         ensures some { IfOk result (λ n. 0 < length piece.now → 0 < n) }
-        ensures put { IfOk result (λ n. taken self.new ≡ grown (taken self.old) (take n piece.now)) }
+        ensures put { IfOk result (λ n. taken self.new ≡ appended (taken self.old) (take n piece.now)) }
         ensures kept { OnErr result (taken self.new ≡ taken self.old) }
         ensures still { OnOk result (faults self.new ≡ faults self.old) }
-        ensures failed { OnErr result (Rose (faults self.old) (faults self.new)) }
+        ensures failed { OnErr result (FaultCounted (faults self.old) (faults self.new)) }
         ensures never_falls { faults self.old ≤ faults self.new };
 }

@@ -1,7 +1,7 @@
 // Whole inputs and whole outputs.
 
 ghost use Rattle.std.specs.Prelude.{◌≡◌, ◌+◌, ◌≤◌, ◌⊎◌, Err, length, IfOk, OnErr, OnOk};
-ghost use Rattle.nv_base.specs.Streams.{AreGone, AtMostGone, GaveAll, PutFront, Rose, grown};
+ghost use Rattle.nv_base.specs.Streams.{AreGone, AtMostGone, GaveAll, PutFront, FaultCounted, appended};
 
 use crate::streams::{Sink, Source};
 use std::alloc::Global;
@@ -32,7 +32,7 @@ pub fn read_all<S: Source>(alloc: Global, src: &mut S, max: usize) -> Result<Vec
     ensures within { IfOk result (λ v. length v.items ≤ max) }
     ensures long { result ≡ Err ReadRefusal.TooLong → AreGone (S.left src.old) (S.left src.new) (max + 1) }
     ensures short { (result ≡ Err ReadRefusal.ReadFault) ⊎ (result ≡ Err ReadRefusal.NoMemory) → AtMostGone (S.left src.old) (S.left src.new) max }
-    ensures fault { result ≡ Err ReadRefusal.ReadFault → Rose (S.faults src.old) (S.faults src.new) }
+    ensures fault { result ≡ Err ReadRefusal.ReadFault → FaultCounted (S.faults src.old) (S.faults src.new) }
     ensures still { (result ≡ Err ReadRefusal.ReadFault) ⊎ (S.faults src.new ≡ S.faults src.old) }
     ensures never_falls { S.faults src.old ≤ S.faults src.new }
 {
@@ -58,9 +58,9 @@ pub fn read_all<S: Source>(alloc: Global, src: &mut S, max: usize) -> Result<Vec
 /// Puts all bytes. `WriteFault` only where the sink failed; a front of the bytes was put then.
 /// Takes no memory.
 pub fn put_all<K: Sink>(out: &mut K, bytes: &[u8]) -> Result<(), WriteFault>
-    ensures all { OnOk result (K.taken out.new ≡ grown (K.taken out.old) bytes.now) }
+    ensures all { OnOk result (K.taken out.new ≡ appended (K.taken out.old) bytes.now) }
     ensures front { OnErr result (PutFront (K.taken out.old) (K.taken out.new) bytes.now) }
-    ensures fault { OnErr result (Rose (K.faults out.old) (K.faults out.new)) }
+    ensures fault { OnErr result (FaultCounted (K.faults out.old) (K.faults out.new)) }
     ensures still { OnOk result (K.faults out.new ≡ K.faults out.old) }
     ensures never_falls { K.faults out.old ≤ K.faults out.new }
 {
