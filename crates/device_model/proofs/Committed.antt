@@ -3,7 +3,7 @@ use Rattle.std.proofs.Common.{◌≡◌, ◌≢◌, ℕ, zero, suc, ◌+◌, ◌
 use Rattle.std.specs.List.{AllByRecursion}
 use Rattle.std.proofs.lemmas.Bool.{cases_eq, cases_lt, eq-eqb, ne_eqb}
 use Rattle.std.proofs.lemmas.Nat.{div-add-mod'}
-use Rattle.kernel_model.specs.Effects.{Objects, Write, written, words_of, put, put_from}
+use Rattle.kernel_model.specs.Effects.{Objects, Write, written, object_words, put, put_from}
 use Rattle.kernel_model.specs.Fit.{IsWrite}
 use Rattle.set_model.specs.Sets.{TaskSet, object_at}
 use Rattle.set_model.specs.Numbers.{sizes_of}
@@ -27,13 +27,13 @@ length-put : (k : ℕ) (ws : List Write) (objects : Objects) → length (put_fro
 length-put k ws [] = refl
 length-put k ws (x ∷ objects) = ap suc (length-put (k + 1) ws objects)
 
-put-at : (k : ℕ) (ws : List Write) (objects : Objects) (o : ℕ) → o < length objects → words_of (put_from k ws objects) o ≡ unwrap_or (written ws (k + o)) (words_of objects o)
+put-at : (k : ℕ) (ws : List Write) (objects : Objects) (o : ℕ) → o < length objects → object_words (put_from k ws objects) o ≡ unwrap_or (written ws (k + o)) (object_words objects o)
 put-at k ws [] o l = absurd (omega arith)
 put-at k ws (x ∷ objects) zero l = let e : k ≡ k + 0 = omega arith in ap (λ (j : ℕ). unwrap_or (written ws j) x) e
-put-at k ws (x ∷ objects) (suc o) l = let e : k + 1 + o ≡ k + suc o = omega arith in put-at (k + 1) ws objects o (omega arith) ∙ ap (λ (j : ℕ). unwrap_or (written ws j) (words_of objects o)) e
+put-at k ws (x ∷ objects) (suc o) l = let e : k + 1 + o ≡ k + suc o = omega arith in put-at (k + 1) ws objects o (omega arith) ∙ ap (λ (j : ℕ). unwrap_or (written ws j) (object_words objects o)) e
 
-pub put_words : (ws : List Write) (objects : Objects) (o : ℕ) → o < length objects → words_of (put ws objects) o ≡ unwrap_or (written ws o) (words_of objects o)
-put_words ws objects o l = let e : 0 + o ≡ o = omega arith in put-at 0 ws objects o l ∙ ap (λ (j : ℕ). unwrap_or (written ws j) (words_of objects o)) e
+pub put_words : (ws : List Write) (objects : Objects) (o : ℕ) → o < length objects → object_words (put ws objects) o ≡ unwrap_or (written ws o) (object_words objects o)
+put_words ws objects o l = let e : 0 + o ≡ o = omega arith in put-at 0 ws objects o l ∙ ap (λ (j : ℕ). unwrap_or (written ws j) (object_words objects o)) e
 
 written-write : (set : TaskSet) (ws : List Write) (o : ℕ) (words : List ℕ) → AllByRecursion (IsWrite (sizes_of set)) ws → written ws o ≡ Some words → length words ≡ (object_at set o).size
 written-write set [] o words h e = absurd (cc e)
@@ -117,7 +117,7 @@ held_next set l h c d k n = record {
   root = d.is_flipped (is_changed l set h.index c) h.root k.root;
 }
   where
-    size : (o : ℕ) → o < length set.objects → (w : Option (List ℕ)) → written c.writes o ≡ w → length (unwrap_or w (words_of h.objects o)) ≡ (object_at set o).size
+    size : (o : ℕ) → o < length set.objects → (w : Option (List ℕ)) → written c.writes o ≡ w → length (unwrap_or w (object_words h.objects o)) ≡ (object_at set o).size
     size o a None e = k.words o a
     size o a (Some words) e = written-write set c.writes o words n.writes e
 
@@ -158,6 +158,6 @@ commit_whole set l h c words d n s = subst (KeepsIn set l (committed l set h c))
         behind_root (index_place l (next_root l set h c) i) (omega arith) ∙ ap mid (place i false a t)
         ∙ kept.index i a ∙ unchanged set l h c i d s.held n a t
 
-    object : (o i : ℕ) → o < length set.objects → i < (object_at set o).size → (w : Option (List ℕ)) → written c.writes o ≡ w → mid (slot_place l set o (slice_index c.after.slots o) + i) ≡ slice_index (unwrap_or w (words_of h.objects o)) i
+    object : (o i : ℕ) → o < length set.objects → i < (object_at set o).size → (w : Option (List ℕ)) → written c.writes o ≡ w → mid (slot_place l set o (slice_index c.after.slots o) + i) ≡ slice_index (unwrap_or w (object_words h.objects o)) i
     object o i a b None e = ap (λ (slot : ℕ). mid (slot_place l set o slot + i)) (n.same_slot o a e) ∙ kept.objects o i a b
     object o i a b (Some wds) e = object-made set l h c words o wds i d s.held n e (omega (arith, written-write set c.writes o wds n.writes e))

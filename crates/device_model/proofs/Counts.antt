@@ -6,8 +6,8 @@ use Rattle.std.proofs.lemmas.List.{length-append}
 use Rattle.std.proofs.lemmas.List.Sums.{sum_by-cons}
 use Rattle.kernel_model.specs.Effects.{Write}
 use Rattle.kernel_model.specs.Sizes.{Sizes}
-use Rattle.kernel_model.specs.Items.{Item}
-use Rattle.kernel_model.specs.Replay.{Base, TaskRec}
+use Rattle.kernel_model.specs.Items.{FinishRecord}
+use Rattle.kernel_model.specs.Replay.{DeviceState, TaskRec}
 use Rattle.kernel_model.specs.OpenTasks.{children, open_tasks, others_than}
 use Rattle.kernel_model.specs.Fit.{IsSizes, IsWrite}
 use Rattle.kernel_model.specs.Turns as turns
@@ -56,7 +56,7 @@ sizes set [] h = refl
 sizes set (w ∷ ws) h = let f = h.0 in omega (arith, f.words, sizes set ws h.1, sum_by-cons (λ (w : Write). (sizes_of set).size w.object) w ws)
 
 -- in format 1 as many as the kernel's model counts
-pub plain_turns : (set : TaskSet) (h : Held) (i : Item) (slots : List ℕ) (base : Base) (history : List Item) → AllByRecursion (IsWrite (sizes_of set)) i.run.writes → commit_turns (layout_of Plain set) set h (commit_of h i slots) ≡ turns.commit_writes (sizes_of set) base history i
+pub plain_turns : (set : TaskSet) (h : Held) (i : FinishRecord) (slots : List ℕ) (base : DeviceState) (history : List FinishRecord) → AllByRecursion (IsWrite (sizes_of set)) i.run.writes → commit_turns (layout_of Plain set) set h (commit_of h i slots) ≡ turns.commit_writes (sizes_of set) base history i
 plain_turns set h i slots base history w = omega (arith, sizes set i.run.writes w)
 
 -- whether words differ rests on those from a number on
@@ -85,7 +85,7 @@ count-same f g e page zero = refl
 count-same f g e page (suc n) = ap₂ (λ (b : Bool) (k : ℕ). cond b 1 0 + k) (e page) (count-same f g e (page + 1) n)
 
 -- the commit of a finish has as many writes as the kernel's model counts
-pub counted_turns : (l : Layout) (set : TaskSet) (h : Held) (i : Item) (slots : List ℕ) (base : Base) (history : List Item) → h.index.tasks ≡ open_tasks base history → length h.index.slots ≡ length set.objects → length slots ≡ length set.objects →
+pub counted_turns : (l : Layout) (set : TaskSet) (h : Held) (i : FinishRecord) (slots : List ℕ) (base : DeviceState) (history : List FinishRecord) → h.index.tasks ≡ open_tasks base history → length h.index.slots ≡ length set.objects → length slots ≡ length set.objects →
     AllByRecursion (IsWrite (sizes_on l set)) i.run.writes → commit_turns l set h (commit_of h i slots) ≡ turns.commit_writes (sizes_on l set) base history i
 counted_turns l set h i slots base history e f g w =
     let count = count-same (is_changed l set h.index (commit_of h i slots)) (is_page_written l set h.index.tasks (others_than i.task h.index.tasks ++ children i.first i.run.spawns) i.run.writes) (page-same l set h.index (commit_of h i slots) f g) 0 l.pages in

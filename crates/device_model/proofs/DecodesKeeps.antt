@@ -1,7 +1,7 @@
 -- Words that decode to a state keep it.
 use Rattle.std.proofs.Common.{◌≡◌, ◌≢◌, ℕ, zero, suc, ◌+◌, ◌-◌, ◌<◌, ◌≤◌, ⊎_elim, Bool, true, false, cond, eqb, List, [], length, slice_index, Option, Some, None, arith, refl, ap, sym, ◌∙◌, subst}
 use Rattle.std.proofs.lemmas.Bool.{cases_lt, eq-eqb, ne_eqb, not-false}
-use Rattle.kernel_model.specs.Effects.{words_of}
+use Rattle.kernel_model.specs.Effects.{object_words}
 use Rattle.set_model.specs.Sets.{TaskSet, object_at}
 use Rattle.kernel_model.specs.Items.{Entry}
 use Rattle.kernel_model.specs.Fit.{IsBase, IsLast}
@@ -46,12 +46,12 @@ length-read : (set : TaskSet) (l : Layout) (words : Words) (slots : List ℕ) (o
 length-read set l words slots o zero = refl
 length-read set l words slots o (suc n) = ap suc (length-read set l words slots (o + 1) n)
 
-object-at : (set : TaskSet) (l : Layout) (words : Words) (slots : List ℕ) (o n k : ℕ) → k < n → words_of (read_objects l set words slots o n) k ≡ words_from words (slot_place l set (o + k) (slice_index slots (o + k))) (object_at set (o + k)).size
+object-at : (set : TaskSet) (l : Layout) (words : Words) (slots : List ℕ) (o n k : ℕ) → k < n → object_words (read_objects l set words slots o n) k ≡ words_from words (slot_place l set (o + k) (slice_index slots (o + k))) (object_at set (o + k)).size
 object-at set l words slots o zero k a = absurd (omega arith)
 object-at set l words slots o (suc n) zero a = let e : o ≡ o + 0 = omega arith in ap (λ (p : ℕ). words_from words (slot_place l set p (slice_index slots p)) (object_at set p).size) e
 object-at set l words slots o (suc n) (suc k) a = let e : o + 1 + k ≡ o + suc k = omega arith in object-at set l words slots (o + 1) n k (omega arith) ∙ ap (λ (p : ℕ). words_from words (slot_place l set p (slice_index slots p)) (object_at set p).size) e
 
-object-first : (set : TaskSet) (l : Layout) (words : Words) (slots : List ℕ) (o : ℕ) → o < length set.objects → words_of (read_objects l set words slots 0 (length set.objects)) o ≡ words_from words (slot_place l set o (slice_index slots o)) (object_at set o).size
+object-first : (set : TaskSet) (l : Layout) (words : Words) (slots : List ℕ) (o : ℕ) → o < length set.objects → object_words (read_objects l set words slots 0 (length set.objects)) o ≡ words_from words (slot_place l set o (slice_index slots o)) (object_at set o).size
 object-first set l words slots o a = let e : 0 + o ≡ o = omega arith in object-at set l words slots 0 (length set.objects) o a ∙ ap (λ (p : ℕ). words_from words (slot_place l set p (slice_index slots p)) (object_at set p).size) e
 
 pub sound_keeps : (set : TaskSet) (l : Layout) (words : Words) → IsLaidOut set l → NoFault set l words → KeepsIn set l (held_by l set words (read_index (length set.objects) (index_in l words))) words

@@ -3,8 +3,8 @@ use Rattle.std.proofs.Common.{◌≡◌, ◌≢◌, ◌⊎◌, inl, inr, ℕ, ze
 use Rattle.std.proofs.lemmas.Bool.{eq-eqb, ne_eqb}
 use Rattle.std.proofs.lemmas.List.{get_or-replicate}
 use Rattle.std.proofs.lemmas.Nat.{div-add-mod', div-mul-add, mod-mul-add}
-use Rattle.kernel_model.specs.Effects.{Objects, words_of}
-use Rattle.set_model.specs.Sets.{ObjectPart, TaskSet, object_at}
+use Rattle.kernel_model.specs.Effects.{Objects, object_words}
+use Rattle.set_model.specs.Sets.{ObjPart, TaskSet, object_at}
 use Rattle.set_model.specs.Limits.{IsTaskSet, IsObject}
 use Rattle.set_model.specs.Numbers.{first_index}
 use Rattle.set_model.proofs.AtFacts.{all_at}
@@ -62,34 +62,34 @@ fresh-index l set x objects i d a =
     ∙ ap (index_word x) (div-add-mod' i l.page_words)
 
 -- slot 0 of an object
-slot_word : (parts : List ObjectPart) (none : ObjectPart) (objects : Objects) (k o i : ℕ) → o < length parts → i < slots_words (get_or parts o none) → fresh_slot_word parts objects k (words_before parts o + i) ≡ slice_index (words_of objects (k + o)) i
+slot_word : (parts : List ObjPart) (none : ObjPart) (objects : Objects) (k o i : ℕ) → o < length parts → i < slots_words (get_or parts o none) → fresh_slot_word parts objects k (words_before parts o + i) ≡ slice_index (object_words objects (k + o)) i
 slot_word [] none objects k o i a b = absurd (omega arith)
 slot_word (p ∷ parts) none objects k zero i a b =
     let e : 0 + i ≡ i = omega arith in let f : k ≡ k + 0 = omega arith in
-    ap (fresh_slot_word (p ∷ parts) objects k) e ∙ rw (lt-true i (slots_words p) b) (ap (λ (o : ℕ). slice_index (words_of objects o) i) f)
+    ap (fresh_slot_word (p ∷ parts) objects k) e ∙ rw (lt-true i (slots_words p) b) (ap (λ (o : ℕ). slice_index (object_words objects o) i) f)
 slot_word (p ∷ parts) none objects k (suc o) i a b =
     let e : slots_words p + words_before parts o + i - slots_words p ≡ words_before parts o + i = omega arith in
     let f : k + 1 + o ≡ k + suc o = omega arith in
     rw (lt-false (slots_words p + words_before parts o + i) (slots_words p) (omega arith))
-    (ap (fresh_slot_word parts objects (k + 1)) e ∙ slot_word parts none objects (k + 1) o i (omega arith) b ∙ ap (λ (o : ℕ). slice_index (words_of objects o) i) f)
+    (ap (fresh_slot_word parts objects (k + 1)) e ∙ slot_word parts none objects (k + 1) o i (omega arith) b ∙ ap (λ (o : ℕ). slice_index (object_words objects o) i) f)
 
 pub two_slots : (set : TaskSet) (o : ℕ) → IsTaskSet set → o < length set.objects → 2 ≤ (object_at set o).slots
 two_slots set o h a = (all_at IsObject set.objects _ o h.each_object a).slots.0
 
-abbrev no_object : ObjectPart
+abbrev no_object : ObjPart
 no_object = record { name = []; size = 0; slots = 0; first = [] }
 
 size_fits : (size slots i : ℕ) → 2 ≤ slots → i < size → i < size * slots
 size_fits size zero i a b = absurd (omega arith)
 size_fits size (suc slots) i a b = omega arith
 
-fresh-object : (l : Layout) (set : TaskSet) (x : Index) (objects : Objects) (o i : ℕ) → IsLaidOut set l → IsTaskSet set → o < length set.objects → i < (object_at set o).size → fresh_word l set x objects (slot_place l set o 0 + i) ≡ slice_index (words_of objects o) i
+fresh-object : (l : Layout) (set : TaskSet) (x : Index) (objects : Objects) (o i : ℕ) → IsLaidOut set l → IsTaskSet set → o < length set.objects → i < (object_at set o).size → fresh_word l set x objects (slot_place l set o 0 + i) ≡ slice_index (object_words objects o) i
 fresh-object l set x objects o i d t a b =
     let e : slot_place l set o 0 + i - slots_at l ≡ words_before set.objects o + i = omega arith in
     let f : 0 + o ≡ o = omega arith in
     fresh-slot l set x objects (slot_place l set o 0 + i) d (slot_place-low l set o 0 i) ∙ ap (fresh_slot_word set.objects objects 0) e
     ∙ slot_word set.objects no_object objects 0 o i a (size_fits (object_at set o).size (object_at set o).slots i (two_slots set o t a) b)
-    ∙ ap (λ (o : ℕ). slice_index (words_of objects o) i) f
+    ∙ ap (λ (o : ℕ). slice_index (object_words objects o) i) f
 
 -- ---- they keep the state
 

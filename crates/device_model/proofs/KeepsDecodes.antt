@@ -1,7 +1,7 @@
 -- Words that keep a state decode to it.
 use Rattle.std.proofs.Common.{◌≡◌, ◌≢◌, ℕ, zero, suc, ◌+◌, ◌-◌, ◌<◌, ◌≤◌, ⊎_elim, Bool, true, false, not, cond, eqb, List, [], ◌∷◌, length, slice_index, Some, None, arith, refl, ap, sym, ◌∙◌}
 use Rattle.std.proofs.lemmas.Bool.{cases_eq, cases_lt, eq-eqb, ne_eqb}
-use Rattle.kernel_model.specs.Effects.{Objects, words_of}
+use Rattle.kernel_model.specs.Effects.{Objects, object_words}
 use Rattle.set_model.specs.Sets.{TaskSet, object_at}
 use Rattle.set_model.specs.Numbers.{first_index}
 use Rattle.device_model.specs.Words.{Words, words_from}
@@ -71,17 +71,17 @@ read-kept set l h words d k j a = ⊎_elim head index (cases_lt j l.head_reads)
 -- ---- the state that is read
 
 objects-read : (set : TaskSet) (l : Layout) (words : Words) (slots : List ℕ) (objects : Objects) (o : ℕ)
-    → ((k : ℕ) → k < length objects → words_from words (slot_place l set (o + k) (slice_index slots (o + k))) (object_at set (o + k)).size ≡ words_of objects k) → read_objects l set words slots o (length objects) ≡ objects
+    → ((k : ℕ) → k < length objects → words_from words (slot_place l set (o + k) (slice_index slots (o + k))) (object_at set (o + k)).size ≡ object_words objects k) → read_objects l set words slots o (length objects) ≡ objects
 objects-read set l words slots [] o h = refl
 objects-read set l words slots (ws ∷ objects) o h =
     let e : o ≡ o + 0 = omega arith in
     ap (λ (first : List ℕ). first ∷ read_objects l set words slots (o + 1) (length objects)) (ap (λ (p : ℕ). words_from words (slot_place l set p (slice_index slots p)) (object_at set p).size) e ∙ h 0 (omega arith))
     ∙ ap (λ (rest : Objects). ws ∷ rest) (objects-read set l words slots objects (o + 1) (λ k a. let f : o + 1 + k ≡ o + suc k = omega arith in ap (λ (p : ℕ). words_from words (slot_place l set p (slice_index slots p)) (object_at set p).size) f ∙ h (suc k) (omega arith)))
 
-object-read : (set : TaskSet) (l : Layout) (h : Held) (words : Words) → KeepsIn set l h words → (o : ℕ) → o < length set.objects → words_from words (slot_place l set o (slice_index h.index.slots o)) (object_at set o).size ≡ words_of h.objects o
+object-read : (set : TaskSet) (l : Layout) (h : Held) (words : Words) → KeepsIn set l h words → (o : ℕ) → o < length set.objects → words_from words (slot_place l set o (slice_index h.index.slots o)) (object_at set o).size ≡ object_words h.objects o
 object-read set l h words k o a =
     ap (words_from words (slot_place l set o (slice_index h.index.slots o))) (sym (k.held.words o a))
-    ∙ words_are words (slot_place l set o (slice_index h.index.slots o)) (words_of h.objects o) (λ i b. k.objects o i a (omega (arith, k.held.words o a)))
+    ∙ words_are words (slot_place l set o (slice_index h.index.slots o)) (object_words h.objects o) (λ i b. k.objects o i a (omega (arith, k.held.words o a)))
 
 index-read : (set : TaskSet) (l : Layout) (h : Held) (words : Words) → IsLaidOut set l → KeepsIn set l h words → read_index (length set.objects) (index_in l words) ≡ h.index
 index-read set l h words d k =

@@ -3,7 +3,7 @@ use Rattle.std.proofs.Common.{◌≡◌, ◌≢◌, ℕ, zero, suc, ◌+◌, ◌
 use Rattle.std.proofs.lemmas.Bool.{cases_lt, cases_eq}
 use Rattle.std.proofs.lemmas.List.Sums.{sum_by-cons}
 use Rattle.std.proofs.lemmas.Nat.{div-add-mod', same_from_place, row_fits, row_below_turned, mod_below}
-use Rattle.set_model.specs.Sets.{ObjectPart, TaskSet, object_at}
+use Rattle.set_model.specs.Sets.{ObjPart, TaskSet, object_at}
 use Rattle.device_model.specs.Layouts.{Layout, copy_place, index_place, index_reads, slots_at, slots_words, slot_place, words_before, need}
 use Rattle.device_model.specs.Places.{IsLaidOut}
 
@@ -41,12 +41,12 @@ index_place-apart set l root i j d r a b e =
 
 -- ---- slots
 
-before-zero : (objects : List ObjectPart) → words_before objects 0 ≡ 0
+before-zero : (objects : List ObjPart) → words_before objects 0 ≡ 0
 before-zero [] = refl
 before-zero (p ∷ objects) = refl
 
 -- the slots of one object more
-pub before-more : (objects : List ObjectPart) (none : ObjectPart) (o : ℕ) → o < length objects → words_before objects (o + 1) ≡ words_before objects o + slots_words (get_or objects o none)
+pub before-more : (objects : List ObjPart) (none : ObjPart) (o : ℕ) → o < length objects → words_before objects (o + 1) ≡ words_before objects o + slots_words (get_or objects o none)
 before-more [] none o l = absurd (omega arith)
 before-more (p ∷ objects) none zero l = omega (arith, before-zero objects)
 before-more (p ∷ objects) none (suc o) l =
@@ -54,12 +54,12 @@ before-more (p ∷ objects) none (suc o) l =
     let f : suc o + 1 ≡ suc (o + 1) = omega arith in
     ap (words_before (p ∷ objects)) f ∙ omega (arith, e)
 
-before-le : (objects : List ObjectPart) (o n : ℕ) → words_before objects o ≤ words_before objects (o + n)
+before-le : (objects : List ObjPart) (o n : ℕ) → words_before objects o ≤ words_before objects (o + n)
 before-le [] o n = omega arith
 before-le (p ∷ objects) zero n = omega arith
 before-le (p ∷ objects) (suc o) n = let e : suc o + n ≡ suc (o + n) = omega arith in rw e (omega (arith, before-le objects o n))
 
-pub before-total : (objects : List ObjectPart) (o : ℕ) → words_before objects o ≤ sum_by slots_words objects
+pub before-total : (objects : List ObjPart) (o : ℕ) → words_before objects o ≤ sum_by slots_words objects
 before-total [] o = omega arith
 before-total (p ∷ objects) zero = omega arith
 before-total (p ∷ objects) (suc o) = omega (arith, before-total objects o, sum_by-cons slots_words p objects)
@@ -67,7 +67,7 @@ before-total (p ∷ objects) (suc o) = omega (arith, before-total objects o, sum
 inside : (size slots slot i : ℕ) → slot < slots → i < size → size * slot + i < size * slots
 inside size slots slot i l m = let r : slot * size + size ≤ slots * size = row_fits slot size slots size l (omega arith) in omega arith
 
-abbrev no_object : ObjectPart
+abbrev no_object : ObjPart
 no_object = record { name = []; size = 0; slots = 0; first = [] }
 
 -- a slot's word stands before the next object's slots

@@ -1,9 +1,9 @@
 -- The kernel's model of what a device holds, from one state to the next.
 use Rattle.std.proofs.Common.{◌≡◌, ℕ, ◌+◌, ◌<◌, List, [], ◌∷◌, ◌++◌, length, slice_index, max, Option, Some, None, arith, refl, ap, ◌∙◌}
 use Rattle.kernel_model.specs.Effects.{Objects, put}
-use Rattle.kernel_model.specs.Items.{Entry, Item, entry_of}
+use Rattle.kernel_model.specs.Items.{Entry, FinishRecord, entry_of}
 use Rattle.kernel_model.specs.OpenTasks.{children, others_than}
-use Rattle.kernel_model.specs.Replay.{Base}
+use Rattle.kernel_model.specs.Replay.{DeviceState}
 use Rattle.kernel_model.specs.Durable.{Durable, last_of, state_left}
 use Rattle.kernel_model.specs.Fit.{IsBase, IsLast}
 use Rattle.set_model.specs.Sets.{TaskSet, object_at}
@@ -14,7 +14,7 @@ use Rattle.device_model.specs.Decoding.{Held, durable_of}
 use Rattle.device_model.specs.Commits.{commit_of, committed}
 
 -- what is durable after one finish more
-next_durable : (d : Durable) (i : Item) → Durable
+next_durable : (d : Durable) (i : FinishRecord) → Durable
 next_durable d i = record {
   state = record {
     objects = put i.run.writes d.state.objects;
@@ -27,7 +27,7 @@ next_durable d i = record {
   boots = d.boots;
 }
 
-left_next : (base : Base) (last : Option Entry) (history : List Item) (boots : ℕ) (i : Item)
+left_next : (base : DeviceState) (last : Option Entry) (history : List FinishRecord) (boots : ℕ) (i : FinishRecord)
     → next_durable (record { state = state_left base history; last = last_of last history; boots = boots }) i ≡ record { state = state_left base (i ∷ history); last = last_of last (i ∷ history); boots = boots }
 unfolding next_durable
 left_next base last history boots i =
@@ -38,11 +38,11 @@ left_next base last history boots i =
       boots = boots;
     } in d) e
 
-committed_next : (l : Layout) (set : TaskSet) (h : Held) (i : Item) (slots : List ℕ) → durable_of (committed l set h (commit_of h i slots)) ≡ next_durable (durable_of h) i
+committed_next : (l : Layout) (set : TaskSet) (h : Held) (i : FinishRecord) (slots : List ℕ) → durable_of (committed l set h (commit_of h i slots)) ≡ next_durable (durable_of h) i
 unfolding next_durable
 committed_next l set h i slots = refl
 
-pub commit_lists : (l : Layout) (set : TaskSet) (h : Held) (i : Item) (slots : List ℕ) (base : Base) (last : Option Entry) (history : List Item) (boots : ℕ)
+pub commit_lists : (l : Layout) (set : TaskSet) (h : Held) (i : FinishRecord) (slots : List ℕ) (base : DeviceState) (last : Option Entry) (history : List FinishRecord) (boots : ℕ)
     → durable_of h ≡ record { state = state_left base history; last = last_of last history; boots = boots }
     → durable_of (committed l set h (commit_of h i slots)) ≡ record { state = state_left base (i ∷ history); last = last_of last (i ∷ history); boots = boots }
 commit_lists l set h i slots base last history boots e = committed_next l set h i slots ∙ ap (λ (d : Durable). next_durable d i) e ∙ left_next base last history boots i

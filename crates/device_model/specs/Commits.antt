@@ -2,7 +2,7 @@
 use Rattle.std.specs.Prelude.{◌≡◌, ◌≢◌, ℕ, zero, suc, max, ◌+◌, ◌-◌, ◌*◌, ◌/◌, ◌<◌, ◌==◌, nat_le, Bool, false, not, ◌||◌, ◌&&◌, List, [], ◌∷◌, ◌++◌, length, slice_index, take, Some, None, if◌then◌else◌}
 use Rattle.std.specs.List.{AllByRecursion, list_any}
 use Rattle.kernel_model.specs.Effects.{Write, written, put}
-use Rattle.kernel_model.specs.Items.{Item, entry_of}
+use Rattle.kernel_model.specs.Items.{FinishRecord, entry_of}
 use Rattle.kernel_model.specs.OpenTasks.{children, others_than}
 use Rattle.kernel_model.specs.Fit.{IsWrite, InObjectOrder}
 use Rattle.set_model.specs.Sets.{TaskSet}
@@ -19,7 +19,7 @@ pub record Commit : Type 0 where
   pub after : Index
 
 -- the index after a finish, with these slots
-abbrev pub index_after : Index → Item → List ℕ → Index
+abbrev pub index_after : Index → FinishRecord → List ℕ → Index
 index_after x i slots = record {
   clock = max i.point x.clock;
   number = x.number + 1;
@@ -30,7 +30,7 @@ index_after x i slots = record {
 }
 
 -- the commit of a finish, where its objects go to these slots
-abbrev pub commit_of : Held → Item → List ℕ → Commit
+abbrev pub commit_of : Held → FinishRecord → List ℕ → Commit
 commit_of h i slots = record { writes = i.run.writes; after = index_after h.index i slots }
 
 -- the writes of n objects from number o on, by whether each is written and by its words

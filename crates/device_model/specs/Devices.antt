@@ -1,7 +1,7 @@
 -- A device of a kind, for a task set, and what the laws say of it in few words. This project's own.
 use Rattle.std.specs.Prelude.{◌≡◌, ℕ, ◌+◌, ◌<◌, Bool, List, length, take, Option}
-use Rattle.kernel_model.specs.Items.{Entry, Item}
-use Rattle.kernel_model.specs.Replay.{Base}
+use Rattle.kernel_model.specs.Items.{Entry, FinishRecord}
+use Rattle.kernel_model.specs.Replay.{DeviceState}
 use Rattle.kernel_model.specs.Durable.{Durable, last_of, state_left}
 use Rattle.set_model.specs.Sets.{TaskSet, object_at}
 use Rattle.device_model.specs.Words.{Change, Words, made, words_from}
@@ -117,7 +117,7 @@ abbrev pub reached_on : Device → Held → List Act → ℕ → Held
 reached_on d h acts k = held_at (layout_on d) d.set h acts k
 
 -- what is durable after a history, on a base with its last finish
-abbrev pub left_after : Base → Option Entry → (boots : ℕ) → List Item → Durable
+abbrev pub left_after : DeviceState → Option Entry → (boots : ℕ) → List FinishRecord → Durable
 left_after base last boots history = record {
   state = state_left base history;
   last = last_of last history;

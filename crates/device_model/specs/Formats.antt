@@ -1,7 +1,7 @@
 -- The writes of a format, and the state that it leaves. This project's own.
 use Rattle.std.specs.Prelude.{ℕ, ◌+◌, ◌-◌, ◌*◌, ◌/◌, ◌%◌, ◌==◌, nat_lt, List, [], ◌∷◌, ◌++◌, length, replicate, slice_index, None, if◌then◌else◌}
-use Rattle.kernel_model.specs.Effects.{Objects, words_of}
-use Rattle.set_model.specs.Sets.{ObjectPart, TaskSet}
+use Rattle.kernel_model.specs.Effects.{Objects, object_words}
+use Rattle.set_model.specs.Sets.{ObjPart, TaskSet}
 use Rattle.set_model.specs.Numbers.{first_index}
 use Rattle.set_model.specs.Formatted.{formatted}
 use Rattle.device_model.specs.Words.{Words, Change, words_from, written_at}
@@ -10,10 +10,10 @@ use Rattle.device_model.specs.IndexWords.{Index, index_word}
 use Rattle.device_model.specs.Decoding.{Held}
 
 -- word p of the slots of some objects, the first of them number o: the objects' words in slot 0, and 0 in the others
-abbrev pub fresh_slot_word : List ObjectPart → Objects → ℕ → ℕ → ℕ
+abbrev pub fresh_slot_word : List ObjPart → Objects → ℕ → ℕ → ℕ
 fresh_slot_word [] objects o p = 0
 fresh_slot_word (part ∷ parts) objects o p =
-    if nat_lt p (slots_words part) then slice_index (words_of objects o) p
+    if nat_lt p (slots_words part) then slice_index (object_words objects o) p
     else fresh_slot_word parts objects (o + 1) (p - slots_words part)
 
 -- word p of the pages: the index in copy 0 of each page, and 0 in copy 1

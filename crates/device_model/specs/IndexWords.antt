@@ -3,7 +3,7 @@ use Rattle.std.specs.Prelude.{◌≡◌, ℕ, zero, suc, ◌+◌, ◌-◌, ◌*�
 use Rattle.std.specs.List.{AllByRecursion}
 use Rattle.kernel_model.specs.Effects.{Outcome, Exit, Trap, Objects}
 use Rattle.kernel_model.specs.Items.{Entry}
-use Rattle.kernel_model.specs.Replay.{TaskRec, Base}
+use Rattle.kernel_model.specs.Replay.{TaskRec, DeviceState}
 use Rattle.kernel_model.specs.Serial.{InIdOrder}
 use Rattle.kernel_model.specs.Fit.{IsLast}
 use Rattle.set_model.specs.Sets.{TaskSet, object_at}
@@ -19,7 +19,7 @@ pub record Index : Type 0 where
   pub tasks : List TaskRec
 
 -- the state that an index and some objects are
-abbrev pub base_of : Index → Objects → Base
+abbrev pub base_of : Index → Objects → DeviceState
 base_of x objects = record {
   objects = objects;
   tasks = x.tasks;

@@ -1,6 +1,6 @@
 -- The words of a device keep a state: what code keeps, place by place. This project's own.
 use Rattle.std.specs.Prelude.{◌≡◌, ◌≢◌, ℕ, ◌+◌, ◌<◌, ◌≤◌, true, length, slice_index}
-use Rattle.kernel_model.specs.Effects.{words_of}
+use Rattle.kernel_model.specs.Effects.{object_words}
 use Rattle.set_model.specs.Sets.{TaskSet, object_at}
 use Rattle.set_model.specs.Numbers.{first_index}
 use Rattle.device_model.specs.Words.{Words}
@@ -13,7 +13,7 @@ pub record IsHeld (set : TaskSet) (l : Layout) (h : Held) : Type 0 where
   pub index : IsIndex set h.index
   pub objects : length h.objects ≡ length set.objects
   pub words : (o : ℕ) → o < length set.objects
-      → length (words_of h.objects o) ≡ (object_at set o).size
+      → length (object_words h.objects o) ≡ (object_at set o).size
   pub root : l.is_root h.root ≡ true
 
 -- the words that are read keep the state
@@ -25,7 +25,7 @@ pub record KeepsIn (set : TaskSet) (l : Layout) (h : Held) (words : Words) : Typ
   pub index : (i : ℕ) → i < index_reads l → words (index_place l h.root i) ≡ index_word h.index i
   pub objects : (o i : ℕ) → o < length set.objects → i < (object_at set o).size
       → words (slot_place l set o (slice_index h.index.slots o) + i)
-      ≡ slice_index (words_of h.objects o) i
+      ≡ slice_index (object_words h.objects o) i
 
 abbrev pub Keeps : Kind → TaskSet → Held → Words → Type 0
 Keeps kind set h words = KeepsIn set (layout_of kind set) h words

@@ -1,7 +1,7 @@
 -- Where the words of a set stand on a device: one description by shape, for each kind of device. This project's own.
 use Rattle.std.specs.Prelude.{◌≡◌, ℕ, zero, suc, ◌+◌, ◌-◌, ◌*◌, ◌/◌, ◌%◌, ◌^◌, ◌==◌, nat_lt, nat_le, Bool, ◌||◌, List, [], ◌∷◌, ◌++◌, length, map, slice_index, sum_by, Option, Some, None, if◌then◌else◌}
 use Rattle.std.specs.List.{flat_map}
-use Rattle.set_model.specs.Sets.{ObjectPart, ProgramPart, TaskSet, object_at}
+use Rattle.set_model.specs.Sets.{ObjPart, ProgPart, TaskSet, object_at}
 use Rattle.set_model.specs.Numbers.{index_words, first_index, words_needed}
 
 -- the kinds of device
@@ -118,11 +118,11 @@ abbrev pub slots_at : Layout → ℕ
 slots_at l = l.pages_at + 2 * index_reads l
 
 -- how many words the slots of an object have
-abbrev pub slots_words : ObjectPart → ℕ
+abbrev pub slots_words : ObjPart → ℕ
 slots_words o = o.size * o.slots
 
 -- how many words the slots of the first objects have
-abbrev pub words_before : List ObjectPart → ℕ → ℕ
+abbrev pub words_before : List ObjPart → ℕ → ℕ
 words_before [] o = 0
 words_before (p ∷ objects) zero = 0
 words_before (p ∷ objects) (suc o) = slots_words p + words_before objects o
@@ -136,11 +136,11 @@ abbrev pub need : Layout → TaskSet → ℕ
 need l set = slots_at l + sum_by slots_words set.objects
 
 -- an object in the directory
-abbrev pub object_word : ObjectPart → ℕ
+abbrev pub object_word : ObjPart → ℕ
 object_word o = o.size + 256 * o.slots
 
 -- a program in the directory
-abbrev pub program_words : ProgramPart → List ℕ
+abbrev pub program_words : ProgPart → List ℕ
 program_words p = p.fuel ∷ length p.code ∷ []
 
 -- the words of the header, the directory and the code, with 0 for the words 1 and 2
@@ -155,7 +155,7 @@ abbrev pub header_word : Layout → TaskSet → ℕ → ℕ
 header_word l set j = slice_index (header l.magic set) j
 
 -- how many words of code the first programs have
-abbrev pub code_before : List ProgramPart → ℕ → ℕ
+abbrev pub code_before : List ProgPart → ℕ → ℕ
 code_before [] p = 0
 code_before (q ∷ programs) zero = 0
 code_before (q ∷ programs) (suc p) = length q.code + code_before programs p

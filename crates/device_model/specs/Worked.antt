@@ -3,7 +3,7 @@ use Rattle.std.specs.Prelude.{◌≡◌, ℕ, ◌+◌, List, [], ◌∷◌, ◌+
 use Rattle.std.specs.List.{range_with_len}
 use Rattle.kernel_model.specs.Effects.{Exit, Run, Spawn, Write}
 use Rattle.kernel_model.specs.Turns as turns
-use Rattle.set_model.specs.Sets.{ObjectPart, TaskSet}
+use Rattle.set_model.specs.Sets.{ObjPart, TaskSet}
 use Rattle.set_model.specs.Formatted.{formatted}
 use Rattle.set_model.specs.Numbers.{index_words, first_index}
 use Rattle.device_model.specs.Words.{Words, Change, made}
@@ -16,7 +16,7 @@ use Rattle.device_model.specs.Migrations.{migration_writes, moved_held}
 use Rattle.device_model.specs.Journals.{booted, boot_writes}
 
 -- an object of one word
-abbrev pub word_object : ObjectPart
+abbrev pub word_object : ObjPart
 word_object = record { name = codes "x"; size = 1; slots = 2; first = 5 ∷ [] }
 
 -- one object, one program of twelve words, one task

@@ -2,7 +2,7 @@
 use Rattle.std.specs.Prelude.{◌≡◌, ℕ, ◌+◌, List, [], ◌∷◌, ◌++◌, length, codes, replicate, take, Some}
 use Rattle.kernel_model.specs.Effects.{Exit, Spawn}
 use Rattle.kernel_model.specs.OpenTasks.{children}
-use Rattle.set_model.specs.Sets.{ObjectPart, TaskSet}
+use Rattle.set_model.specs.Sets.{ObjPart, TaskSet}
 use Rattle.set_model.specs.Numbers.{index_words, first_index}
 use Rattle.device_model.specs.Words.{Words, made}
 use Rattle.device_model.specs.Layouts.{Plain, Paged, layout_of, boot_turns_of, need}
@@ -17,10 +17,10 @@ abbrev pub spawn : Spawn
 spawn = record { program = 0; arg = 3 }
 
 -- an object of two words, and one of three slots
-abbrev pub first_object : ObjectPart
+abbrev pub first_object : ObjPart
 first_object = record { name = codes "x"; size = 2; slots = 2; first = 5 ∷ 6 ∷ [] }
 
-abbrev pub second_object : ObjectPart
+abbrev pub second_object : ObjPart
 second_object = record { name = codes "y"; size = 1; slots = 3; first = 7 ∷ [] }
 
 -- two objects, 20 records, 12 tasks

@@ -3,9 +3,9 @@
 ghost use Rattle.std.specs.Prelude.{ℕ, ◌≡◌, ◌≢◌, ◌<◌, ◌+◌, ◌∷◌, ◌≤◌, Bool, true, if◌then◌else◌, List, get_or, length, slice_index, Option, set};
 ghost use Rattle.std.specs.List.{AllByRecursion};
 ghost use Rattle.kernel_model.specs.Effects.{Objects, written};
-ghost use Rattle.kernel_model.specs.Items.{Entry, Item};
+ghost use Rattle.kernel_model.specs.Items.{Entry, FinishRecord};
 ghost use Rattle.kernel_model.specs.OpenTasks.{open_tasks};
-ghost use Rattle.kernel_model.specs.Replay.{Base};
+ghost use Rattle.kernel_model.specs.Replay.{DeviceState};
 ghost use Rattle.kernel_model.specs.Turns as turns;
 ghost use Rattle.kernel_model.specs.Fit.{InObjectOrder, IsBase, IsLast, IsSizes, IsWrite};
 ghost use Rattle.set_model.specs.Sets.{TaskSet, object_at};
@@ -46,14 +46,14 @@ pub fn whole_commit_keeps_next_state()
 pub fn commit_has_turns()
     ensures writes { (l : Layout) (set : TaskSet) (h : Held) (c : Commit)
         → length (commit_writes l set h c) ≡ commit_turns l set h c }
-    ensures counted { (l : Layout) (set : TaskSet) (h : Held) (i : Item) (slots : List ℕ)
-        → (base : Base) (history : List Item) → h.index.tasks ≡ open_tasks base history
+    ensures counted { (l : Layout) (set : TaskSet) (h : Held) (i : FinishRecord) (slots : List ℕ)
+        → (base : DeviceState) (history : List FinishRecord) → h.index.tasks ≡ open_tasks base history
         → length h.index.slots ≡ length set.objects → length slots ≡ length set.objects
         → AllByRecursion (IsWrite (sizes_on l set)) i.run.writes
         → commit_turns l set h (commit_of h i slots)
         ≡ turns.commit_writes (sizes_on l set) base history i }
-    ensures format_1 { (set : TaskSet) (h : Held) (i : Item) (slots : List ℕ) (base : Base)
-        → (history : List Item) → AllByRecursion (IsWrite (sizes_of set)) i.run.writes
+    ensures format_1 { (set : TaskSet) (h : Held) (i : FinishRecord) (slots : List ℕ) (base : DeviceState)
+        → (history : List FinishRecord) → AllByRecursion (IsWrite (sizes_of set)) i.run.writes
         → commit_turns (layout_of Kind.Plain set) set h (commit_of h i slots)
         ≡ turns.commit_writes (sizes_of set) base history i }
 {}
@@ -101,8 +101,8 @@ pub fn write_changes_one_slot()
 
 /// The commit of a finish leaves what is durable after that finish.
 pub fn commit_lists_finish()
-    ensures { (l : Layout) (set : TaskSet) (h : Held) (i : Item) (slots : List ℕ) (base : Base)
-        → (last : Option Entry) (history : List Item) (boots : ℕ)
+    ensures { (l : Layout) (set : TaskSet) (h : Held) (i : FinishRecord) (slots : List ℕ) (base : DeviceState)
+        → (last : Option Entry) (history : List FinishRecord) (boots : ℕ)
         → durable_of h ≡ left_after base last boots history
         → durable_of (committed l set h (commit_of h i slots))
         ≡ left_after base last boots (i ∷ history) }

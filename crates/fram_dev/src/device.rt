@@ -1,7 +1,7 @@
 // What a memory of words promises.
 
 ghost use Rattle.std.specs.Prelude.{ℕ, ◌≡◌, ◌+◌, ◌<◌, ◌≤◌, ◌⊎◌, List, [], ◌∷◌, ◌++◌, IfOk, OnOk, OnErr, length, slice_index};
-ghost use Rattle.nv_base.specs.Streams.{Rose};
+ghost use Rattle.nv_base.specs.Streams.{FaultCounted};
 ghost use Rattle.fram_dev.specs.Device.{Change, made_in};
 
 use thiserror::Error;
@@ -32,7 +32,7 @@ pub trait Fram {
         ensures word { IfOk result (λ word. word ≡ slice_index (made_in (log self.old) (start self.old)) at) }
         ensures kept { log self.new ≡ log self.old }
         ensures same { start self.new ≡ start self.old }
-        ensures failed { OnErr result (Rose (lost self.old) (lost self.new)) }
+        ensures failed { OnErr result (FaultCounted (lost self.old) (lost self.new)) }
         ensures never_falls { lost self.old ≤ lost self.new };
 
     /// One write more. A lost write is made, or it is not.
@@ -41,7 +41,7 @@ pub trait Fram {
         ensures written { OnOk result (log self.new ≡ log self.old ++ (at, word) ∷ []) }
         ensures either { OnErr result ((log self.new ≡ log self.old) ⊎ (log self.new ≡ log self.old ++ (at, word) ∷ [])) }
         ensures same { start self.new ≡ start self.old }
-        ensures failed { OnErr result (Rose (lost self.old) (lost self.new)) }
+        ensures failed { OnErr result (FaultCounted (lost self.old) (lost self.new)) }
         ensures never_falls { lost self.old ≤ lost self.new };
 
     /// How many calls were lost so far.

@@ -1,7 +1,7 @@
 // A device in memory, for tests: it loses calls from a given write on.
 
 ghost use Rattle.std.specs.Prelude.{ℕ, ◌≡◌, ◌+◌, ◌-◌, ◌<◌, ◌≤◌, ◌⊎◌, false, List, [], ◌∷◌, ◌++◌, IfOk, OnOk, OnErr, IsOk, IsErr, slice_index, slice_set, length, vec_len, vec_capacity, if◌then◌else◌};
-ghost use Rattle.nv_base.specs.Streams.{Rose};
+ghost use Rattle.nv_base.specs.Streams.{FaultCounted};
 ghost use Rattle.fram_dev.specs.Device.{Change, made_in};
 
 use crate::device::{Fram, Lost};
@@ -111,7 +111,7 @@ impl MemFram {
         ensures passes { self.new.passes ≡ self.old.passes }
         ensures fused { self.new.fused ≡ self.old.fused }
         ensures makes { self.new.makes_lost ≡ self.old.makes_lost }
-        ensures lost { Rose self.old.lost self.new.lost }
+        ensures lost { FaultCounted self.old.lost self.new.lost }
     {
         self.lost = self.lost.saturating_add(1);
         Lost
@@ -136,7 +136,7 @@ impl Fram for MemFram {
         ensures word { IfOk result (λ word. word ≡ slice_index (made_in (self.old.log.items) (self.old.start.items)) at) }
         ensures kept { self.new.log.items ≡ self.old.log.items }
         ensures same { self.new.start.items ≡ self.old.start.items }
-        ensures failed { OnErr result (Rose (self.old.lost) (self.new.lost)) }
+        ensures failed { OnErr result (FaultCounted (self.old.lost) (self.new.lost)) }
         ensures never_falls { self.old.lost ≤ self.new.lost }
         ensures alive { IsAlive self.old → IsOk result }
         ensures dead { self.old.passes ≡ 0 → self.old.fused ≡ false → IsErr result }
@@ -153,7 +153,7 @@ impl Fram for MemFram {
         ensures written { OnOk result (self.new.log.items ≡ self.old.log.items ++ (at, word) ∷ []) }
         ensures either { OnErr result ((self.new.log.items ≡ self.old.log.items) ⊎ (self.new.log.items ≡ self.old.log.items ++ (at, word) ∷ [])) }
         ensures same { self.new.start.items ≡ self.old.start.items }
-        ensures failed { OnErr result (Rose (self.old.lost) (self.new.lost)) }
+        ensures failed { OnErr result (FaultCounted (self.old.lost) (self.new.lost)) }
         ensures never_falls { self.old.lost ≤ self.new.lost }
         ensures alive { 0 < self.old.passes → (IsOk result) × (self.new.passes ≡ self.old.passes - 1) × (self.new.fused ≡ self.old.fused) × (self.new.makes_lost ≡ self.old.makes_lost) }
         ensures dead { self.old.passes ≡ 0 → (IsErr result) × (self.new.passes ≡ 0) × (self.new.fused ≡ false) × (self.new.makes_lost ≡ false) }

@@ -1,7 +1,7 @@
 -- The run of a task set's event machine from the formatted state, and its report. This project's own.
 use Rattle.std.specs.Prelude.{ℕ, List, ◌++◌}
 use Rattle.rv_core.specs.State.{MachineState}
-use Rattle.kernel_model.specs.Replay.{Base}
+use Rattle.kernel_model.specs.Replay.{DeviceState}
 use Rattle.kernel_model.specs.Turns.{Line}
 use Rattle.kernel_model.specs.Events.{Event, On, State, lines_of, opened, state_after}
 use Rattle.kernel_model.specs.Durable.{listed, state_left}
@@ -29,7 +29,7 @@ abbrev pub all_lines : TaskSet → List Event → List Line
 all_lines set events = report_lines (task_steps set) (sizes_of set) (formatted set) (first_state set) events
 
 -- the durable state after some events
-abbrev pub state_read : TaskSet → List Event → Base
+abbrev pub state_read : TaskSet → List Event → DeviceState
 state_read set events = state_left (formatted set) (listed (after set events))
 
 -- the whole report

@@ -1,6 +1,6 @@
 -- What an interval of the program is in the kernel's model, and how one is raised. This project's own.
 use Rattle.std.specs.Prelude.{ℕ, ◌<◌, max, Bool, true, false, List, [], ◌∷◌, Option, Some, None}
-use Rattle.nv_base.specs.declared.names.Point.{Point}
+use Rattle.nv_base.specs.declared.ids.Point.{Point}
 use Rattle.interval.specs.declared.ranges.Interval as own
 use Rattle.kernel_model.specs.Effects.{Write}
 use Rattle.kernel_model.specs.Intervals.{Interval}

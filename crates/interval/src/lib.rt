@@ -2,10 +2,10 @@
 #![tactic(auto)]
 
 pub mod laws;
-mod names;
+mod version;
 mod ranges;
 
-pub use names::{Pin, Version};
+pub use version::{Pin, Version};
 pub use ranges::Interval;
 
 #[cfg(test)]

@@ -22,21 +22,21 @@ use Rattle.set_model.specs.Sets.{object_at}
 use Rattle.set_model.specs.Formatted.{formatted}
 use Rattle.set_model.specs.Views.{spawn_of, trap_of}
 use Rattle.task_model.specs.TaskSteps.{given_index, past, refusal, served, task_steps, unless}
-use Rattle.kernel_core.specs.Stands.{Hidden}
-use Rattle.kernel_core.specs.Arms.{Serves, attempt_left}
+use Rattle.kernel_core.specs.Represents.{GhostState}
+use Rattle.kernel_core.specs.Simulation.{SimulatesService, attempt_left}
 use Rattle.kernel_core.specs.declared.kernel.Kernel.{Kernel}
 use Rattle.kernel_core.specs.declared.kernel.Phase.TheVariants as phase
 use Rattle.kernel_core.proofs.Tables.{written_more}
 use Rattle.kernel_core.proofs.Turning.{leaves, running}
 
 -- the turn of a running attempt whose step comes to this
-abbrev pub turned : Kernel → MachineState → Hidden → Step MachineState → Turn MachineState
+abbrev pub turned : Kernel → MachineState → GhostState → Step MachineState → Turn MachineState
 turned k m h step = run_turn (task_steps k.set) (formatted k.set) h.history 0 (record h.attempt { state = m }) step
 
 -- a service that traps ends the attempt
 pub traps : (k : Kernel) (asked : Service) (c : TrapCause) → served k.set (Calls k.machine asked) ≡ Ends (trap_of c)
-    → Serves (running k) asked (record k { attempt = attempt_left k.attempt (outcome.Trap c); phase = phase.Ready (outcome.Trap c) })
-unfolding Serves
+    → SimulatesService (running k) asked (record k { attempt = attempt_left k.attempt (outcome.Trap c); phase = phase.Ready (outcome.Trap c) })
+unfolding SimulatesService
 traps k asked c e = λ m h f. record {
   hidden = record h { attempt = record h.attempt { state = m } };
   history = refl;
@@ -44,12 +44,12 @@ traps k asked c e = λ m h f. record {
   turns = ap (turned k m h) e;
 }
 
-pub traps_write : (k : Kernel) (o at : ℕ) (c : TrapCause) → Some c ≡ refusal k.set k.machine o at → Serves (running k) (service.Write o at) (record k { attempt = attempt_left k.attempt (outcome.Trap c); phase = phase.Ready (outcome.Trap c) })
+pub traps_write : (k : Kernel) (o at : ℕ) (c : TrapCause) → Some c ≡ refusal k.set k.machine o at → SimulatesService (running k) (service.Write o at) (record k { attempt = attempt_left k.attempt (outcome.Trap c); phase = phase.Ready (outcome.Trap c) })
 traps_write k o at c e =
     traps k (service.Write o at) c (ap (λ f. unless f (Writes (past k.machine) (record { object = o; words = words_at k.machine.memory at (object_at k.set o).size }))) (sym e))
 
 pub traps_spawn : (k : Kernel) (program arg : ℕ) → length k.set.programs ≤ program
-    → Serves (running k) (service.Spawn program arg) (record k { attempt = attempt_left k.attempt (outcome.Trap cause.Program); phase = phase.Ready (outcome.Trap cause.Program) })
+    → SimulatesService (running k) (service.Spawn program arg) (record k { attempt = attempt_left k.attempt (outcome.Trap cause.Program); phase = phase.Ready (outcome.Trap cause.Program) })
 traps_spawn k program arg l =
     traps k (service.Spawn program arg) cause.Program
     (ap (λ b. cond b (Spawns k.machine (record { program = program; arg = arg })) (Ends (trap_of cause.Program))) (le-ltb program (length k.set.programs) l))
@@ -73,13 +73,13 @@ no_read o reads e = go (read_of o reads) refl e
 
 -- a write
 pub writes_words : (k : Kernel) (o : ℕ) (at : ℕ) → None ≡ refusal k.set k.machine o at → o < length k.attempt.words → IsIncreasing k.attempt.written
-    → Serves (running k) (service.Write o at)
+    → SimulatesService (running k) (service.Write o at)
     (record k {
       machine = past k.machine;
       attempt = record k.attempt { words = set k.attempt.words o (words_at k.machine.memory at (object_at k.set o).size); written = with_object o k.attempt.written };
       phase = phase.Running;
     })
-unfolding Serves
+unfolding SimulatesService
 writes_words k o at fine inside increasing = λ m h f.
     let d = f.phase.1 in
     let words : List ℕ = words_at k.machine.memory at (object_at k.set o).size in
@@ -103,18 +103,18 @@ writes_words k o at fine inside increasing = λ m h f.
     }
 
 -- a spawn that is counted
-abbrev spawning : Kernel → MachineState → Hidden → ℕ → ℕ → Bool → Turn MachineState
+abbrev spawning : Kernel → MachineState → GhostState → ℕ → ℕ → Bool → Turn MachineState
 spawning k m h program arg b = turned k m h (cond b (Spawns k.machine (record { program = program; arg = arg })) (Ends (trap_of cause.Program)))
 
-abbrev spawned_there : Kernel → MachineState → Hidden → ℕ → ℕ → Bool → Turn MachineState
+abbrev spawned_there : Kernel → MachineState → GhostState → ℕ → ℕ → Bool → Turn MachineState
 spawned_there k m h program arg b =
     let a : Attempt MachineState = record h.attempt { state = m } in
     cond b (quiet (Running (record a { spawns = a.spawns ++ record { program = program; arg = arg } ∷ []; state = given_index k.machine (length a.spawns) }))) (quiet (Ready a (Trap spawns_cause)))
 
 pub spawns_task : (k : Kernel) (s : base_spawn.Spawn) → s.program.0 < length k.set.programs → length k.attempt.spawns < 8
-    → Serves (running k) (service.Spawn s.program.0 s.arg)
+    → SimulatesService (running k) (service.Spawn s.program.0 s.arg)
     (record k { machine = given_index k.machine (length k.attempt.spawns); attempt = record k.attempt { spawns = k.attempt.spawns ++ s ∷ [] }; phase = phase.Running })
-unfolding Serves
+unfolding SimulatesService
 spawns_task k s inside few = λ m h f.
     let d = f.phase.1 in
     let count : length h.attempt.spawns ≡ length k.attempt.spawns = ap length (sym d.spawns) ∙ length-map k.attempt.spawns spawn_of in
@@ -141,8 +141,8 @@ spawns_task k s inside few = λ m h f.
 
 -- a spawn too many
 pub spawns_too_many : (k : Kernel) (program arg : ℕ) → program < length k.set.programs → 8 ≤ length k.attempt.spawns
-    → Serves (running k) (service.Spawn program arg) (record k { attempt = attempt_left k.attempt (outcome.Trap cause.Spawns); phase = phase.Ready (outcome.Trap cause.Spawns) })
-unfolding Serves
+    → SimulatesService (running k) (service.Spawn program arg) (record k { attempt = attempt_left k.attempt (outcome.Trap cause.Spawns); phase = phase.Ready (outcome.Trap cause.Spawns) })
+unfolding SimulatesService
 spawns_too_many k program arg inside many = λ m h f.
     let d = f.phase.1 in
     let count : length h.attempt.spawns ≡ length k.attempt.spawns = ap length (sym d.spawns) ∙ length-map k.attempt.spawns spawn_of in

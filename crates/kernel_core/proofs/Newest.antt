@@ -1,8 +1,8 @@
 -- What one core reads: the newest version of each object, since no finish joins while its attempt lasts.
 use Rattle.std.proofs.Common.{◌≡◌, ℕ, ◌<◌, ◌≤◌, max, List, [], ◌∷◌, length, Option, Some, None, unwrap_or, refl, sym, ap, ◌∙◌, arith}
-use Rattle.kernel_model.specs.Effects.{Objects, Run, Write, put, words_of, written}
-use Rattle.kernel_model.specs.Items.{Item}
-use Rattle.kernel_model.specs.Replay.{Base, after_history, clock_of, tables_of}
+use Rattle.kernel_model.specs.Effects.{Objects, Run, Write, put, object_words, written}
+use Rattle.kernel_model.specs.Items.{FinishRecord}
+use Rattle.kernel_model.specs.Replay.{DeviceState, after_history, clock_of, tables_of}
 use Rattle.kernel_model.specs.Versions.{Read, Version, chosen, read_words, version_read, versions, words_in}
 use Rattle.kernel_model.specs.Intervals.{Interval, finish_interval, last_touch, raised_for, read_interval, sooner, within}
 use Rattle.kernel_model.proofs.AloneLaws.{newest, newest-found}
@@ -12,35 +12,35 @@ use Rattle.kernel_model.proofs.VersionLaws.{tops}
 use Rattle.task_model.proofs.WriteFacts.{length-put_from, seen}
 
 -- as many objects as at first
-pub length-objects : (base : Base) (history : List Item) → length (after_history history (tables_of base)).objects ≡ length base.objects
+pub length-objects : (base : DeviceState) (history : List FinishRecord) → length (after_history history (tables_of base)).objects ≡ length base.objects
 length-objects base [] = refl
 length-objects base (i ∷ history) = length-put_from 0 i.run.writes (after_history history (tables_of base)).objects ∙ length-objects base history
 
-pub has_newest : (base : Base) (history : List Item) (o : ℕ) → (v : Version) × (chosen None (versions base o history) ≡ Some v)
+pub has_newest : (base : DeviceState) (history : List FinishRecord) (o : ℕ) → (v : Version) × (chosen None (versions base o history) ≡ Some v)
 has_newest base history o = chosen_exists base o history None None tt
 
 -- the newest version has the words that all finishes leave
-pub newest-words : (base : Base) (o : ℕ) → o < length base.objects → (history : List Item) (v : Version) → chosen None (versions base o history) ≡ Some v → v.words ≡ words_of (after_history history (tables_of base)).objects o
-newest-words base o h [] v e = let same : record { writer = base.number; begin = base.clock; end = None; words = words_of base.objects o } ≡ v = cc in ap (λ (x : Version). x.words) (sym same)
+pub newest-words : (base : DeviceState) (o : ℕ) → o < length base.objects → (history : List FinishRecord) (v : Version) → chosen None (versions base o history) ≡ Some v → v.words ≡ object_words (after_history history (tables_of base)).objects o
+newest-words base o h [] v e = let same : record { writer = base.number; begin = base.clock; end = None; words = object_words base.objects o } ≡ v = cc in ap (λ (x : Version). x.words) (sym same)
 newest-words base o h (i ∷ history) v e = go (written i.run.writes o) refl e (newest-words base o h history v)
   where
     objects : Objects
     objects = (after_history history (tables_of base)).objects
 
-    put_in : (w : Option (List ℕ)) → written i.run.writes o ≡ w → words_of (put i.run.writes objects) o ≡ unwrap_or w (words_of objects o)
-    put_in w f = let l : length objects ≡ length base.objects = length-objects base history in seen i.run.writes objects o (omega (arith, h, l)) ∙ ap (λ x. unwrap_or x (words_of objects o)) f
+    put_in : (w : Option (List ℕ)) → written i.run.writes o ≡ w → object_words (put i.run.writes objects) o ≡ unwrap_or w (object_words objects o)
+    put_in w f = let l : length objects ≡ length base.objects = length-objects base history in seen i.run.writes objects o (omega (arith, h, l)) ∙ ap (λ x. unwrap_or x (object_words objects o)) f
 
-    go : (w : Option (List ℕ)) → written i.run.writes o ≡ w → chosen None (tops None base o i history w) ≡ Some v → (chosen None (versions base o history) ≡ Some v → v.words ≡ words_of objects o) → v.words ≡ words_of (put i.run.writes objects) o
+    go : (w : Option (List ℕ)) → written i.run.writes o ≡ w → chosen None (tops None base o i history w) ≡ Some v → (chosen None (versions base o history) ≡ Some v → v.words ≡ object_words objects o) → v.words ≡ object_words (put i.run.writes objects) o
     go None f g rest = rest g ∙ sym (put_in None f)
     go (Some words) f g rest = let same : record { writer = i.number; begin = i.point; end = None; words = words } ≡ v = cc in ap (λ (x : Version). x.words) (sym same) ∙ sym (put_in (Some words) f)
 
 -- the read of a newest version gives its words
-pub newest_read : (base : Base) (history : List Item) (o : ℕ) (v : Version) → chosen None (versions base o history) ≡ Some v → o < length base.objects → (objects : Objects) → (after_history history (tables_of base)).objects ≡ objects
-    → (let r : Read = record { object = o; writer = v.writer } in read_words base history r ≡ words_of objects o)
-newest_read base history o v e h objects same = ap words_in (newest-found (versions base o history) v e) ∙ newest-words base o h history v e ∙ ap (λ m. words_of m o) same
+pub newest_read : (base : DeviceState) (history : List FinishRecord) (o : ℕ) (v : Version) → chosen None (versions base o history) ≡ Some v → o < length base.objects → (objects : Objects) → (after_history history (tables_of base)).objects ≡ objects
+    → (let r : Read = record { object = o; writer = v.writer } in read_words base history r ≡ object_words objects o)
+newest_read base history o v e h objects same = ap words_in (newest-found (versions base o history) v e) ∙ newest-words base o h history v e ∙ ap (λ m. object_words m o) same
 
 -- and leaves the interval as it is
-pub interval_more : (base : Base) (history : List Item) (o lo : ℕ) (v : Version) (i : Interval) → chosen None (versions base o history) ≡ Some v → clock_of base history ≡ lo → i ≡ record { lo = lo; hi = None }
+pub interval_more : (base : DeviceState) (history : List FinishRecord) (o lo : ℕ) (v : Version) (i : Interval) → chosen None (versions base o history) ≡ Some v → clock_of base history ≡ lo → i ≡ record { lo = lo; hi = None }
     → (let r : Read = record { object = o; writer = v.writer } in within (version_read base history r) i ≡ record { lo = lo; hi = None })
 interval_more base history o lo v i e clock is =
     let k = newest base o history v e in
@@ -53,7 +53,7 @@ interval_more base history o lo v i e clock is =
     ∙ ap (λ l. made l None) top
 
 -- a finish that meets no other has the interval of its reads
-pub raised_stays : (base : Base) (history : List Item) (ws : List Write) (lo : ℕ) → clock_of base history ≡ lo → (let i : Interval = record { lo = lo; hi = None } in raised_for history ws i ≡ i)
+pub raised_stays : (base : DeviceState) (history : List FinishRecord) (ws : List Write) (lo : ℕ) → clock_of base history ≡ lo → (let i : Interval = record { lo = lo; hi = None } in raised_for history ws i ≡ i)
 raised_stays base history [] lo e = refl
 raised_stays base history (w ∷ ws) lo e =
     let touched : last_touch w.object history ≤ clock_of base history = last_touch-clock base w.object history in
@@ -61,6 +61,6 @@ raised_stays base history (w ∷ ws) lo e =
     let made : ℕ → Interval = λ l. record { lo = l; hi = None } in
     ap (λ (j : Interval). let x : Interval = record { lo = max (last_touch w.object history) j.lo; hi = j.hi } in x) (raised_stays base history ws lo e) ∙ ap made top
 
-pub finish_stays : (base : Base) (history : List Item) (start : ℕ) (reads : List Read) (run : Run) (lo : ℕ) → clock_of base history ≡ lo → read_interval base history start reads ≡ record { lo = lo; hi = None }
+pub finish_stays : (base : DeviceState) (history : List FinishRecord) (start : ℕ) (reads : List Read) (run : Run) (lo : ℕ) → clock_of base history ≡ lo → read_interval base history start reads ≡ record { lo = lo; hi = None }
     → finish_interval base history start reads run ≡ record { lo = lo; hi = None }
 finish_stays base history start reads run lo e is = ap (raised_for history run.writes) is ∙ raised_stays base history run.writes lo e

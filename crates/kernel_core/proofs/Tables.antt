@@ -4,10 +4,10 @@ use Rattle.std.specs.Prelude.{is_some}
 use Rattle.std.proofs.lemmas.List.{ext_get_or, length-map, length-set, take_more}
 use Rattle.std.proofs.lemmas.Bool.{eqb-true, eqb-false}
 use Rattle.object_sets.specs.ObjectSets.{is_among, with_object, IsIncreasing}
-use Rattle.kernel_model.specs.Effects.{Objects, Write, put, with_write, words_of, written}
+use Rattle.kernel_model.specs.Effects.{Objects, Write, put, with_write, object_words, written}
 use Rattle.kernel_model.proofs.RunFacts.{written-with_write}
 use Rattle.task_model.proofs.WriteFacts.{length-put_from, objects_in-with_write, seen}
-use Rattle.set_model.specs.Sets.{ObjectPart, TaskSet, object_at}
+use Rattle.set_model.specs.Sets.{ObjPart, TaskSet, object_at}
 use Rattle.kernel_core.specs.Shapes.{AreWritten}
 
 -- an object is written where it is among those written
@@ -22,30 +22,30 @@ written-among (w ∷ ws) o = at (eqb w.object o) (written-among ws o)
 -- the first n objects have the words of those written put in
 pub record IsMerged (objects : List ℕ) (words old new : Objects) (n : ℕ) : Type 0 where
   pub number : length new ≡ length old
-  pub done : (o : ℕ) → o < n → words_of new o ≡ cond (is_among o objects) (words_of words o) (words_of old o)
-  pub rest : (o : ℕ) → n ≤ o → words_of new o ≡ words_of old o
+  pub done : (o : ℕ) → o < n → object_words new o ≡ cond (is_among o objects) (object_words words o) (object_words old o)
+  pub rest : (o : ℕ) → n ≤ o → object_words new o ≡ object_words old o
 
 pub merged_first : (objects : List ℕ) (words old : Objects) → IsMerged objects words old old 0
 merged_first objects words old = record { number = refl; done = λ o h. absurd (omega (arith, h)); rest = λ o h. refl }
 
-pub merged_set : (objects : List ℕ) (words old new : Objects) (n : ℕ) → IsMerged objects words old new n → is_among n objects ≡ true → n < length old → IsMerged objects words old (set new n (words_of words n)) (n + 1)
+pub merged_set : (objects : List ℕ) (words old new : Objects) (n : ℕ) → IsMerged objects words old new n → is_among n objects ≡ true → n < length old → IsMerged objects words old (set new n (object_words words n)) (n + 1)
 merged_set objects words old new n h e l =
     let inside : n < length new = omega (arith, l, h.number) in
     record {
-      number = length-set new n (words_of words n) ∙ h.number;
+      number = length-set new n (object_words words n) ∙ h.number;
       done =
-          below_more (λ o. words_of (set new n (words_of words n)) o ≡ cond (is_among o objects) (words_of words o) (words_of old o)) n
-          (λ o b. let ne : o ≡ n → ⊥ = λ f. omega (arith, b, f) in get_or-set_other new n o (words_of words n) [] ne ∙ h.done o b)
-          (get_or-set_same new n (words_of words n) [] inside ∙ ap (λ b. cond b (words_of words n) (words_of old n)) (sym e));
-      rest = λ o b. let ne : o ≡ n → ⊥ = λ f. omega (arith, b, f) in get_or-set_other new n o (words_of words n) [] ne ∙ h.rest o (omega (arith, b));
+          below_more (λ o. object_words (set new n (object_words words n)) o ≡ cond (is_among o objects) (object_words words o) (object_words old o)) n
+          (λ o b. let ne : o ≡ n → ⊥ = λ f. omega (arith, b, f) in get_or-set_other new n o (object_words words n) [] ne ∙ h.done o b)
+          (get_or-set_same new n (object_words words n) [] inside ∙ ap (λ b. cond b (object_words words n) (object_words old n)) (sym e));
+      rest = λ o b. let ne : o ≡ n → ⊥ = λ f. omega (arith, b, f) in get_or-set_other new n o (object_words words n) [] ne ∙ h.rest o (omega (arith, b));
     }
 
 pub merged_skip : (objects : List ℕ) (words old new : Objects) (n : ℕ) → IsMerged objects words old new n → is_among n objects ≡ false → IsMerged objects words old new (n + 1)
 merged_skip objects words old new n h e = record {
   number = h.number;
   done =
-      below_more (λ o. words_of new o ≡ cond (is_among o objects) (words_of words o) (words_of old o)) n h.done
-      (h.rest n (omega arith) ∙ ap (λ b. cond b (words_of words n) (words_of old n)) (sym e));
+      below_more (λ o. object_words new o ≡ cond (is_among o objects) (object_words words o) (object_words old o)) n h.done
+      (h.rest n (omega arith) ∙ ap (λ b. cond b (object_words words n) (object_words old n)) (sym e));
   rest = λ o b. h.rest o (omega (arith, b));
 }
 
@@ -55,18 +55,18 @@ merged_all objects words old new n h l ws w =
     ext_get_or [] new (put ws old) (h.number ∙ sym (length-put_from 0 ws old))
     (λ o b. h.done o (omega (arith, b, l, h.number)) ∙ at o ∙ sym (seen ws old o (omega (arith, b, h.number))))
   where
-    go : (o : ℕ) (v : Option (List ℕ)) → written ws o ≡ v → cond (is_some v) (words_of words o) (words_of old o) ≡ unwrap_or v (words_of old o)
+    go : (o : ℕ) (v : Option (List ℕ)) → written ws o ≡ v → cond (is_some v) (object_words words o) (object_words old o) ≡ unwrap_or v (object_words old o)
     go o None e = refl
     go o (Some x) e = sym (w.words_are o x e)
 
-    at : (o : ℕ) → cond (is_among o objects) (words_of words o) (words_of old o) ≡ unwrap_or (written ws o) (words_of old o)
-    at o = ap (λ b. cond b (words_of words o) (words_of old o)) (ap (is_among o) (sym w.objects_are) ∙ sym (written-among ws o)) ∙ go o (written ws o) refl
+    at : (o : ℕ) → cond (is_among o objects) (object_words words o) (object_words old o) ≡ unwrap_or (written ws o) (object_words old o)
+    at o = ap (λ b. cond b (object_words words o) (object_words old o)) (ap (is_among o) (sym w.objects_are) ∙ sym (written-among ws o)) ∙ go o (written ws o) refl
 
 -- the table has the words of an object that was written
-pub words_written : (ws : List Write) (objects : List ℕ) (table : Objects) (o : ℕ) → AreWritten ws objects table → is_among o objects ≡ true → written ws o ≡ Some (words_of table o)
+pub words_written : (ws : List Write) (objects : List ℕ) (table : Objects) (o : ℕ) → AreWritten ws objects table → is_among o objects ≡ true → written ws o ≡ Some (object_words table o)
 words_written ws objects table o w e = go (written ws o) refl (written-among ws o ∙ ap (is_among o) w.objects_are ∙ e)
   where
-    go : (v : Option (List ℕ)) → written ws o ≡ v → is_some (written ws o) ≡ true → written ws o ≡ Some (words_of table o)
+    go : (v : Option (List ℕ)) → written ws o ≡ v → is_some (written ws o) ≡ true → written ws o ≡ Some (object_words table o)
     go None f g = absurd (let b : false ≡ true = ap is_some (sym f) ∙ g in cc b)
     go (Some x) f g = f ∙ ap Some (w.words_are o x f)
 
@@ -88,15 +88,15 @@ written_more ws objects table o words w increasing inside = record {
     new : Write
     new = record { object = o; words = words }
 
-    at : (p : ℕ) (x : List ℕ) (b : Bool) → eqb o p ≡ b → cond b (Some words) (written ws p) ≡ Some x → x ≡ words_of (set table o words) p
-    at p x true e f = let same : o ≡ p = eqb-true o p e in let words_are : words ≡ x = cc in sym words_are ∙ sym (get_or-set_same table o words [] inside) ∙ ap (λ q. words_of (set table o words) q) same
+    at : (p : ℕ) (x : List ℕ) (b : Bool) → eqb o p ≡ b → cond b (Some words) (written ws p) ≡ Some x → x ≡ object_words (set table o words) p
+    at p x true e f = let same : o ≡ p = eqb-true o p e in let words_are : words ≡ x = cc in sym words_are ∙ sym (get_or-set_same table o words [] inside) ∙ ap (λ q. object_words (set table o words) q) same
     at p x false e f = let ne : p ≡ o → ⊥ = λ g. eqb-false o p e (sym g) in w.words_are p x f ∙ sym (get_or-set_other table o p words [] ne)
 
 -- no writes
 pub none_written : (table : Objects) → AreWritten [] [] table
 none_written table = record { objects_are = refl; words_are = λ o words e. absurd (cc e) }
 
-pub first_at : (parts : List ObjectPart) (n : ℕ) → (let none : ObjectPart = record { name = []; size = 0; slots = 0; first = [] } in words_of (map (λ p. p.first) parts) n ≡ (get_or parts n none).first)
+pub first_at : (parts : List ObjPart) (n : ℕ) → (let none : ObjPart = record { name = []; size = 0; slots = 0; first = [] } in object_words (map (λ p. p.first) parts) n ≡ (get_or parts n none).first)
 first_at [] n = refl
 first_at (p ∷ parts) zero = refl
 first_at (p ∷ parts) (suc n) = first_at parts n
@@ -107,5 +107,5 @@ pub first_one_more : (set : TaskSet) (o : ℕ) (words : List ℕ) (old new : Obj
 first_one_more set o words old new l e w pushed =
     let firsts : Objects = map (λ p. p.first) set.objects in
     let inside : o < length firsts = let n : length firsts ≡ length set.objects = length-map set.objects (λ p. p.first) in omega (arith, l, n) in
-    let at : words_of firsts o ≡ words = first_at set.objects o ∙ sym w in
+    let at : object_words firsts o ≡ words = first_at set.objects o ∙ sym w in
     pushed ∙ ap (λ xs. xs ++ words ∷ []) e ∙ ap (λ x. take o firsts ++ x ∷ []) (sym at) ∙ sym (take_more firsts o [] inside)

@@ -9,7 +9,7 @@ use Rattle.kernel_model.specs.OpenTasks.{children, others_than}
 use Rattle.set_model.specs.Views.{spawn_of, task_of}
 use Rattle.nv_base.specs.declared.lines.Spawn as base_spawn
 use Rattle.nv_base.specs.declared.lines.TaskRec as base_task
-use Rattle.kernel_core.specs.Kept.{IsHeld}
+use Rattle.kernel_core.specs.Invariant.{IsHeld}
 use Rattle.kernel_core.specs.Shapes.{behind}
 
 pub children-append : (first : ℕ) (xs ys : List Spawn) → children first (xs ++ ys) ≡ children first xs ++ children (first + length xs) ys

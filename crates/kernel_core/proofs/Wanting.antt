@@ -6,13 +6,13 @@ use Rattle.rv_core.specs.Machine.{IsPlace, put_words, service_of, words_at}
 use Rattle.rv_core.specs.declared.services.Service.{Service}
 use Rattle.rv_core.specs.declared.services.Service.TheVariants as service
 use Rattle.kernel_model.specs.Effects.{Objects, also_written}
-use Rattle.kernel_model.specs.Items.{Item}
+use Rattle.kernel_model.specs.Items.{FinishRecord}
 use Rattle.kernel_model.specs.Cores.{Attempt, Running}
 use Rattle.kernel_model.specs.Turns.{Turn, quiet}
 use Rattle.set_model.specs.Sets.{TaskSet}
 use Rattle.task_model.specs.TaskSteps.{given_words, memory_given, part_of, past, rewritten_by, rewritten_words, with_part}
 use Rattle.task_model.proofs.MachineFacts.{length-with_part, length-words_at}
-use Rattle.kernel_core.specs.Stands.{HasDone, Hidden}
+use Rattle.kernel_core.specs.Represents.{HasDone, GhostState}
 use Rattle.kernel_core.specs.Wants.{Awaits, memory_wanted, part_in, rewritten_wanted, with_rewritten}
 use Rattle.kernel_core.specs.declared.attempt.Attempt as own
 use Rattle.kernel_core.specs.declared.kernel.Kernel.{Kernel}
@@ -22,15 +22,15 @@ use Rattle.kernel_core.specs.declared.part.Want.TheVariants as want
 use Rattle.kernel_core.proofs.Tables.{written_more}
 
 -- the attempt goes on with this machine, and with new words of an object if there are some
-abbrev pub told : Hidden → ℕ → Option (List ℕ) → MachineState → Turn MachineState
+abbrev pub told : GhostState → ℕ → Option (List ℕ) → MachineState → Turn MachineState
 told h o new m = let a : Attempt MachineState = record h.attempt { writes = also_written o new h.attempt.writes; state = m } in quiet (Running a)
 
-pub wanted_turn : (k : Kernel) (h : Hidden) (o size : ℕ) (w : Want) (words : List ℕ) → Awaits k.machine size w → length words ≡ size
+pub wanted_turn : (k : Kernel) (h : GhostState) (o size : ℕ) (w : Want) (words : List ℕ) → Awaits k.machine size w → length words ≡ size
     → told h o (rewritten_words k.machine words) (given_words k.machine words) ≡ told h o (rewritten_wanted w k.machine.memory words) (past (record k.machine { memory = memory_wanted w k.machine.memory words }))
 wanted_turn k h o size w words a l = ap₂ (told h o) (a.rewritten words l) (a.given words l)
 
 -- what was done, with the object's new words
-pub done_more : (set : TaskSet) (history : List Item) (objects : Objects) (kept : own.Attempt) (a : Attempt MachineState) (o : ℕ) (new : Option (List ℕ)) → IsIncreasing kept.written → o < length kept.words
+pub done_more : (set : TaskSet) (history : List FinishRecord) (objects : Objects) (kept : own.Attempt) (a : Attempt MachineState) (o : ℕ) (new : Option (List ℕ)) → IsIncreasing kept.written → o < length kept.words
     → HasDone set history objects kept a → HasDone set history objects (with_rewritten kept o new) (record a { writes = also_written o new a.writes })
 done_more set history objects kept a o None i l d = record { reads = d.reads; current = d.current; writes = d.writes; spawns = d.spawns }
 done_more set history objects kept a o (Some words) i l d = record {

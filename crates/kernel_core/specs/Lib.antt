@@ -1,5 +1,5 @@
 pub mod Shapes
 pub mod Wants
-pub mod Stands
-pub mod Kept
-pub mod Arms
+pub mod Represents
+pub mod Invariant
+pub mod Simulation

@@ -3,7 +3,7 @@ use Rattle.std.specs.Prelude.{◌≡◌, ℕ, ◌+◌, ◌≤◌, List, length, 
 use Rattle.object_sets.specs.ObjectSets.{is_among, with_object}
 use Rattle.rv_core.specs.State.{MachineState}
 use Rattle.rv_core.specs.Machine.{IsPlace, put_words, words_at}
-use Rattle.kernel_model.specs.Effects.{Objects, words_of}
+use Rattle.kernel_model.specs.Effects.{Objects, object_words}
 use Rattle.task_model.specs.TaskSteps.{given_words, part_of, past, rewritten_words, with_part}
 use Rattle.kernel_core.specs.declared.attempt.Attempt as own
 use Rattle.kernel_core.specs.declared.kernel.Kernel.{Kernel}
@@ -36,7 +36,7 @@ pub record Awaits (m : MachineState) (size : ℕ) (w : Want) : Type 0 where
 
 -- the words that an attempt sees: its own last write, else those that are durable
 abbrev pub seen_in : own.Attempt → Objects → ℕ → List ℕ
-seen_in a objects o = if is_among o a.written then words_of a.words o else words_of objects o
+seen_in a objects o = if is_among o a.written then object_words a.words o else object_words objects o
 
 -- the attempt, with new words of an object if there are some
 abbrev pub with_rewritten : own.Attempt → ℕ → Option (List ℕ) → own.Attempt

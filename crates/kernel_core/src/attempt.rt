@@ -3,7 +3,7 @@
 ghost use Rattle.std.specs.Prelude.{◌≡◌, ◌<◌, ◌≤◌, ◌+◌, IfOk, [], if◌then◌else◌, length, map};
 ghost use Rattle.object_sets.specs.ObjectSets.{is_among};
 ghost use Rattle.rv_core.specs.Machine.{IsPlace};
-ghost use Rattle.kernel_model.specs.Effects.{words_of};
+ghost use Rattle.kernel_model.specs.Effects.{object_words};
 ghost use Rattle.kernel_core.specs.declared.part.Want.TheVariants.{Take};
 ghost use Rattle.kernel_core.specs.Wants.{rewritten_wanted, with_rewritten};
 
@@ -58,10 +58,10 @@ impl Attempt {
     pub(crate) fn rewrite(&mut self, o: ObjId, durable: &[u32], part: Part, machine: &Machine)
         requires few { o.0 < MAX_OBJECTS }
         requires inside { o.0 < length self.old.words }
-        requires size { length durable.now ≡ length (words_of self.old.words o.0) }
+        requires size { length durable.now ≡ length (object_words self.old.words o.0) }
         requires place { IsPlace machine.now part.at part.count }
         requires range { part.first + part.count ≤ length durable.now }
-        ensures { self.new ≡ with_rewritten self.old o.0 (rewritten_wanted (Take part) machine.now.memory (if is_among o.0 self.old.written then words_of self.old.words o.0 else durable.now)) }
+        ensures { self.new ≡ with_rewritten self.old o.0 (rewritten_wanted (Take part) machine.now.memory (if is_among o.0 self.old.written then object_words self.old.words o.0 else durable.now)) }
     {
         let own = self.written.has(o);
         self.written.add(o);

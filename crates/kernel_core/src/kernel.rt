@@ -5,7 +5,7 @@ ghost use Rattle.std.specs.List.{AllByRecursion};
 ghost use Rattle.object_sets.specs.ObjectSets.{is_among};
 ghost use Rattle.rv_core.specs.State.{MachineState};
 ghost use Rattle.rv_core.specs.Machine.{first_state};
-ghost use Rattle.kernel_model.specs.Effects.{words_of};
+ghost use Rattle.kernel_model.specs.Effects.{object_words};
 ghost use Rattle.kernel_model.specs.Events.{State};
 ghost use Rattle.kernel_model.specs.Alone.{IsUnmet};
 ghost use Rattle.kernel_model.specs.Report.{unprinted};
@@ -13,9 +13,9 @@ ghost use Rattle.set_model.specs.Sets.{object_at, program_at};
 ghost use Rattle.set_model.specs.Numbers.{index_words};
 ghost use Rattle.set_model.specs.Views.{entry_if, line_of, task_of};
 ghost use Rattle.headline.specs.Run.{first_state as opened_state};
-ghost use Rattle.kernel_core.specs.Stands.{Stands, Leads, durable_of};
-ghost use Rattle.kernel_core.specs.Kept.{IsKept, finishes};
-ghost use Rattle.kernel_core.specs.Arms.{Turns, attempt_left, entry_in, untold_in};
+ghost use Rattle.kernel_core.specs.Represents.{Represents, Simulates, durable_of};
+ghost use Rattle.kernel_core.specs.Invariant.{IsValid, finishes};
+ghost use Rattle.kernel_core.specs.Simulation.{SimulatesTurn, attempt_left, entry_in, untold_in};
 
 use crate::attempt::Attempt;
 use crate::part::{Part, Want};
@@ -66,8 +66,8 @@ impl Kernel {
     /// The kernel of a set of one core, in the state that a format leaves. All memory is taken here.
     pub fn open(alloc: Global, set: TaskSet) -> Result<Kernel, NoMemory>
         requires { set.cores ≡ 1 }
-        ensures kept { IfOk result IsKept }
-        ensures stands { IfOk result (λ k. Stands k (opened_state set)) }
+        ensures kept { IfOk result IsValid }
+        ensures stands { IfOk result (λ k. Represents k (opened_state set)) }
         ensures set { IfOk result (λ k. k.set ≡ set) }
         ensures fresh { IfOk result (λ k. finishes k ≡ 0) }
     {
@@ -86,10 +86,10 @@ impl Kernel {
 
     /// One step of core 0, and the line that it prints: no attempt is stale, or refused Empty or Slots. It takes no memory.
     pub fn turn(&mut self) -> Line
-        requires kept { IsKept self.old }
+        requires kept { IsValid self.old }
         requires few { finishes self.old < MAX_EVENTS }
-        ensures kept { IsKept self.new }
-        ensures leads { Leads self.old self.new result }
+        ensures kept { IsValid self.new }
+        ensures leads { Simulates self.old self.new result }
         ensures unmet { IsUnmet (line_of result) }
         ensures set { self.new.set ≡ self.old.set }
         ensures counted { finishes self.new ≤ finishes self.old + 1 }
@@ -102,17 +102,17 @@ impl Kernel {
                 want,
                 copied,
             } => self.copy(object, want, copied),
-            Phase::Ready(outcome) => self.judge(outcome),
+            Phase::Ready(outcome) => self.decide(outcome),
             Phase::Committing(entry, left) => self.commit(entry, left),
         }
     }
 
     /// An idle core takes the least open task, if there is one.
     fn start(&mut self) -> Line
-        requires kept { IsKept self.old }
+        requires kept { IsValid self.old }
         requires idle { self.old.phase ≡ Phase.Idle }
-        ensures kept { IsKept self.new }
-        ensures turns { Turns self.old self.new result }
+        ensures kept { IsValid self.new }
+        ensures turns { SimulatesTurn self.old self.new result }
         ensures unmet { IsUnmet (line_of result) }
         ensures set { self.new.set ≡ self.old.set }
         ensures state { self.new.state ≡ self.old.state }
@@ -151,10 +151,10 @@ impl Kernel {
 
     /// One step of the running machine, with the service that it calls.
     fn run(&mut self) -> Line
-        requires kept { IsKept self.old }
+        requires kept { IsValid self.old }
         requires running { self.old.phase ≡ Phase.Running }
-        ensures kept { IsKept self.new }
-        ensures turns { Turns self.old self.new result }
+        ensures kept { IsValid self.new }
+        ensures turns { SimulatesTurn self.old self.new result }
         ensures unmet { IsUnmet (line_of result) }
         ensures set { self.new.set ≡ self.old.set }
         ensures state { self.new.state ≡ self.old.state }
@@ -197,12 +197,12 @@ impl Kernel {
     }
 
     /// An attempt that meets no other is granted, unless records are not enough. Then its task starts again.
-    fn judge(&mut self, outcome: Outcome) -> Line
-        requires kept { IsKept self.old }
+    fn decide(&mut self, outcome: Outcome) -> Line
+        requires kept { IsValid self.old }
         requires few { finishes self.old < MAX_EVENTS }
         requires ready { self.old.phase ≡ Phase.Ready outcome }
-        ensures kept { IsKept self.new }
-        ensures turns { Turns self.old self.new result }
+        ensures kept { IsValid self.new }
+        ensures turns { SimulatesTurn self.old self.new result }
         ensures unmet { IsUnmet (line_of result) }
         ensures set { self.new.set ≡ self.old.set }
         ensures state { self.new.state ≡ self.old.state }
@@ -245,7 +245,7 @@ impl Kernel {
 
     /// The writes of a commit: the words of the written objects, the index, and the root.
     fn commit_writes(&self) -> u32
-        requires kept { IsKept self.now }
+        requires kept { IsValid self.now }
         ensures exact { result ≡ sum_by (λ o. (object_at self.now.set o).size) self.now.attempt.written + index_words self.now.set + 1 }
         ensures some { 0 < result }
     {
@@ -272,11 +272,11 @@ impl Kernel {
 
     /// One write of the commit, of which the last makes the finish durable, or its end, which tells it.
     fn commit(&mut self, entry: Entry, left: u32) -> Line
-        requires kept { IsKept self.old }
+        requires kept { IsValid self.old }
         requires few { finishes self.old < MAX_EVENTS }
         requires committing { self.old.phase ≡ Phase.Committing entry left }
-        ensures kept { IsKept self.new }
-        ensures turns { Turns self.old self.new result }
+        ensures kept { IsValid self.new }
+        ensures turns { SimulatesTurn self.old self.new result }
         ensures unmet { IsUnmet (line_of result) }
         ensures set { self.new.set ≡ self.old.set }
         ensures counted { finishes self.new ≤ finishes self.old + 1 }
@@ -286,19 +286,19 @@ impl Kernel {
             return Line::Finish(entry);
         }
         if left == 1 {
-            return self.flip(entry);
+            return self.make_durable(entry);
         }
         self.phase = Phase::Committing(entry, left - 1);
         Line::Nothing
     }
 
     /// The last write of the commit.
-    fn flip(&mut self, entry: Entry) -> Line
-        requires kept { IsKept self.old }
+    fn make_durable(&mut self, entry: Entry) -> Line
+        requires kept { IsValid self.old }
         requires few { finishes self.old < MAX_EVENTS }
         requires last { self.old.phase ≡ Phase.Committing entry 1 }
-        ensures kept { IsKept self.new }
-        ensures turns { Turns self.old self.new result }
+        ensures kept { IsValid self.new }
+        ensures turns { SimulatesTurn self.old self.new result }
         ensures unmet { IsUnmet (line_of result) }
         ensures set { self.new.set ≡ self.old.set }
         ensures counted { finishes self.new ≤ finishes self.old + 1 }
@@ -315,7 +315,7 @@ impl Kernel {
 
     /// The finish that is durable and that no line has told.
     pub fn close_line(&self) -> Option<Entry>
-        ensures { (s : State MachineState) → Stands self.now s → entry_if result ≡ unprinted s }
+        ensures { (s : State MachineState) → Represents self.now s → entry_if result ≡ unprinted s }
     {
         self.untold()
     }
@@ -360,9 +360,9 @@ impl Kernel {
 
     /// The durable words of an object.
     pub fn object(&self, o: ObjId) -> &[u32]
-        requires kept { IsKept self.now }
+        requires kept { IsValid self.now }
         requires inside { o.0 < length self.now.set.objects }
-        ensures exact { result.now ≡ words_of (durable_of self.now).objects o.0 }
+        ensures exact { result.now ≡ object_words (durable_of self.now).objects o.0 }
         ensures size { length result.now ≡ (object_at self.now.set o.0).size }
     {
         self.state.object(o)
@@ -370,7 +370,7 @@ impl Kernel {
 
     /// The open tasks that are durable, by id.
     pub fn open_tasks(&self) -> &[TaskRec]
-        requires { IsKept self.now }
+        requires { IsValid self.now }
         ensures exact { map task_of result.now ≡ (durable_of self.now).tasks }
         ensures programs { AllByRecursion (λ t. t.program.0 < length self.now.set.programs) result.now }
     {

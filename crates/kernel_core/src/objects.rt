@@ -2,7 +2,7 @@
 
 ghost use Rattle.std.specs.Prelude.{◌≡◌, ◌+◌, ◌<◌, ◌≤◌, ℕ, IfOk, List, Some, length, map, slice_set};
 ghost use Rattle.rv_core.specs.Machine.{words_at, IsPlace};
-ghost use Rattle.kernel_model.specs.Effects.{Write, put, words_of};
+ghost use Rattle.kernel_model.specs.Effects.{Write, put, object_words};
 ghost use Rattle.task_model.specs.TaskSteps.{with_part};
 ghost use Rattle.kernel_core.specs.Shapes.{AreWritten};
 
@@ -101,7 +101,7 @@ impl Objects {
     /// The words of an object.
     pub(crate) fn get(&self, o: ObjId) -> &[u32]
         requires { o.0 < length self.now }
-        ensures { result.now ≡ words_of self.now o.0 }
+        ensures { result.now ≡ object_words self.now o.0 }
     {
         self.items[usize::from(o.0)].as_slice()
     }
@@ -109,8 +109,8 @@ impl Objects {
     /// Takes an object's words from an address of a machine's memory.
     pub(crate) fn take_from(&mut self, o: ObjId, machine: &Machine, at: u32)
         requires inside { o.0 < length self.old }
-        requires place { IsPlace machine.now at (length (words_of self.old o.0)) }
-        ensures { self.new ≡ slice_set self.old o.0 (words_at machine.now.memory at (length (words_of self.old o.0))) }
+        requires place { IsPlace machine.now at (length (object_words self.old o.0)) }
+        ensures { self.new ≡ slice_set self.old o.0 (words_at machine.now.memory at (length (object_words self.old o.0))) }
     {
         self.items[usize::from(o.0)].take_from(machine, at);
     }
@@ -119,8 +119,8 @@ impl Objects {
     pub(crate) fn take_part(&mut self, o: ObjId, part: Part, machine: &Machine)
         requires inside { o.0 < length self.old }
         requires place { IsPlace machine.now part.at part.count }
-        requires range { part.first + part.count ≤ length (words_of self.old o.0) }
-        ensures { self.new ≡ slice_set self.old o.0 (with_part part.first (words_at machine.now.memory part.at part.count) (words_of self.old o.0)) }
+        requires range { part.first + part.count ≤ length (object_words self.old o.0) }
+        ensures { self.new ≡ slice_set self.old o.0 (with_part part.first (words_at machine.now.memory part.at part.count) (object_words self.old o.0)) }
     {
         self.items[usize::from(o.0)].take_part(part, machine);
     }
@@ -128,7 +128,7 @@ impl Objects {
     /// Takes over these words of an object, and then a part of them from a machine's memory.
     pub(crate) fn take_over(&mut self, o: ObjId, words: &[u32], part: Part, machine: &Machine)
         requires inside { o.0 < length self.old }
-        requires size { length words.now ≡ length (words_of self.old o.0) }
+        requires size { length words.now ≡ length (object_words self.old o.0) }
         requires place { IsPlace machine.now part.at part.count }
         requires range { part.first + part.count ≤ length words.now }
         ensures { self.new ≡ slice_set self.old o.0 (with_part part.first (words_at machine.now.memory part.at part.count) words.now) }
@@ -141,7 +141,7 @@ impl Objects {
     /// Takes over the words of an object.
     fn set(&mut self, o: ObjId, words: &[u32])
         requires inside { o.0 < length self.old }
-        requires size { length words.now ≡ length (words_of self.old o.0) }
+        requires size { length words.now ≡ length (object_words self.old o.0) }
         ensures { self.new ≡ slice_set self.old o.0 words.now }
     {
         self.items[usize::from(o.0)].set(words);
@@ -151,7 +151,7 @@ impl Objects {
     pub(crate) fn put(&mut self, written: ObjSet, words: &Objects)
         requires few { length self.old ≤ MAX_OBJECTS }
         requires same { length words.now ≡ length self.old }
-        requires sizes { (o : ℕ) → o < length self.old → length (words_of words.now o) ≡ length (words_of self.old o) }
+        requires sizes { (o : ℕ) → o < length self.old → length (object_words words.now o) ≡ length (object_words self.old o) }
         ensures { (ws : List Write) → AreWritten ws written words.now → self.new ≡ put ws self.old }
     {
         for o in 0..self.items.len() as u8 {

@@ -11,8 +11,8 @@ ghost use Rattle.set_model.specs.Sets.{object_at};
 ghost use Rattle.set_model.specs.Views.{line_of};
 ghost use Rattle.task_model.specs.TaskSteps.{part_refusal, refusal, served};
 ghost use Rattle.kernel_model.specs.Alone.{IsUnmet};
-ghost use Rattle.kernel_core.specs.Kept.{IsKept};
-ghost use Rattle.kernel_core.specs.Arms.{Serves, Turns};
+ghost use Rattle.kernel_core.specs.Invariant.{IsValid};
+ghost use Rattle.kernel_core.specs.Simulation.{SimulatesService, SimulatesTurn};
 ghost use Rattle.kernel_core.specs.Wants.{Awaits, received, seen_in};
 
 use crate::attempt::Attempt;
@@ -77,12 +77,12 @@ impl Kernel {
 
     /// The attempt's own last write, else its earlier copy, else the object's words come next.
     pub(crate) fn read_object(&mut self, object: u32, at: u32)
-        requires kept { IsKept self.old }
+        requires kept { IsValid self.old }
         requires running { self.old.phase ≡ Phase.Running }
         requires called { service_of self.old.machine ≡ Some (Read object at) }
         requires waits { self.old.machine.pc + 4 ≤ length self.old.machine.memory }
-        ensures kept { IsKept self.new }
-        ensures serves { Serves self.old (Read object at) self.new }
+        ensures kept { IsValid self.new }
+        ensures serves { SimulatesService self.old (Read object at) self.new }
         ensures set { self.new.set ≡ self.old.set }
         ensures state { self.new.state ≡ self.old.state }
     {
@@ -97,12 +97,12 @@ impl Kernel {
 
     /// The same, of a part of them.
     pub(crate) fn read_part(&mut self, object: u32, part: Part)
-        requires kept { IsKept self.old }
+        requires kept { IsValid self.old }
         requires running { self.old.phase ≡ Phase.Running }
         requires called { service_of self.old.machine ≡ Some (ReadPart object part.at part.first part.count) }
         requires waits { self.old.machine.pc + 4 ≤ length self.old.machine.memory }
-        ensures kept { IsKept self.new }
-        ensures serves { Serves self.old (ReadPart object part.at part.first part.count) self.new }
+        ensures kept { IsValid self.new }
+        ensures serves { SimulatesService self.old (ReadPart object part.at part.first part.count) self.new }
         ensures set { self.new.set ≡ self.old.set }
         ensures state { self.new.state ≡ self.old.state }
     {
@@ -115,12 +115,12 @@ impl Kernel {
 
     /// The words at the address become a part of the attempt's write. It begins with the same words as a read.
     pub(crate) fn write_part(&mut self, object: u32, part: Part)
-        requires kept { IsKept self.old }
+        requires kept { IsValid self.old }
         requires running { self.old.phase ≡ Phase.Running }
         requires called { service_of self.old.machine ≡ Some (WritePart object part.at part.first part.count) }
         requires waits { self.old.machine.pc + 4 ≤ length self.old.machine.memory }
-        ensures kept { IsKept self.new }
-        ensures serves { Serves self.old (WritePart object part.at part.first part.count) self.new }
+        ensures kept { IsValid self.new }
+        ensures serves { SimulatesService self.old (WritePart object part.at part.first part.count) self.new }
         ensures set { self.new.set ≡ self.old.set }
         ensures state { self.new.state ≡ self.old.state }
     {
@@ -134,13 +134,13 @@ impl Kernel {
     /// A service that wants an object's words has them at once where the attempt wrote or read the object. Else they
     /// come one by one.
     fn want(&mut self, o: ObjId, want: Want)
-        requires kept { IsKept self.old }
+        requires kept { IsValid self.old }
         requires running { self.old.phase ≡ Phase.Running }
         requires few { o.0 < MAX_OBJECTS }
         requires inside { o.0 < length self.old.set.objects }
         requires awaits { Awaits self.old.machine (object_at self.old.set o.0).size want }
-        ensures kept { IsKept self.new }
-        ensures serves { (service : Service) → served self.old.set (Calls self.old.machine service) ≡ Reads self.old.machine o.0 → Serves self.old service self.new }
+        ensures kept { IsValid self.new }
+        ensures serves { (service : Service) → served self.old.set (Calls self.old.machine service) ≡ Reads self.old.machine o.0 → SimulatesService self.old service self.new }
         ensures set { self.new.set ≡ self.old.set }
         ensures state { self.new.state ≡ self.old.state }
     {
@@ -160,7 +160,7 @@ impl Kernel {
 
     /// The service has the words that the attempt sees.
     fn receive(&mut self, o: ObjId, want: Want)
-        requires kept { IsKept self.old }
+        requires kept { IsValid self.old }
         requires few { o.0 < MAX_OBJECTS }
         requires inside { o.0 < length self.old.set.objects }
         requires awaits { Awaits self.old.machine (object_at self.old.set o.0).size want }
@@ -179,11 +179,11 @@ impl Kernel {
 
     /// The words at the address become the attempt's write.
     pub(crate) fn write_object(&mut self, object: u32, at: u32)
-        requires kept { IsKept self.old }
+        requires kept { IsValid self.old }
         requires running { self.old.phase ≡ Phase.Running }
         requires waits { self.old.machine.pc + 4 ≤ length self.old.machine.memory }
-        ensures kept { IsKept self.new }
-        ensures serves { Serves self.old (Write object at) self.new }
+        ensures kept { IsValid self.new }
+        ensures serves { SimulatesService self.old (Write object at) self.new }
         ensures set { self.new.set ≡ self.old.set }
         ensures state { self.new.state ≡ self.old.state }
     {
@@ -198,11 +198,11 @@ impl Kernel {
 
     /// Asks for a task, and gives its index among those of the attempt.
     pub(crate) fn spawn_task(&mut self, program: u32, arg: u32)
-        requires kept { IsKept self.old }
+        requires kept { IsValid self.old }
         requires running { self.old.phase ≡ Phase.Running }
         requires waits { self.old.machine.pc + 4 ≤ length self.old.machine.memory }
-        ensures kept { IsKept self.new }
-        ensures serves { Serves self.old (AsksFor program arg) self.new }
+        ensures kept { IsValid self.new }
+        ensures serves { SimulatesService self.old (AsksFor program arg) self.new }
         ensures set { self.new.set ≡ self.old.set }
         ensures state { self.new.state ≡ self.old.state }
     {
@@ -223,10 +223,10 @@ impl Kernel {
     /// One word of a copy. With the last one the service has all: no finish has joined since it began, so the words are
     /// those of the newest version.
     pub(crate) fn copy(&mut self, object: ObjId, want: Want, copied: u8) -> Line
-        requires kept { IsKept self.old }
+        requires kept { IsValid self.old }
         requires copying { self.old.phase ≡ Phase.Copying object want copied }
-        ensures kept { IsKept self.new }
-        ensures turns { Turns self.old self.new result }
+        ensures kept { IsValid self.new }
+        ensures turns { SimulatesTurn self.old self.new result }
         ensures unmet { IsUnmet (line_of result) }
         ensures set { self.new.set ≡ self.old.set }
         ensures state { self.new.state ≡ self.old.state }

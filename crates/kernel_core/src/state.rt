@@ -1,7 +1,7 @@
 //! The durable state of a kernel: objects, open tasks, clock, number and next id.
 
 ghost use Rattle.std.specs.Prelude.{◌≡◌, ◌+◌, ◌^◌, ◌<◌, ◌≤◌, ℕ, IfOk, List, MatchOption, [], ◌∷◌, length, map};
-ghost use Rattle.kernel_model.specs.Effects.{Write, words_of};
+ghost use Rattle.kernel_model.specs.Effects.{Write, object_words};
 ghost use Rattle.kernel_model.specs.OpenTasks.{others_than};
 ghost use Rattle.set_model.specs.Formatted.{formatted};
 ghost use Rattle.set_model.specs.Views.{spawn_of, task_of};
@@ -27,9 +27,9 @@ pub(crate) struct Durable {
 }
 
 impl Model for Durable {
-    ghost use Rattle.kernel_model.specs.Replay.{Base};
+    ghost use Rattle.kernel_model.specs.Replay.{DeviceState};
 
-    ghost Value = { Base };
+    ghost Value = { DeviceState };
 
     ghost view = { λ d. record { objects = d.objects; tasks = d.tasks; clock = d.clock; number = d.number; next = d.next } };
 }
@@ -76,7 +76,7 @@ impl Durable {
     /// The words of an object.
     pub(crate) fn object(&self, o: ObjId) -> &[u32]
         requires { o.0 < length self.now.objects }
-        ensures { result.now ≡ words_of self.now.objects o.0 }
+        ensures { result.now ≡ object_words self.now.objects o.0 }
     {
         self.objects.get(o)
     }
@@ -112,7 +112,7 @@ impl Durable {
     )
         requires few { length self.old.objects ≤ MAX_OBJECTS }
         requires same { length words.now ≡ length self.old.objects }
-        requires sizes { (o : ℕ) → o < length self.old.objects → length (words_of words.now o) ≡ length (words_of self.old.objects o) }
+        requires sizes { (o : ℕ) → o < length self.old.objects → length (object_words words.now o) ≡ length (object_words self.old.objects o) }
         requires room { length (others_than entry.task.0 self.old.tasks) + length spawns.now ≤ MAX_RECORDS }
         requires number { self.old.number + 1 < 2 ^ 32 }
         requires ids { self.old.next + length spawns.now < 2 ^ 32 }

@@ -1,7 +1,7 @@
 //! Runs of small sets, with their lines worked out by hand.
 
 ghost use Rattle.std.specs.Prelude.{◌≡◌, ◌+◌, ◌≤◌, IfOk, IfSome};
-ghost use Rattle.kernel_core.specs.Kept.{IsKept, finishes};
+ghost use Rattle.kernel_core.specs.Invariant.{IsValid, finishes};
 
 use super::*;
 use nv_base::{
@@ -87,7 +87,7 @@ fn parts(
 
 // The kernel of these parts: None where they make no set of one core.
 fn kernel_of(rt: &HostRuntime, parts: SetParts) -> Result<Option<Kernel>, NoMemory>
-    ensures { IfOk result (λ o. IfSome o (λ k. IsKept k × (finishes k ≡ 0))) }
+    ensures { IfOk result (λ o. IfSome o (λ k. IsValid k × (finishes k ≡ 0))) }
 {
     let Ok(set) = TaskSet::build(rt.alloc(), parts) else {
         return Ok(None);
@@ -100,9 +100,9 @@ fn kernel_of(rt: &HostRuntime, parts: SetParts) -> Result<Option<Kernel>, NoMemo
 
 // The lines of so many turns, but for those that tell nothing.
 fn lines(rt: &HostRuntime, kernel: &mut Kernel, turns: u32) -> Result<Vec<Line>, NoMemory>
-    requires kept { IsKept kernel.old }
+    requires kept { IsValid kernel.old }
     requires few { finishes kernel.old + turns ≤ 1000000 }
-    ensures kept { IsKept kernel.new }
+    ensures kept { IsValid kernel.new }
     ensures counted { finishes kernel.new ≤ finishes kernel.old + turns }
 {
     let mut lines = Vec::new(rt.alloc());
@@ -155,7 +155,7 @@ fn finish(number: u32, task: u32, point: u32, first: u32, outcome: Outcome) -> L
 
 // Whether what is durable is what the row says.
 fn ends_so(kernel: &Kernel, row: &Row) -> bool
-    requires { IsKept kernel.now }
+    requires { IsValid kernel.now }
 {
     0 < kernel.set().objects()
         && kernel.object(ObjId(0)) == [row.word].as_slice()
@@ -167,7 +167,7 @@ fn ends_so(kernel: &Kernel, row: &Row) -> bool
 
 // Whether the open tasks have these ids.
 fn has_open(kernel: &Kernel, ids: &[TaskId]) -> bool
-    requires { IsKept kernel.now }
+    requires { IsValid kernel.now }
 {
     let tasks = kernel.open_tasks();
     tasks.len() == ids.len() && tasks.iter().zip(ids.iter()).all(|(t, id)| t.id == *id)

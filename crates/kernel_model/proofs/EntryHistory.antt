@@ -6,8 +6,8 @@ use Rattle.std.proofs.lemmas.Bool.{eq-eqb, ne_eqb, eqb-true}
 use Rattle.std.proofs.lemmas.List.{append-nil}
 use Rattle.std.specs.List.Sorted.{IsPermutation}
 use Rattle.kernel_model.specs.Effects.{Programs}
-use Rattle.kernel_model.specs.Items.{Entry, Item, entry_of, listing, precedes, serial_order}
-use Rattle.kernel_model.specs.Replay.{Base, Replays, after_all, tables_of}
+use Rattle.kernel_model.specs.Items.{Entry, FinishRecord, entry_of, listing, precedes, serial_order}
+use Rattle.kernel_model.specs.Replay.{DeviceState, Replays, after_all, tables_of}
 use Rattle.kernel_model.specs.Serial.{Serial}
 use Rattle.kernel_model.specs.EntryReplay.{AreSerial, ChildrenFollow, Good, NumbersFollow, Place, Rerun, Wrong, entry_order, item_with, latest, places_from, replay, spawns_at}
 use Rattle.kernel_model.proofs.EntryOrder.{AreApart, apart_first, apart_permutation, apart_rest, order-permutation, permuted-all, places_apart}
@@ -17,12 +17,12 @@ use Rattle.kernel_model.proofs.EntryItems.{of_replay}
 use Rattle.kernel_model.proofs.EntryReplays.{latest-clock, next_id-reruns, numbered_by, replayed_history, serial_are}
 
 -- the finish at a place
-item_or : Entry → ℕ → List Rerun → Item
+item_or : Entry → ℕ → List Rerun → FinishRecord
 item_or e k [] = item_with e (record { outcome = e.outcome; reads = []; writes = []; spawns = [] })
 item_or e k (r ∷ rs) = cond (eqb r.place k) r.item (item_or e k rs)
 
 -- each finish of a history is that at its place
-AreAt : List Rerun → List Item → Type 0
+AreAt : List Rerun → List FinishRecord → Type 0
 AreAt rs [] = Unit {0}
 AreAt rs (i ∷ history) = (i ≡ item_or (entry_of i) (length history) rs) × AreAt rs history
 
@@ -60,11 +60,11 @@ entry_or e k (r ∷ rs) h = go (entry_or e k rs h.1) (eqb r.place k) refl
     go rest false f = rest
 
 -- the history of some entries, newest first, before older finishes
-history_with : List Rerun → List Item → List Entry → List Item
+history_with : List Rerun → List FinishRecord → List Entry → List FinishRecord
 history_with rs history [] = history
 history_with rs history (e ∷ entries) = history_with rs (item_or e (length history) rs ∷ history) entries
 
-listing-with : (rs : List Rerun) (history : List Item) (n : ℕ) (entries : List Entry) → n ≡ length history → Fit (map place_of rs) n entries → listing (history_with rs history entries) ≡ listing history ++ entries
+listing-with : (rs : List Rerun) (history : List FinishRecord) (n : ℕ) (entries : List Entry) → n ≡ length history → Fit (map place_of rs) n entries → listing (history_with rs history entries) ≡ listing history ++ entries
 unfolding history_with
 listing-with rs history n [] z h = sym (append-nil (listing history))
 listing-with rs history n (e ∷ entries) z h =
@@ -72,21 +72,21 @@ listing-with rs history n (e ∷ entries) z h =
     ∙ append_assoc (listing history) (entry_of i ∷ []) entries
     ∙ ap (λ (x : Entry). listing history ++ x ∷ entries) (ap (λ (k : ℕ). entry_of (item_or e k rs)) (sym z) ∙ entry_or e n rs h.0)
   where
-    i : Item
+    i : FinishRecord
     i = item_or e (length history) rs
 
-at-with : (rs : List Rerun) (history : List Item) (n : ℕ) (entries : List Entry) → n ≡ length history → Fit (map place_of rs) n entries → AreAt rs history → AreAt rs (history_with rs history entries)
+at-with : (rs : List Rerun) (history : List FinishRecord) (n : ℕ) (entries : List Entry) → n ≡ length history → Fit (map place_of rs) n entries → AreAt rs history → AreAt rs (history_with rs history entries)
 unfolding history_with AreAt
 at-with rs history n [] z h a = a
 at-with rs history n (e ∷ entries) z h a = at-with rs (i ∷ history) (n + 1) entries (omega (arith, z)) h.1 (ap (λ (x : Entry). item_or x (length history) rs) (sym same), a)
   where
-    i : Item
+    i : FinishRecord
     i = item_or e (length history) rs
 
     same : entry_of i ≡ e
     same = ap (λ (k : ℕ). entry_of (item_or e k rs)) (sym z) ∙ entry_or e n rs h.0
 
-at-reruns : (rs : List Rerun) (history : List Item) → AreAt rs history → AllByRecursion (IsOwn rs) (reruns_of history)
+at-reruns : (rs : List Rerun) (history : List FinishRecord) → AreAt rs history → AllByRecursion (IsOwn rs) (reruns_of history)
 unfolding AreAt reruns_of
 at-reruns rs [] h = tt
 at-reruns rs (i ∷ history) h = put_rerun-all (IsOwn rs) (record { place = length history; item = i }) (reruns_of history) h.0 (at-reruns rs history h.1)
@@ -110,11 +110,11 @@ same_reruns rs (x ∷ xs) (y ∷ ys) e h k =
     let first : place_of x ≡ place_of y = cc e in
     let rest : map place_of xs ≡ map place_of ys = cc e in
     let item : x.item ≡ y.item = h.0 ∙ ap (λ (p : Place). item_or p.entry p.place rs) first ∙ sym k.0 in
-    let same : x ≡ y = ap₂ (λ (n : ℕ) (i : Item). let r : Rerun = record { place = n; item = i } in r) (ap (λ (p : Place). p.place) first) item in
+    let same : x ≡ y = ap₂ (λ (n : ℕ) (i : FinishRecord). let r : Rerun = record { place = n; item = i } in r) (ap (λ (p : Place). p.place) first) item in
     ap₂ (λ (z : Rerun) (zs : List Rerun). z ∷ zs) same (same_reruns rs xs ys rest h.1 k.1)
 
 -- the history of a good replay
-module _ (whole : Programs) (base : Base) (entries : List Entry) (f : Base) (a : AreSerial whole base entries f) where
+module _ (whole : Programs) (base : DeviceState) (entries : List Entry) (f : DeviceState) (a : AreSerial whole base entries f) where
   found : (map place_of a.reruns ≡ entry_order entries) × Replays whole (tables_of base) (map (λ r. r.item) a.reruns)
   found = of_replay whole (tables_of base) (entry_order entries) a.reruns a.good
 
@@ -124,7 +124,7 @@ module _ (whole : Programs) (base : Base) (entries : List Entry) (f : Base) (a :
   fit : Fit (map place_of a.reruns) 0 entries
   fit = subst (λ (ps : List Place). Fit ps 0 entries) (sym found.0) (fit_permutation (places_from 0 entries) (entry_order entries) 0 entries (order-permutation (places_from 0 entries)) (fit_places 0 entries))
 
-  history : List Item
+  history : List FinishRecord
   history = history_with a.reruns [] entries
 
   lists : listing history ≡ entries
@@ -144,8 +144,8 @@ module _ (whole : Programs) (base : Base) (entries : List Entry) (f : Base) (a :
     entries_are = lists;
     replays = subst (Replays whole (tables_of base)) items found.1;
     numbered = numbered_by a.reruns base history (λ k l. ap (spawns_at k) (sym same)) (subst (NumbersFollow base.number) (sym lists) a.numbers) (subst (ChildrenFollow a.reruns 0 base.next) (sym lists) a.children);
-    objects = a.leaves.objects ∙ ap (λ (is : List Item). (after_all is (tables_of base)).objects) items;
-    tasks = λ id. a.leaves.tasks id ∙ ap (λ (is : List Item). (after_all is (tables_of base)).tasks id) items;
+    objects = a.leaves.objects ∙ ap (λ (is : List FinishRecord). (after_all is (tables_of base)).objects) items;
+    tasks = λ id. a.leaves.tasks id ∙ ap (λ (is : List FinishRecord). (after_all is (tables_of base)).tasks id) items;
     by_id = a.leaves.by_id;
     clock = a.leaves.clock ∙ ap (latest base.clock) (sym lists) ∙ latest-clock base history;
     number = omega (arith, a.leaves.number, ap length lists, length-listing history);
@@ -171,7 +171,7 @@ item-other e k r (x ∷ xs) ne = go (item-other e k r xs ne) (precedes r.item x.
     go rest true = rw (ne_eqb r.place k ne) refl
     go rest false = rw rest refl
 
-at_own : (rs : List Rerun) (history : List Item) → ((e : Entry) (k : ℕ) → k < length history → item_or e k rs ≡ item_or e k (reruns_of history)) → AreAt rs history
+at_own : (rs : List Rerun) (history : List FinishRecord) → ((e : Entry) (k : ℕ) → k < length history → item_or e k rs ≡ item_or e k (reruns_of history)) → AreAt rs history
 unfolding AreAt reruns_of
 at_own rs [] h = tt
 at_own rs (i ∷ history) h = (
@@ -179,7 +179,7 @@ at_own rs (i ∷ history) h = (
   at_own rs history (λ e k l. h e k (omega (arith, l)) ∙ item-other e k (record { place = length history; item = i }) (reruns_of history) (λ f. omega (arith, f, l))),
 )
 
-same_at : (rs : List Rerun) (g h : List Item) → AreAt rs g → AreAt rs h → map entry_of g ≡ map entry_of h → g ≡ h
+same_at : (rs : List Rerun) (g h : List FinishRecord) → AreAt rs g → AreAt rs h → map entry_of g ≡ map entry_of h → g ≡ h
 unfolding AreAt
 same_at rs [] [] a b e = refl
 same_at rs [] (j ∷ h) a b e = absurd (cc e)
@@ -187,9 +187,9 @@ same_at rs (i ∷ g) [] a b e = absurd (cc e)
 same_at rs (i ∷ g) (j ∷ h) a b e =
     let first : entry_of i ≡ entry_of j = cc e in
     let rest : g ≡ h = same_at rs g h a.1 b.1 (cc e) in
-    ap₂ (λ (x : Item) (xs : List Item). x ∷ xs) (a.0 ∙ ap₂ (λ (x : Entry) (n : ℕ). item_or x n rs) first (ap length rest) ∙ sym b.0) rest
+    ap₂ (λ (x : FinishRecord) (xs : List FinishRecord). x ∷ xs) (a.0 ∙ ap₂ (λ (x : Entry) (n : ℕ). item_or x n rs) first (ap length rest) ∙ sym b.0) rest
 
-pub one_history : (whole : Programs) (base : Base) (entries : List Entry) (f g : Base) (s : Serial whole base entries f) (t : Serial whole base entries g) → s.history ≡ t.history
+pub one_history : (whole : Programs) (base : DeviceState) (entries : List Entry) (f g : DeviceState) (s : Serial whole base entries f) (t : Serial whole base entries g) → s.history ≡ t.history
 one_history whole base entries f g s t =
     same_at (reruns_of s.history) s.history t.history (at_own (reruns_of s.history) s.history (λ e k l. refl)) (at_own (reruns_of s.history) t.history (λ e k l. ap (item_or e k) same)) (same_entries s.history t.history (s.entries_are ∙ sym t.entries_are))
   where
@@ -199,5 +199,5 @@ one_history whole base entries f g s t =
         sym (replayed_history whole base s.history s.replays) ∙ ap (replay whole base) (s.entries_are ∙ sym t.entries_are) ∙ replayed_history whole base t.history t.replays
         in cc e
 
-pub none_serial : (whole : Programs) (base : Base) (entries : List Entry) (place : ℕ) (f : Base) → replay whole base entries ≡ Wrong place → Serial whole base entries f → ⊥
+pub none_serial : (whole : Programs) (base : DeviceState) (entries : List Entry) (place : ℕ) (f : DeviceState) → replay whole base entries ≡ Wrong place → Serial whole base entries f → ⊥
 none_serial whole base entries place f h s = let k : Wrong place ≡ Good (serial_are whole base entries f s).reruns = sym h ∙ (serial_are whole base entries f s).good in cc k

@@ -4,7 +4,7 @@ use Rattle.std.specs.Prelude.{map}
 use Rattle.std.specs.List.{AllByRecursion}
 use Rattle.std.proofs.lemmas.Bool.{eq-eqb, ne_eqb, eqb-true}
 use Rattle.kernel_model.specs.Effects.{Exit, Outcome, Programs, Run, Spawn, Trap}
-use Rattle.kernel_model.specs.Items.{Entry, Item, entry_of}
+use Rattle.kernel_model.specs.Items.{Entry, FinishRecord, entry_of}
 use Rattle.kernel_model.specs.Replay.{IsRunOn, Replays, Tables, after}
 use Rattle.kernel_model.specs.EntryReplay.{Good, Place, Replayed, Rerun, Wrong, entry_order, is_same_outcome, item_if_open, item_if_same, item_on, item_with, places_from, replayed_on, rerun_before, spawns_at}
 use Rattle.kernel_model.proofs.EntryOrder.{AreApart, apart_first, apart_permutation, apart_rest, order-permutation, permuted-all, places_apart}
@@ -26,24 +26,24 @@ same_outcomes (Trap a) (Trap b) h = ap Trap (eqb-true a b h)
 entry_with : (e : Entry) (run : Run) → run.outcome ≡ e.outcome → entry_of (item_with e run) ≡ e
 entry_with e run h = ap (λ (o : Outcome). let x : Entry = record { number = e.number; task = e.task; point = e.point; first = e.first; outcome = o } in x) h
 
-item_on-run : (whole : Programs) (t : Tables) (i : Item) (task : Spawn) → t.tasks i.task ≡ Some task → whole task.program task.arg t.objects ≡ i.run → item_on whole t (entry_of i) ≡ Some i
+item_on-run : (whole : Programs) (t : Tables) (i : FinishRecord) (task : Spawn) → t.tasks i.task ≡ Some task → whole task.program task.arg t.objects ≡ i.run → item_on whole t (entry_of i) ≡ Some i
 item_on-run whole t i task f g = rw (f, g, same_itself i.run.outcome) refl
 
 -- a finish that was found
-record IsFound (whole : Programs) (t : Tables) (e : Entry) (i : Item) : Type 0 where
+record IsFound (whole : Programs) (t : Tables) (e : Entry) (i : FinishRecord) : Type 0 where
   task : Spawn
   is_open : t.tasks i.task ≡ Some task
   run : whole task.program task.arg t.objects ≡ i.run
   entry : entry_of i ≡ e
 
-if_same_gives : (e : Entry) (run : Run) (i : Item) → item_if_same e run ≡ Some i → (item_with e run ≡ i) × (run.outcome ≡ e.outcome)
+if_same_gives : (e : Entry) (run : Run) (i : FinishRecord) → item_if_same e run ≡ Some i → (item_with e run ≡ i) × (run.outcome ≡ e.outcome)
 if_same_gives e run i h = go (is_same_outcome run.outcome e.outcome) refl h
   where
     go : (b : Bool) → is_same_outcome run.outcome e.outcome ≡ b → cond b (Some (item_with e run)) None ≡ Some i → (item_with e run ≡ i) × (run.outcome ≡ e.outcome)
     go true f h = (cc h, same_outcomes run.outcome e.outcome f)
     go false f h = absurd (cc h)
 
-item_on-found : (whole : Programs) (t : Tables) (e : Entry) (i : Item) → item_on whole t e ≡ Some i → IsFound whole t e i
+item_on-found : (whole : Programs) (t : Tables) (e : Entry) (i : FinishRecord) → item_on whole t e ≡ Some i → IsFound whole t e i
 item_on-found whole t e i h = go (t.tasks e.task) refl h
   where
     go : (o : Option Spawn) → t.tasks e.task ≡ o → item_if_open whole t.objects e o ≡ Some i → IsFound whole t e i
@@ -52,7 +52,7 @@ item_on-found whole t e i h = go (t.tasks e.task) refl h
         let k = if_same_gives e (whole task.program task.arg t.objects) i h in
         subst (IsFound whole t e) k.0 (record { task = task; is_open = f; run = refl; entry = entry_with e (whole task.program task.arg t.objects) k.1 })
 
-pub item_entry : (whole : Programs) (t : Tables) (e : Entry) → ((i : Item) → item_on whole t e ≡ Some i → IsRunOn whole i t × (entry_of i ≡ e)) × (item_on whole t e ≡ None → (i : Item) → IsRunOn whole i t → entry_of i ≡ e → ⊥)
+pub item_entry : (whole : Programs) (t : Tables) (e : Entry) → ((i : FinishRecord) → item_on whole t e ≡ Some i → IsRunOn whole i t × (entry_of i ≡ e)) × (item_on whole t e ≡ None → (i : FinishRecord) → IsRunOn whole i t → entry_of i ≡ e → ⊥)
 item_entry whole t e = ((λ i h. let f = item_on-found whole t e i h in ((f.task, f.is_open, f.run), f.entry)), λ h i r same. let k : item_on whole t e ≡ Some i = subst (λ (x : Entry). item_on whole t x ≡ Some i) same (item_on-run whole t i r.0 r.1 r.2) in let l : None ≡ Some i = sym h ∙ k in cc l)
 
 -- a replay of finishes is good
@@ -70,7 +70,7 @@ of_replay whole t (p ∷ ps) rs h = go (item_on whole t p.entry) refl (λ i. of_
     IsOf : List Rerun → Type 0
     IsOf xs = (map place_of xs ≡ p ∷ ps) × Replays whole t (map (λ r. r.item) xs)
 
-    on : (i : Item) → IsFound whole t p.entry i → (d : Replayed) → ((xs : List Rerun) → d ≡ Good xs → (map place_of xs ≡ ps) × Replays whole (after i t) (map (λ r. r.item) xs)) →
+    on : (i : FinishRecord) → IsFound whole t p.entry i → (d : Replayed) → ((xs : List Rerun) → d ≡ Good xs → (map place_of xs ≡ ps) × Replays whole (after i t) (map (λ r. r.item) xs)) →
         rerun_before (record { place = p.place; item = i }) d ≡ Good rs → IsOf rs
     on i f (Wrong place) rest g = absurd (cc g)
     on i f (Good xs) rest g =
@@ -78,7 +78,7 @@ of_replay whole t (p ∷ ps) rs h = go (item_on whole t p.entry) refl (λ i. of_
         let e : (let r : Rerun = record { place = p.place; item = i } in r) ∷ xs ≡ rs = cc g in
         subst IsOf e (ap₂ (λ (x : Entry) (zs : List Place). (let z : Place = record { place = p.place; entry = x } in z) ∷ zs) f.entry k.0, ((f.task, f.is_open, f.run), k.1))
 
-    go : (o : Option Item) → item_on whole t p.entry ≡ o → ((i : Item) (xs : List Rerun) → replayed_on whole (after i t) ps ≡ Good xs → (map place_of xs ≡ ps) × Replays whole (after i t) (map (λ r. r.item) xs)) → IsOf rs
+    go : (o : Option FinishRecord) → item_on whole t p.entry ≡ o → ((i : FinishRecord) (xs : List Rerun) → replayed_on whole (after i t) ps ≡ Good xs → (map place_of xs ≡ ps) × Replays whole (after i t) (map (λ r. r.item) xs)) → IsOf rs
     go None e rest = absurd (let k = sym (stepped whole t p ps None e) ∙ h in cc k)
     go (Some i) e rest = on i (item_on-found whole t p.entry i e) (replayed_on whole (after i t) ps) (rest i) (sym (stepped whole t p ps (Some i) e) ∙ h)
 
@@ -115,7 +115,7 @@ spawns-last (x ∷ rs) r k h = go (spawns-last rs r k h.1) (eqb x.place k) refl
 
 pub next_place : (whole : Programs) (t : Tables) (entries : List Entry) (done rest : List Place) (p : Place) (reruns : List Rerun) → entry_order entries ≡ done ++ p ∷ rest → replayed_on whole t done ≡ Good reruns →
     (slice_get entries p.place ≡ Some p.entry) × (spawns_at p.place reruns ≡ 0)
-    × ((i : Item) (k : ℕ) → spawns_at k (reruns ++ (let r : Rerun = record { place = p.place; item = i } in r) ∷ []) ≡ cond (eqb p.place k) (length i.run.spawns) (spawns_at k reruns))
+    × ((i : FinishRecord) (k : ℕ) → spawns_at k (reruns ++ (let r : Rerun = record { place = p.place; item = i } in r) ∷ []) ≡ cond (eqb p.place k) (length i.run.spawns) (spawns_at k reruns))
 next_place whole t entries done rest p reruns e h = (let z : p.place - 0 ≡ p.place = omega arith in rw z at at_place.1, spawns-absent p.place reruns absent, λ i k. spawns-last reruns (record { place = p.place; item = i }) k absent)
   where
     at_place : (0 ≤ p.place) × (slice_get entries (p.place - 0) ≡ Some p.entry)

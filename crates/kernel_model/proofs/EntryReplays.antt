@@ -4,8 +4,8 @@ use Rattle.std.specs.List.{AllByRecursion}
 use Rattle.std.proofs.lemmas.Bool.{eq-eqb, ne_eqb}
 use Rattle.std.proofs.lemmas.List.Sums.{sum_by-cons}
 use Rattle.kernel_model.specs.Effects.{Programs}
-use Rattle.kernel_model.specs.Items.{Entry, Item, entry_of, listing, precedes, serial_order}
-use Rattle.kernel_model.specs.Replay.{AreNumbered, Base, Replays, Tables, after_all, clock_of, next_id, tables_of}
+use Rattle.kernel_model.specs.Items.{Entry, FinishRecord, entry_of, listing, precedes, serial_order}
+use Rattle.kernel_model.specs.Replay.{AreNumbered, DeviceState, Replays, Tables, after_all, clock_of, next_id, tables_of}
 use Rattle.kernel_model.specs.Serial.{Serial}
 use Rattle.kernel_model.specs.EntryReplay.{AreSerial, ChildrenFollow, Good, NumbersFollow, Rerun, after_reruns, latest, replay, replayed_on, spawns_at}
 use Rattle.kernel_model.proofs.Reruns.{length-listing, items-reruns, places-reruns, put_rerun, reruns_below, reruns_of, spawns_of}
@@ -31,14 +31,14 @@ count-other k r (x ∷ xs) ne = go (count-other k r xs ne) (precedes r.item x.it
     go rest false = rw rest refl
 
 -- these reruns spawn as many tasks as the history does, at its places
-abbrev Agree : List Rerun → List Item → Type 0
+abbrev Agree : List Rerun → List FinishRecord → Type 0
 Agree rs history = (k : ℕ) → k < length history → spawns_at k rs ≡ spawns_at k (reruns_of history)
 
-agree_last : (rs : List Rerun) (i : Item) (history : List Item) → Agree rs (i ∷ history) → spawns_at (length history) rs ≡ length i.run.spawns
+agree_last : (rs : List Rerun) (i : FinishRecord) (history : List FinishRecord) → Agree rs (i ∷ history) → spawns_at (length history) rs ≡ length i.run.spawns
 unfolding reruns_of
 agree_last rs i history h = h (length history) (omega arith) ∙ count-same (record { place = length history; item = i }) (reruns_of history) (reruns_below history)
 
-agree_older : (rs : List Rerun) (i : Item) (history : List Item) → Agree rs (i ∷ history) → Agree rs history
+agree_older : (rs : List Rerun) (i : FinishRecord) (history : List FinishRecord) → Agree rs (i ∷ history) → Agree rs history
 unfolding reruns_of
 agree_older rs i history h k l = h k (omega (arith, l)) ∙ count-other k (record { place = length history; item = i }) (reruns_of history) (λ e. omega (arith, e, l))
 
@@ -52,7 +52,7 @@ unfolding ends
 ends-append rs place next [] e = let z : place + 0 ≡ place = omega arith in rw z refl
 ends-append rs place next (x ∷ xs) e = let z : place + 1 + length xs ≡ place + length (x ∷ xs) = omega arith in ends-append rs (place + 1) (next + spawns_at place rs) xs e ∙ ap (λ n. ends rs (place + 1) (next + spawns_at place rs) xs + spawns_at n rs) z
 
-ends-next_id : (rs : List Rerun) (base : Base) (history : List Item) → Agree rs history → ends rs 0 base.next (listing history) ≡ next_id base history
+ends-next_id : (rs : List Rerun) (base : DeviceState) (history : List FinishRecord) → Agree rs history → ends rs 0 base.next (listing history) ≡ next_id base history
 unfolding ends
 ends-next_id rs base [] h = refl
 ends-next_id rs base (i ∷ history) h =
@@ -80,7 +80,7 @@ append-children rs place next [] e h = (tt, h.0)
 append-children rs place next (x ∷ xs) e h = let k = append-children rs (place + 1) (next + spawns_at place rs) xs e h.1 in ((h.0, k.0), k.1)
 
 -- a numbered history gives numbered entries, and back
-follows : (rs : List Rerun) (base : Base) (history : List Item) → Agree rs history → AreNumbered base history → NumbersFollow base.number (listing history) × ChildrenFollow rs 0 base.next (listing history)
+follows : (rs : List Rerun) (base : DeviceState) (history : List FinishRecord) → Agree rs history → AreNumbered base history → NumbersFollow base.number (listing history) × ChildrenFollow rs 0 base.next (listing history)
 follows rs base [] h n = (tt, tt)
 follows rs base (i ∷ history) h n =
     let rest = follows rs base history (agree_older rs i history h) n.2 in (
@@ -88,7 +88,7 @@ follows rs base (i ∷ history) h n =
       children-append rs 0 base.next (listing history) (entry_of i) rest.1 (n.1 ∙ sym (ends-next_id rs base history (agree_older rs i history h))),
     )
 
-pub numbered_by : (rs : List Rerun) (base : Base) (history : List Item) → Agree rs history → NumbersFollow base.number (listing history) → ChildrenFollow rs 0 base.next (listing history) → AreNumbered base history
+pub numbered_by : (rs : List Rerun) (base : DeviceState) (history : List FinishRecord) → Agree rs history → NumbersFollow base.number (listing history) → ChildrenFollow rs 0 base.next (listing history) → AreNumbered base history
 numbered_by rs base [] h n c = tt
 numbered_by rs base (i ∷ history) h n c =
     let k = append-numbers base.number (listing history) (entry_of i) n in
@@ -105,7 +105,7 @@ spawns-put r (x ∷ xs) = go (spawns-put r xs) (precedes r.item x.item)
     go rest true = sum_by-cons spawns_of r (x ∷ xs)
     go rest false = omega (arith, rest, sum_by-cons spawns_of x (put_rerun r xs), sum_by-cons spawns_of x xs)
 
-pub next_id-reruns : (base : Base) (history : List Item) → next_id base history ≡ base.next + sum_by spawns_of (reruns_of history)
+pub next_id-reruns : (base : DeviceState) (history : List FinishRecord) → next_id base history ≡ base.next + sum_by spawns_of (reruns_of history)
 unfolding reruns_of
 next_id-reruns base [] = omega arith
 next_id-reruns base (i ∷ history) = omega (arith, next_id-reruns base history, spawns-put (record { place = length history; item = i }) (reruns_of history))
@@ -114,19 +114,19 @@ latest-append : (clock : ℕ) (xs : List Entry) (e : Entry) → latest clock (xs
 latest-append clock [] e = refl
 latest-append clock (x ∷ xs) e = omega (arith, latest-append clock xs e)
 
-pub latest-clock : (base : Base) (history : List Item) → latest base.clock (listing history) ≡ clock_of base history
+pub latest-clock : (base : DeviceState) (history : List FinishRecord) → latest base.clock (listing history) ≡ clock_of base history
 latest-clock base [] = refl
 latest-clock base (i ∷ history) = latest-append base.clock (listing history) (entry_of i) ∙ ap (max i.point) (latest-clock base history)
 
 -- the replay of a serial listing
-pub replayed_history : (whole : Programs) (base : Base) (history : List Item) → Replays whole (tables_of base) (serial_order history) → replay whole base (listing history) ≡ Good (reruns_of history)
+pub replayed_history : (whole : Programs) (base : DeviceState) (history : List FinishRecord) → Replays whole (tables_of base) (serial_order history) → replay whole base (listing history) ≡ Good (reruns_of history)
 replayed_history whole base history h =
     ap (replayed_on whole (tables_of base)) (sym (places-reruns history)) ∙ replay_of whole (tables_of base) (reruns_of history) (subst (Replays whole (tables_of base)) (sym (items-reruns history)) h)
 
-tables-reruns : (base : Base) (history : List Item) → after_reruns (reruns_of history) (tables_of base) ≡ after_all (serial_order history) (tables_of base)
-tables-reruns base history = ap (λ (is : List Item). after_all is (tables_of base)) (items-reruns history)
+tables-reruns : (base : DeviceState) (history : List FinishRecord) → after_reruns (reruns_of history) (tables_of base) ≡ after_all (serial_order history) (tables_of base)
+tables-reruns base history = ap (λ (is : List FinishRecord). after_all is (tables_of base)) (items-reruns history)
 
-pub serial_are : (whole : Programs) (base : Base) (entries : List Entry) (f : Base) → Serial whole base entries f → AreSerial whole base entries f
+pub serial_are : (whole : Programs) (base : DeviceState) (entries : List Entry) (f : DeviceState) → Serial whole base entries f → AreSerial whole base entries f
 serial_are whole base entries f s = subst (λ (x : List Entry). AreSerial whole base x f) s.entries_are (record {
   reruns = reruns_of s.history;
   good = replayed_history whole base s.history s.replays;

@@ -1,20 +1,20 @@
 -- The steps of a replay of entries.
 use Rattle.std.proofs.Common.{◌≡◌, ℕ, List, [], ◌∷◌, ◌++◌, Option, Some, None, refl, sym, ap, ap₂, ◌∙◌, subst}
 use Rattle.kernel_model.specs.Effects.{Objects, Programs}
-use Rattle.kernel_model.specs.Items.{Entry, Item}
-use Rattle.kernel_model.specs.Replay.{Base, Tables, TaskRec, after}
+use Rattle.kernel_model.specs.Items.{Entry, FinishRecord}
+use Rattle.kernel_model.specs.Replay.{DeviceState, Tables, TaskRec, after}
 use Rattle.kernel_model.specs.EntryReplay.{Good, Leaves, Place, Replayed, Rerun, Wrong, after_reruns, item_on, replayed_on, rerun_before}
 use Rattle.kernel_model.proofs.OneState.{same_tasks}
 
 -- what one step comes to
-abbrev pub step : Programs → Tables → Place → List Place → Option Item → Replayed
+abbrev pub step : Programs → Tables → Place → List Place → Option FinishRecord → Replayed
 step whole t p ps None = Wrong p.place
 step whole t p ps (Some i) = rerun_before (record { place = p.place; item = i }) (replayed_on whole (after i t) ps)
 
-pub stepped : (whole : Programs) (t : Tables) (p : Place) (ps : List Place) (o : Option Item) → item_on whole t p.entry ≡ o → replayed_on whole t (p ∷ ps) ≡ step whole t p ps o
+pub stepped : (whole : Programs) (t : Tables) (p : Place) (ps : List Place) (o : Option FinishRecord) → item_on whole t p.entry ≡ o → replayed_on whole t (p ∷ ps) ≡ step whole t p ps o
 stepped whole t p ps o e = go (item_on whole t p.entry) e
   where
-    go : (o' : Option Item) → o' ≡ o → elim o' as (λ _. Replayed) [ None ↦ Wrong p.place | Some i ↦ rerun_before (record { place = p.place; item = i }) (replayed_on whole (after i t) ps) ] ≡ step whole t p ps o
+    go : (o' : Option FinishRecord) → o' ≡ o → elim o' as (λ _. Replayed) [ None ↦ Wrong p.place | Some i ↦ rerun_before (record { place = p.place; item = i }) (replayed_on whole (after i t) ps) ] ≡ step whole t p ps o
     go None e = ap (step whole t p ps) e
     go (Some i) e = ap (step whole t p ps) e
 
@@ -39,7 +39,7 @@ good_before whole t (p ∷ ps) rest rs h = go (item_on whole t p.entry) refl (λ
     IsSo : List Rerun → Type 0
     IsSo xs = replayed_on whole t (p ∷ (ps ++ rest)) ≡ all_before xs (replayed_on whole (after_reruns xs t) rest)
 
-    on : (i : Item) → item_on whole t p.entry ≡ Some i → (d : Replayed) → ((xs : List Rerun) → d ≡ Good xs → replayed_on whole (after i t) (ps ++ rest) ≡ all_before xs (replayed_on whole (after_reruns xs (after i t)) rest)) →
+    on : (i : FinishRecord) → item_on whole t p.entry ≡ Some i → (d : Replayed) → ((xs : List Rerun) → d ≡ Good xs → replayed_on whole (after i t) (ps ++ rest) ≡ all_before xs (replayed_on whole (after_reruns xs (after i t)) rest)) →
         rerun_before (record { place = p.place; item = i }) d ≡ Good rs → IsSo rs
     on i f (Wrong place) later g = absurd (cc g)
     on i f (Good xs) later g =
@@ -47,12 +47,12 @@ good_before whole t (p ∷ ps) rest rs h = go (item_on whole t p.entry) refl (λ
         let e : r ∷ xs ≡ rs = cc g in
         subst IsSo e (stepped whole t p (ps ++ rest) (Some i) f ∙ ap (rerun_before r) (later xs refl))
 
-    go : (o : Option Item) → item_on whole t p.entry ≡ o → ((i : Item) (xs : List Rerun) → replayed_on whole (after i t) ps ≡ Good xs → replayed_on whole (after i t) (ps ++ rest) ≡ all_before xs (replayed_on whole (after_reruns xs (after i t)) rest)) → IsSo rs
+    go : (o : Option FinishRecord) → item_on whole t p.entry ≡ o → ((i : FinishRecord) (xs : List Rerun) → replayed_on whole (after i t) ps ≡ Good xs → replayed_on whole (after i t) (ps ++ rest) ≡ all_before xs (replayed_on whole (after_reruns xs (after i t)) rest)) → IsSo rs
     go None f later = absurd (let k = sym (stepped whole t p ps None f) ∙ h in cc k)
     go (Some i) f later = on i f (replayed_on whole (after i t) ps) (later i) (sym (stepped whole t p ps (Some i) f) ∙ h)
 
 -- one entry more
-pub one_good : (whole : Programs) (t : Tables) (done : List Place) (p : Place) (rs : List Rerun) → replayed_on whole t done ≡ Good rs → (i : Item) → item_on whole (after_reruns rs t) p.entry ≡ Some i →
+pub one_good : (whole : Programs) (t : Tables) (done : List Place) (p : Place) (rs : List Rerun) → replayed_on whole t done ≡ Good rs → (i : FinishRecord) → item_on whole (after_reruns rs t) p.entry ≡ Some i →
     replayed_on whole t (done ++ p ∷ []) ≡ Good (rs ++ (let r : Rerun = record { place = p.place; item = i } in r) ∷ [])
 one_good whole t done p rs h i e = good_before whole t done (p ∷ []) rs h ∙ ap (all_before rs) (stepped whole (after_reruns rs t) p [] (Some i) e) ∙ all_good rs ((let r : Rerun = record { place = p.place; item = i } in r) ∷ [])
 
@@ -82,7 +82,7 @@ fails whole t (p ∷ ps) place h = go (item_on whole t p.entry) refl (λ i. fail
     here : item_on whole t p.entry ≡ None → p.place ≡ place → FailsAt whole t (p ∷ ps) place
     here f e = record { done = []; rest = ps; entry = p; reruns = []; split = refl; is_place = e; good = refl; none = f }
 
-    later : (i : Item) → item_on whole t p.entry ≡ Some i → FailsAt whole (after i t) ps place → FailsAt whole t (p ∷ ps) place
+    later : (i : FinishRecord) → item_on whole t p.entry ≡ Some i → FailsAt whole (after i t) ps place → FailsAt whole t (p ∷ ps) place
     later i f k = record {
       done = p ∷ k.done;
       rest = k.rest;
@@ -94,16 +94,16 @@ fails whole t (p ∷ ps) place h = go (item_on whole t p.entry) refl (λ i. fail
       none = k.none;
     }
 
-    on : (i : Item) → item_on whole t p.entry ≡ Some i → (d : Replayed) → (d ≡ Wrong place → FailsAt whole (after i t) ps place) → rerun_before (record { place = p.place; item = i }) d ≡ Wrong place → FailsAt whole t (p ∷ ps) place
+    on : (i : FinishRecord) → item_on whole t p.entry ≡ Some i → (d : Replayed) → (d ≡ Wrong place → FailsAt whole (after i t) ps place) → rerun_before (record { place = p.place; item = i }) d ≡ Wrong place → FailsAt whole t (p ∷ ps) place
     on i f (Good xs) rest g = absurd (cc g)
     on i f (Wrong q) rest g = later i f (rest g)
 
-    go : (o : Option Item) → item_on whole t p.entry ≡ o → ((i : Item) → replayed_on whole (after i t) ps ≡ Wrong place → FailsAt whole (after i t) ps place) → FailsAt whole t (p ∷ ps) place
+    go : (o : Option FinishRecord) → item_on whole t p.entry ≡ o → ((i : FinishRecord) → replayed_on whole (after i t) ps ≡ Wrong place → FailsAt whole (after i t) ps place) → FailsAt whole t (p ∷ ps) place
     go None f rest = here f (let k = sym (stepped whole t p ps None f) ∙ h in cc k)
     go (Some i) f rest = on i f (replayed_on whole (after i t) ps) (rest i) (sym (stepped whole t p ps (Some i) f) ∙ h)
 
-pub one_leaves : (base : Base) (entries : List Entry) (reruns : List Rerun) (f g : Base) → Leaves base entries reruns f → Leaves base entries reruns g → f ≡ g
+pub one_leaves : (base : DeviceState) (entries : List Entry) (reruns : List Rerun) (f g : DeviceState) → Leaves base entries reruns f → Leaves base entries reruns g → f ≡ g
 one_leaves base entries reruns f g h k =
-    ap₂ (λ (o : Objects) (t : List TaskRec). let r : Base = record { objects = o; tasks = t; clock = f.clock; number = f.number; next = f.next } in r) (h.objects ∙ sym k.objects) (same_tasks f.tasks g.tasks h.by_id k.by_id (λ id. h.tasks id ∙ sym (k.tasks id)))
-    ∙ ap₂ (λ (c d : ℕ). let r : Base = record { objects = g.objects; tasks = g.tasks; clock = c; number = d; next = f.next } in r) (h.clock ∙ sym k.clock) (h.number ∙ sym k.number)
-    ∙ ap (λ (e : ℕ). let r : Base = record { objects = g.objects; tasks = g.tasks; clock = g.clock; number = g.number; next = e } in r) (h.next ∙ sym k.next)
+    ap₂ (λ (o : Objects) (t : List TaskRec). let r : DeviceState = record { objects = o; tasks = t; clock = f.clock; number = f.number; next = f.next } in r) (h.objects ∙ sym k.objects) (same_tasks f.tasks g.tasks h.by_id k.by_id (λ id. h.tasks id ∙ sym (k.tasks id)))
+    ∙ ap₂ (λ (c d : ℕ). let r : DeviceState = record { objects = g.objects; tasks = g.tasks; clock = c; number = d; next = f.next } in r) (h.clock ∙ sym k.clock) (h.number ∙ sym k.number)
+    ∙ ap (λ (e : ℕ). let r : DeviceState = record { objects = g.objects; tasks = g.tasks; clock = g.clock; number = g.number; next = e } in r) (h.next ∙ sym k.next)

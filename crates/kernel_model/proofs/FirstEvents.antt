@@ -4,9 +4,9 @@ use Rattle.std.proofs.Math.Seq.{take-suc}
 use Rattle.std.proofs.lemmas.Bool.{cases_lt}
 use Rattle.std.proofs.lemmas.Option.{get_or_from_slice_get, slice_get_within}
 use Rattle.std.specs.Option.{option_to_list}
-use Rattle.kernel_model.specs.Runs.{Steps}
-use Rattle.kernel_model.specs.Items.{Entry, Item, listing}
-use Rattle.kernel_model.specs.Replay.{Base}
+use Rattle.kernel_model.specs.Runs.{TaskMachine}
+use Rattle.kernel_model.specs.Items.{Entry, FinishRecord, listing}
+use Rattle.kernel_model.specs.Replay.{DeviceState}
 use Rattle.kernel_model.specs.Sizes.{Sizes}
 use Rattle.kernel_model.specs.Turns.{Line, Start}
 use Rattle.kernel_model.specs.Events.{Event, State, with_finish, lines_of, event_step, state_after}
@@ -31,7 +31,7 @@ take_further (suc m) zero xs l = absurd (omega (arith, l))
 take_further (suc m) (suc n) [] l = ([], refl)
 take_further {A} (suc m) (suc n) (x ∷ xs) l = let k = take_further m n xs (omega (arith, l)) in (k.0, ap (λ (ys : List A). x ∷ ys) k.1)
 
-module _ {M : Type 0} (steps : Steps M) (sizes : Sizes) (base : Base) where
+module _ {M : Type 0} (steps : TaskMachine M) (sizes : Sizes) (base : DeviceState) where
   -- the state, the lines and the writes after one event more
   pub one_more : (s : State M) (events : List Event) (n : ℕ) (e : Event) → slice_get events n ≡ Some e →
       (let t = state_after steps sizes base s (take n events) in
@@ -102,7 +102,7 @@ module _ {M : Type 0} (steps : Steps M) (sizes : Sizes) (base : Base) where
 
   -- what is listed stays listed
   grown : IsSetUp steps sizes base → (events : List Event) (s : State M) → HasIds base (length s.history + length events) → IsSound steps sizes base s →
-      (newer : List Item) × (listed (state_after steps sizes base s events) ≡ newer ++ listed s)
+      (newer : List FinishRecord) × (listed (state_after steps sizes base s events) ≡ newer ++ listed s)
   grown set_up [] s l h = ([], refl)
   grown set_up (e ∷ events) s l h = go (flipped_by s e) (listed_step steps sizes set_up.sized.index_writes base s h e)
       (grown set_up events (event_step steps sizes base s e).0 (omega (arith, l, history-step steps sizes base s e)) (next_sound steps sizes base set_up s h (sound-ids steps sizes base set_up s.history h.history (omega (arith, l))) e))
@@ -110,16 +110,16 @@ module _ {M : Type 0} (steps : Steps M) (sizes : Sizes) (base : Base) where
       t : State M
       t = (event_step steps sizes base s e).0
 
-      go : (o : Option Item) → listed t ≡ with_finish o (listed s) → (newer : List Item) × (listed (state_after steps sizes base t events) ≡ newer ++ listed t) →
-          (newer : List Item) × (listed (state_after steps sizes base t events) ≡ newer ++ listed s)
-      go None f k = (k.0, k.1 ∙ ap (λ (l : List Item). k.0 ++ l) f)
-      go (Some i) f k = (k.0 ++ i ∷ [], k.1 ∙ ap (λ (l : List Item). k.0 ++ l) f ∙ sym (append_assoc k.0 (i ∷ []) (listed s)))
+      go : (o : Option FinishRecord) → listed t ≡ with_finish o (listed s) → (newer : List FinishRecord) × (listed (state_after steps sizes base t events) ≡ newer ++ listed t) →
+          (newer : List FinishRecord) × (listed (state_after steps sizes base t events) ≡ newer ++ listed s)
+      go None f k = (k.0, k.1 ∙ ap (λ (l : List FinishRecord). k.0 ++ l) f)
+      go (Some i) f k = (k.0 ++ i ∷ [], k.1 ∙ ap (λ (l : List FinishRecord). k.0 ++ l) f ∙ sym (append_assoc k.0 (i ∷ []) (listed s)))
 
 module _ {M : Type 0} (x : Execution M) where
   ids_of_first : (n : ℕ) → HasIds x.base (length (take n x.events))
   ids_of_first n = omega (arith, x.ids, length-take n x.events)
 
-  pub listing_grows : (m n : ℕ) → m ≤ n → (newer : List Item) × (listed (state_at x n) ≡ newer ++ listed (state_at x m))
+  pub listing_grows : (m n : ℕ) → m ≤ n → (newer : List FinishRecord) × (listed (state_at x n) ≡ newer ++ listed (state_at x m))
   listing_grows m n l =
       let k = grown x.steps x.sizes x.base x.set_up rest (state_at x m) ids (run_sound x.steps x.sizes x.base x.set_up (take m x.events) (ids_of_first m) x.cores x.power x.boots) in
       (k.0, ap listed (ap (state_after x.steps x.sizes x.base (start_of x)) split ∙ state_after-append x.steps x.sizes x.base (take m x.events) rest (start_of x)) ∙ k.1)

@@ -3,9 +3,9 @@ use Rattle.std.proofs.Common.{◌≡◌, ℕ, ◌<◌, List, length, Option, Som
 use Rattle.std.specs.List.{AllByRecursion}
 use Rattle.kernel_model.specs.Sizes.{Sizes}
 use Rattle.kernel_model.specs.Effects.{Outcome, Programs}
-use Rattle.kernel_model.specs.Runs.{Steps, whole_run}
-use Rattle.kernel_model.specs.Items.{Item}
-use Rattle.kernel_model.specs.Replay.{Base}
+use Rattle.kernel_model.specs.Runs.{TaskMachine, whole_run}
+use Rattle.kernel_model.specs.Items.{FinishRecord}
+use Rattle.kernel_model.specs.Replay.{DeviceState}
 use Rattle.kernel_model.specs.OpenTasks.{open_tasks}
 use Rattle.kernel_model.specs.Cores.{Attempt, Core, Running, Copying, Ready}
 use Rattle.kernel_model.specs.Fit.{IsSetUp}
@@ -16,21 +16,21 @@ use Rattle.kernel_model.specs.LiveSound.{IsMarkedIf}
 use Rattle.kernel_model.proofs.OpenLaws.{open_programs}
 use Rattle.kernel_model.proofs.RunFacts.{base-sized, history-runs}
 
-pub running_found : {M : Type 0} → (steps : Steps M) (sizes : Sizes) (base : Base) (history : List Item) (a : Attempt M) (c : Core M) → IsSoundCore steps sizes base history c → c ≡ Running a → AreFound base history a.reads
+pub running_found : {M : Type 0} → (steps : TaskMachine M) (sizes : Sizes) (base : DeviceState) (history : List FinishRecord) (a : Attempt M) (c : Core M) → IsSoundCore steps sizes base history c → c ≡ Running a → AreFound base history a.reads
 running_found steps sizes base history a c h e =
     let k = subst (IsSoundCore steps sizes base history) e h in k.2.are_found
 
-pub copying_found : {M : Type 0} → (steps : Steps M) (sizes : Sizes) (base : Base) (history : List Item) (a : Attempt M) (copied : ℕ) (c : Core M) → IsSoundCore steps sizes base history c → c ≡ Copying a copied → AreFound base history a.reads × (0 < length a.reads)
+pub copying_found : {M : Type 0} → (steps : TaskMachine M) (sizes : Sizes) (base : DeviceState) (history : List FinishRecord) (a : Attempt M) (copied : ℕ) (c : Core M) → IsSoundCore steps sizes base history c → c ≡ Copying a copied → AreFound base history a.reads × (0 < length a.reads)
 copying_found steps sizes base history a copied c h e =
     let k = subst (IsSoundCore steps sizes base history) e h in (k.3.are_found, k.1)
 
-pub ready_found : {M : Type 0} → (steps : Steps M) (sizes : Sizes) (base : Base) (history : List Item) (a : Attempt M) (outcome : Outcome) (c : Core M) → IsSoundCore steps sizes base history c → c ≡ Ready a outcome → AreFound base history a.reads
+pub ready_found : {M : Type 0} → (steps : TaskMachine M) (sizes : Sizes) (base : DeviceState) (history : List FinishRecord) (a : Attempt M) (outcome : Outcome) (c : Core M) → IsSoundCore steps sizes base history c → c ≡ Ready a outcome → AreFound base history a.reads
 ready_found steps sizes base history a outcome c h e =
     let k = subst (IsSoundCore steps sizes base history) e h in k.are_found
 
-pub marked_found : (whole : Programs) (base : Base) (history : List Item) (m : Mark) (mark : Option Mark) → IsMarkedIf whole base history mark → mark ≡ Some m → AreFound base history m.reads
+pub marked_found : (whole : Programs) (base : DeviceState) (history : List FinishRecord) (m : Mark) (mark : Option Mark) → IsMarkedIf whole base history mark → mark ≡ Some m → AreFound base history m.reads
 marked_found whole base history m mark h e = let k = subst (IsMarkedIf whole base history) e h in k.attempt.are_found
 
-pub programs_of_set : {M : Type 0} → (steps : Steps M) (sizes : Sizes) (base : Base) → IsSetUp steps sizes base → (history : List Item) → IsHistory (whole_run steps) base history → AllByRecursion (λ t. t.program < sizes.programs) (open_tasks base history)
+pub programs_of_set : {M : Type 0} → (steps : TaskMachine M) (sizes : Sizes) (base : DeviceState) → IsSetUp steps sizes base → (history : List FinishRecord) → IsHistory (whole_run steps) base history → AllByRecursion (λ t. t.program < sizes.programs) (open_tasks base history)
 programs_of_set steps sizes base set_up history h =
     open_programs sizes base set_up.based.programs history (history-runs steps sizes set_up.machine base (base-sized sizes base set_up.based) history h.replays)

@@ -3,8 +3,8 @@ use Rattle.std.proofs.Common.{◌≡◌, ℕ, ◌<◌, ◌≤◌, Bool, true, fa
 use Rattle.std.specs.List.{AllByRecursion}
 use Rattle.std.proofs.lemmas.Bool.{ltb-true}
 use Rattle.kernel_model.specs.Effects.{Programs, written}
-use Rattle.kernel_model.specs.Items.{Item, precedes}
-use Rattle.kernel_model.specs.Replay.{Base}
+use Rattle.kernel_model.specs.Items.{FinishRecord, precedes}
+use Rattle.kernel_model.specs.Replay.{DeviceState}
 use Rattle.kernel_model.specs.Intervals.{touches}
 use Rattle.kernel_model.specs.History.{Follows, IsHistory}
 use Rattle.kernel_model.proofs.Order.{precedes-newer}
@@ -12,7 +12,7 @@ use Rattle.kernel_model.proofs.Ordered.{both}
 use Rattle.kernel_model.proofs.Theorem.{numbers_below}
 
 -- an older finish with a later point touches nothing that the newer one writes
-later_apart : (i x : Item) → x.number < i.number → Follows i x → precedes i x ≡ true → (o : ℕ) (words : List ℕ) → written i.run.writes o ≡ Some words → touches x o ≡ false
+later_apart : (i x : FinishRecord) → x.number < i.number → Follows i x → precedes i x ≡ true → (o : ℕ) (words : List ℕ) → written i.run.writes o ≡ Some words → touches x o ≡ false
 later_apart i x l f e o words w = go (touches x o) refl
   where
     later : i.point < x.point
@@ -23,7 +23,7 @@ later_apart i x l f e o words w = go (touches x o) refl
     go true t = let k : x.point ≤ i.point = f.touched o words w t in absurd (omega (arith, k, later))
 
 -- so with all older ones
-pub later-apart : (whole : Programs) (base : Base) (i : Item) (history : List Item) → IsHistory whole base (i ∷ history) →
+pub later-apart : (whole : Programs) (base : DeviceState) (i : FinishRecord) (history : List FinishRecord) → IsHistory whole base (i ∷ history) →
     AllByRecursion (λ x. precedes i x ≡ true → (o : ℕ) (words : List ℕ) → written i.run.writes o ≡ Some words → touches x o ≡ false) history
 later-apart whole base i history h =
     both (λ x. x.number < i.number) (Follows i) (λ x. precedes i x ≡ true → (o : ℕ) (words : List ℕ) → written i.run.writes o ≡ Some words → touches x o ≡ false)

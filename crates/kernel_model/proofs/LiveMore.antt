@@ -6,8 +6,8 @@ use Rattle.std.proofs.lemmas.Bool.{leb-true}
 use Rattle.std.proofs.lemmas.List.{get_or-set_same}
 use Rattle.kernel_model.specs.Sizes.{Sizes}
 use Rattle.kernel_model.specs.Effects.{Objects, Programs, Run, Spawn}
-use Rattle.kernel_model.specs.Items.{Item}
-use Rattle.kernel_model.specs.Replay.{Base, TaskRec, after_history, max_id, tables_of, task_under, clock_of, next_id}
+use Rattle.kernel_model.specs.Items.{FinishRecord}
+use Rattle.kernel_model.specs.Replay.{DeviceState, TaskRec, after_history, max_id, tables_of, task_under, clock_of, next_id}
 use Rattle.kernel_model.specs.Serial.{InIdOrder}
 use Rattle.kernel_model.specs.Versions.{Read, Version, chosen, versions}
 use Rattle.kernel_model.specs.Intervals.{Interval, finish_interval, is_empty, read_interval}
@@ -15,7 +15,7 @@ use Rattle.kernel_model.specs.OpenTasks.{open_tasks}
 use Rattle.kernel_model.specs.Cores.{Idle, all_but, next_task}
 use Rattle.kernel_model.specs.Room.{without_room}
 use Rattle.kernel_model.specs.Verdicts.{finish_of, Empty, Granted, Records, has_records, room_verdict}
-use Rattle.kernel_model.specs.Live.{Answer, Begun, IsStale, Limit, Live, Mark, attempt_of, begin_answer, begin_call, cores_of, fetch_answer, fetch_call, finish_answer, finish_call, marked}
+use Rattle.kernel_model.specs.Live.{Answer, Begun, IsStale, Limit, CallState, Mark, attempt_of, begin_answer, begin_call, cores_of, fetch_answer, fetch_call, finish_answer, finish_call, marked}
 use Rattle.kernel_model.specs.Fit.{HasOldTasks, IsSizes}
 use Rattle.kernel_model.specs.History.{IsAttempt, IsHistory, IsNumbered}
 use Rattle.kernel_model.specs.LiveSound.{IsLiveState}
@@ -32,7 +32,7 @@ no_marks (suc n) zero = refl
 no_marks (suc n) (suc k) = no_marks n k
 
 -- before the first call
-pub first_live : (whole : Programs) (base : Base) (callers limit : ℕ) → IsLiveState whole base (record { history = []; marks = replicate callers None; loss = None; limit = limit })
+pub first_live : (whole : Programs) (base : DeviceState) (callers limit : ℕ) → IsLiveState whole base (record { history = []; marks = replicate callers None; loss = None; limit = limit })
 first_live whole base callers limit = record {
   history = record { replays = tt; numbered = (tt, tt); ordered = tt; timely = tt };
   marks = λ k. let e = no_marks callers k in rw e tt;
@@ -40,14 +40,14 @@ first_live whole base callers limit = record {
 }
 
 -- an attempt goes on when other tasks' finishes join
-pub attempt_far : (whole : Programs) (base : Base) (newer history : List Item) → IsNumbered base (newer ++ history) → (task start : ℕ) (reads : List Read) (rest : Objects → Run) → AllByRecursion (λ x. task ≡ x.task → ⊥) newer →
+pub attempt_far : (whole : Programs) (base : DeviceState) (newer history : List FinishRecord) → IsNumbered base (newer ++ history) → (task start : ℕ) (reads : List Read) (rest : Objects → Run) → AllByRecursion (λ x. task ≡ x.task → ⊥) newer →
     IsAttempt whole base history task start reads rest → IsAttempt whole base (newer ++ history) task start reads rest
 attempt_far whole base [] history n task start reads rest ne a = a
 attempt_far whole base (i ∷ newer) history n task start reads rest ne a =
     attempt_grows whole base i (newer ++ history) n task start reads rest ne.0 (attempt_far whole base newer history (n.0.2, n.1.1) task start reads rest ne.1 a)
 
 -- a begin and a fetch leave the history
-pub begin_history : (base : Base) (s : Live) (n : ℕ) → (begin_call base s n s.loss).0.history ≡ s.history
+pub begin_history : (base : DeviceState) (s : CallState) (n : ℕ) → (begin_call base s n s.loss).0.history ≡ s.history
 begin_history base s n = by s.loss
   where
     at : (o : Option TaskRec) → (begin_answer base s n o).0.history ≡ s.history
@@ -58,7 +58,7 @@ begin_history base s n = by s.loss
     by (Some losses) = refl
     by None = elim (leb s.limit (length s.history)) as (λ b. (cond b (s, Limit) (begin_answer base s n (next_task (cores_of s.marks) (open_tasks base s.history)))).0.history ≡ s.history) [ true ↦ refl | false ↦ at (next_task (cores_of s.marks) (open_tasks base s.history)) ]
 
-pub fetch_history : (base : Base) (s : Live) (n : ℕ) (m : Mark) (o : ℕ) (device : Option ℕ) → (fetch_call base s n m o s.loss device).0.history ≡ s.history
+pub fetch_history : (base : DeviceState) (s : CallState) (n : ℕ) (m : Mark) (o : ℕ) (device : Option ℕ) → (fetch_call base s n m o s.loss device).0.history ≡ s.history
 fetch_history base s n m o device = by s.loss
   where
     i : Interval
@@ -74,18 +74,18 @@ fetch_history base s n m o device = by s.loss
     by None = elim (is_empty i) as (λ b. (cond b (marked s n None, IsStale i.lo (unwrap_or i.hi 0)) (fetch_answer s n m o (chosen i.hi (versions base o s.history)) device)).0.history ≡ s.history) [ true ↦ refl | false ↦ at (chosen i.hi (versions base o s.history)) device ]
 
 -- a granted finish finds a record for each of its spawns
-pub finish_records : (whole : Programs) (sizes : Sizes) (base : Base) → HasOldTasks base → InIdOrder base.tasks → (s : Live) → IsHistory whole base s.history → next_id base s.history ≤ max_id → length (open_tasks base s.history) ≤ sizes.records →
+pub finish_records : (whole : Programs) (sizes : Sizes) (base : DeviceState) → HasOldTasks base → InIdOrder base.tasks → (s : CallState) → IsHistory whole base s.history → next_id base s.history ≤ max_id → length (open_tasks base s.history) ≤ sizes.records →
     (n : ℕ) (m : Mark) (run : Run) → IsAttempt whole base s.history m.task m.start m.reads (λ x. run) → (device : Option ℕ) → length (open_tasks base (finish_call sizes base s n m run s.loss device).0.history) ≤ sizes.records
 finish_records whole sizes base old order s h l r n m run a device = by_loss s.loss
   where
-    item : Item
+    item : FinishRecord
     item = finish_of base s.history m.task m.start m.reads run
 
     i : Interval
     i = finish_interval base s.history m.start m.reads run
 
     open_now : task_under (open_tasks base s.history) m.task ≡ Some a.spawn
-    open_now = task_under-open base s.history h.numbered l m.task ∙ subst (λ (x : List Item). (after_history x (tables_of base)).tasks m.task ≡ Some a.spawn) (sym a.split) (still_open m.task a.spawn (tables_of base) a.newer a.older a.not_since a.was_open)
+    open_now = task_under-open base s.history h.numbered l m.task ∙ subst (λ (x : List FinishRecord). (after_history x (tables_of base)).tasks m.task ≡ Some a.spawn) (sym a.split) (still_open m.task a.spawn (tables_of base) a.newer a.older a.not_since a.was_open)
 
     granted : has_records sizes base s.history run.spawns ≡ true → (device : Option ℕ) → length (open_tasks base (finish_answer s n (Granted item) device).0.history) ≤ sizes.records
     granted f (Some losses) = r
@@ -108,12 +108,12 @@ finish_records whole sizes base old order s h l r n m run a device = by_loss s.l
     by_loss None = by_empty (is_empty i) (without_room sizes base s.history (cores_of (all_but n s.marks)) run.writes)
 
 -- the mark of a task that begins
-pub begun_mark : (base : Base) (s : Live) (n : ℕ) → n < length s.marks → (t : TaskRec) → (begin_call base s n s.loss).1 ≡ Begun t →
+pub begun_mark : (base : DeviceState) (s : CallState) (n : ℕ) → n < length s.marks → (t : TaskRec) → (begin_call base s n s.loss).1 ≡ Begun t →
     (task_under (open_tasks base s.history) t.id ≡ Some (record { program = t.program; arg = t.arg }))
     × (get_or (begin_call base s n s.loss).0.marks n None ≡ Some (record { task = t.id; start = clock_of base s.history; reads = [] }))
 begun_mark base s n l t e = by s.loss e
   where
-    Says : Live × Answer → Type 0
+    Says : CallState × Answer → Type 0
     Says a = a.1 ≡ Begun t → (task_under (open_tasks base s.history) t.id ≡ Some (let spawn : Spawn = record { program = t.program; arg = t.arg } in spawn)) × (get_or a.0.marks n None ≡ Some (let m : Mark = record { task = t.id; start = clock_of base s.history; reads = [] } in m))
 
     at : (o : Option TaskRec) → next_task (cores_of s.marks) (open_tasks base s.history) ≡ o → Says (begin_answer base s n o)
@@ -128,7 +128,7 @@ begun_mark base s n l t e = by s.loss e
     by None = elim (leb s.limit (length s.history)) as (λ b. Says (cond b (s, Limit) (begin_answer base s n (next_task (cores_of s.marks) (open_tasks base s.history))))) [ true ↦ (λ g. absurd (cc g)) | false ↦ at (next_task (cores_of s.marks) (open_tasks base s.history)) refl ]
 
 -- an attempt that saw nothing end is not stale
-pub fetch_unmet : (base : Base) (s : Live) (n : ℕ) (m : Mark) (o : ℕ) (device : Option ℕ) → HasNoEnd base s.history m → IsUnmetAnswer (fetch_call base s n m o s.loss device).1
+pub fetch_unmet : (base : DeviceState) (s : CallState) (n : ℕ) (m : Mark) (o : ℕ) (device : Option ℕ) → HasNoEnd base s.history m → IsUnmetAnswer (fetch_call base s n m o s.loss device).1
 fetch_unmet base s n m o device h = by s.loss
   where
     i : Interval
@@ -144,14 +144,14 @@ fetch_unmet base s n m o device h = by s.loss
     by None = rw (not_empty i h) (at (chosen i.hi (versions base o s.history)) device)
 
 -- and goes on with a version that has not ended
-pub fetch_no_end : (base : Base) (s : Live) (n : ℕ) (m : Mark) (o : ℕ) (device : Option ℕ) → n < length s.marks → get_or s.marks n None ≡ Some m → HasNoEnd base s.history m →
+pub fetch_no_end : (base : DeviceState) (s : CallState) (n : ℕ) (m : Mark) (o : ℕ) (device : Option ℕ) → n < length s.marks → get_or s.marks n None ≡ Some m → HasNoEnd base s.history m →
     (after : Mark) → get_or (fetch_call base s n m o s.loss device).0.marks n None ≡ Some after → HasNoEnd base s.history after
 fetch_no_end base s n m o device l own h after e = by s.loss e
   where
     i : Interval
     i = read_interval base s.history m.start m.reads
 
-    Says : Live × Answer → Type 0
+    Says : CallState × Answer → Type 0
     Says a = get_or a.0.marks n None ≡ Some after → HasNoEnd base s.history after
 
     gone : get_or (set s.marks n None) n None ≡ Some after → HasNoEnd base s.history after
@@ -184,7 +184,7 @@ alone_cores (m ∷ marks) (suc n) h zero = let e = h 0 (λ f. absurd (omega (ari
 alone_cores (m ∷ marks) (suc n) h (suc k) = alone_cores marks n (λ j ne. h (suc j) (λ e. ne (omega (arith, e)))) k
 
 -- a caller alone is refused for records at most
-pub finish_unmet : (sizes : Sizes) → IsSizes sizes → (base : Base) (s : Live) (n : ℕ) (m : Mark) (run : Run) (device : Option ℕ) → HoldsAlone n s.marks → HasNoEnd base s.history m → AllByRecursion (λ w. w.object < sizes.objects) run.writes →
+pub finish_unmet : (sizes : Sizes) → IsSizes sizes → (base : DeviceState) (s : CallState) (n : ℕ) (m : Mark) (run : Run) (device : Option ℕ) → HoldsAlone n s.marks → HasNoEnd base s.history m → AllByRecursion (λ w. w.object < sizes.objects) run.writes →
     IsUnmetAnswer (finish_call sizes base s n m run s.loss device).1
 finish_unmet sizes ok base s n m run device alone h r = by s.loss
   where
@@ -197,7 +197,7 @@ finish_unmet sizes ok base s n m run device alone h r = by s.loss
     room : without_room sizes base s.history (cores_of (all_but n s.marks)) run.writes ≡ None
     room = room_alone sizes ok base s.history (cores_of (all_but n s.marks)) (alone_cores s.marks n alone) run.writes r
 
-    granted : (item : Item) (device : Option ℕ) → IsUnmetAnswer (finish_answer s n (Granted item) device).1
+    granted : (item : FinishRecord) (device : Option ℕ) → IsUnmetAnswer (finish_answer s n (Granted item) device).1
     granted item (Some losses) = tt
     granted item None = tt
 

@@ -6,8 +6,8 @@ use Rattle.std.specs.Option.{option_or}
 use Rattle.std.proofs.lemmas.Bool.{eq-eqb, eqb-true, leb-true}
 use Rattle.std.proofs.lemmas.Option.{slice_get_within}
 use Rattle.kernel_model.specs.Effects.{Programs, Spawn}
-use Rattle.kernel_model.specs.Items.{Entry, Item, entry_of, serial_order}
-use Rattle.kernel_model.specs.Replay.{AreNumbered, Base, IsRunOn, TaskRec, Tables, after, after_all, child, max_id, next_id, tables_of, task_under}
+use Rattle.kernel_model.specs.Items.{Entry, FinishRecord, entry_of, serial_order}
+use Rattle.kernel_model.specs.Replay.{AreNumbered, DeviceState, IsRunOn, TaskRec, Tables, after, after_all, child, max_id, next_id, tables_of, task_under}
 use Rattle.kernel_model.specs.Serial.{InIdOrder, Serial}
 use Rattle.kernel_model.specs.Durable.{state_left}
 use Rattle.kernel_model.specs.Fit.{HasOldTasks}
@@ -17,7 +17,7 @@ use Rattle.kernel_model.proofs.Joining.{joined_listings}
 use Rattle.kernel_model.proofs.OpenLaws.{open_order}
 use Rattle.kernel_model.proofs.Order.{serial_order-all}
 
-pub none_serial : (whole : Programs) (base : Base) → InIdOrder base.tasks → Serial whole base [] base
+pub none_serial : (whole : Programs) (base : DeviceState) → InIdOrder base.tasks → Serial whole base [] base
 none_serial whole base o = record {
   history = [];
   entries_are = refl;
@@ -43,7 +43,7 @@ child-below n first spawns id x l h = go (leb first id) refl (leb id max_id) h
     go true e false h = absurd (cc h)
     go false e c h = absurd (cc h)
 
-after-below : (n : ℕ) (i : Item) (t : Tables) → i.first + length i.run.spawns ≤ n → IsBelow n t → IsBelow n (after i t)
+after-below : (n : ℕ) (i : FinishRecord) (t : Tables) → i.first + length i.run.spawns ≤ n → IsBelow n t → IsBelow n (after i t)
 after-below n i t l h id x e = go (eqb i.task id) (t.tasks id) refl e
   where
     either : (o : Option Spawn) → (o ≡ Some x → id < n) → option_or o (child i.first i.run.spawns id) ≡ Some x → id < n
@@ -54,19 +54,19 @@ after-below n i t l h id x e = go (eqb i.task id) (t.tasks id) refl e
     go true o f e = child-below n i.first i.run.spawns id x l e
     go false o f e = either o (λ g. h id x (f ∙ g)) e
 
-all-below : (n : ℕ) (items : List Item) (t : Tables) → AllByRecursion (λ i. i.first + length i.run.spawns ≤ n) items → IsBelow n t → IsBelow n (after_all items t)
+all-below : (n : ℕ) (items : List FinishRecord) (t : Tables) → AllByRecursion (λ i. i.first + length i.run.spawns ≤ n) items → IsBelow n t → IsBelow n (after_all items t)
 all-below n [] t l h = h
 all-below n (i ∷ items) t l h = all-below n items (after i t) l.1 (after-below n i t l.0 h)
 
-more : (m n : ℕ) (items : List Item) → m ≤ n → AllByRecursion (λ i. i.first + length i.run.spawns ≤ m) items → AllByRecursion (λ i. i.first + length i.run.spawns ≤ n) items
+more : (m n : ℕ) (items : List FinishRecord) → m ≤ n → AllByRecursion (λ i. i.first + length i.run.spawns ≤ m) items → AllByRecursion (λ i. i.first + length i.run.spawns ≤ n) items
 more m n [] l h = tt
 more m n (i ∷ items) l h = (omega (arith, h.0, l), more m n items l h.1)
 
-firsts-below : (base : Base) (history : List Item) → AreNumbered base history → AllByRecursion (λ i. i.first + length i.run.spawns ≤ next_id base history) history
+firsts-below : (base : DeviceState) (history : List FinishRecord) → AreNumbered base history → AllByRecursion (λ i. i.first + length i.run.spawns ≤ next_id base history) history
 firsts-below base [] h = tt
 firsts-below base (i ∷ history) h = (omega (arith, h.1), more (next_id base history) (next_id base (i ∷ history)) history (omega arith) (firsts-below base history h.2))
 
-next-up : (base : Base) (history : List Item) → base.next ≤ next_id base history
+next-up : (base : DeviceState) (history : List FinishRecord) → base.next ≤ next_id base history
 next-up base [] = omega arith
 next-up base (i ∷ history) = omega (arith, next-up base history)
 
@@ -90,7 +90,7 @@ old-under n (t ∷ tasks) h = (h t.id (record { program = t.program; arg = t.arg
     later id x e true f = h id s (rw f refl)
     later id x e false f = h id x (rw f e)
 
-pub serial_old : (whole : Programs) (base f : Base) (entries : List Entry) → HasOldTasks base → Serial whole base entries f → HasOldTasks f
+pub serial_old : (whole : Programs) (base f : DeviceState) (entries : List Entry) → HasOldTasks base → Serial whole base entries f → HasOldTasks f
 serial_old whole base f entries old s = subst (λ n. AllByRecursion (λ t. t.id < n) f.tasks) (sym s.next) (old-under n f.tasks (λ id x e. all id x (sym (s.tasks id) ∙ e)))
   where
     n : ℕ
@@ -103,7 +103,7 @@ serial_old whole base f entries old s = subst (λ n. AllByRecursion (λ t. t.id 
     all = all-below n (serial_order s.history) (tables_of base) firsts (λ id x e. omega (arith, under-old base.next base.tasks old id x e, next-up base s.history))
 
 -- one finish alone
-one_serial : (whole : Programs) (f : Base) (i : Item) → HasOldTasks f → InIdOrder f.tasks → IsRunOn whole i (tables_of f) → i.number ≡ f.number + 1 → i.first ≡ f.next → f.next + length i.run.spawns ≤ max_id →
+one_serial : (whole : Programs) (f : DeviceState) (i : FinishRecord) → HasOldTasks f → InIdOrder f.tasks → IsRunOn whole i (tables_of f) → i.number ≡ f.number + 1 → i.first ≡ f.next → f.next + length i.run.spawns ≤ max_id →
     Serial whole f (entry_of i ∷ []) (state_left f (i ∷ []))
 one_serial whole f i old o run n k l = record {
   history = i ∷ [];
@@ -121,6 +121,6 @@ one_serial whole f i old o run n k l = record {
     numbered : IsNumbered f (i ∷ [])
     numbered = ((omega (arith, n), k, tt), (omega (arith, k, under-old f.next f.tasks old i.task run.0 run.1), tt))
 
-pub next_serial : (whole : Programs) (base f : Base) (entries : List Entry) (i : Item) → HasOldTasks base → Serial whole base entries f → IsRunOn whole i (tables_of f) → i.number ≡ f.number + 1 → i.first ≡ f.next → f.clock ≤ i.point → f.next + length i.run.spawns ≤ max_id →
+pub next_serial : (whole : Programs) (base f : DeviceState) (entries : List Entry) (i : FinishRecord) → HasOldTasks base → Serial whole base entries f → IsRunOn whole i (tables_of f) → i.number ≡ f.number + 1 → i.first ≡ f.next → f.clock ≤ i.point → f.next + length i.run.spawns ≤ max_id →
     Serial whole base (entries ++ entry_of i ∷ []) (state_left f (i ∷ []))
 next_serial whole base f entries i old s run n k p l = joined_listings whole base f (state_left f (i ∷ [])) entries (entry_of i ∷ []) s (one_serial whole f i (serial_old whole base f entries old s) s.by_id run n k l) (p, tt)

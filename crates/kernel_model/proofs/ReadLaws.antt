@@ -3,9 +3,9 @@ use Rattle.std.proofs.Common.{◌≡◌, ℕ, ◌<◌, Bool, true, false, cond, 
 use Rattle.std.specs.Prelude.{◌&&◌, is_none}
 use Rattle.std.specs.List.{AllByRecursion}
 use Rattle.std.proofs.lemmas.Bool.{eq-eqb, eqb-false, eqb-true, ne_eqb, leb-false, ltb-true, lt-leb}
-use Rattle.kernel_model.specs.Effects.{words_of, written}
-use Rattle.kernel_model.specs.Items.{Item}
-use Rattle.kernel_model.specs.Replay.{Base}
+use Rattle.kernel_model.specs.Effects.{object_words, written}
+use Rattle.kernel_model.specs.Items.{FinishRecord}
+use Rattle.kernel_model.specs.Replay.{DeviceState}
 use Rattle.kernel_model.specs.Versions.{Read, Version, chosen, find_version, older, version_read, versions, versions_to}
 use Rattle.kernel_model.specs.Intervals.{Interval, is_empty, is_reached, sooner, within}
 use Rattle.kernel_model.specs.Room.{is_below, meet}
@@ -16,8 +16,8 @@ use Rattle.kernel_model.proofs.RoomLaws.{chosen-all, chosen-meets}
 use Rattle.kernel_model.proofs.VersionLaws.{tops}
 
 -- the newest version ends where all do
-newest-end : (end : Option ℕ) (base : Base) (o : ℕ) (history : List Item) (u : Version) → chosen None (versions_to end base o history) ≡ Some u → u.end ≡ end
-newest-end end base o [] u e = let same : record { writer = base.number; begin = base.clock; end = end; words = words_of base.objects o } ≡ u = cc in ap (λ (x : Version). x.end) (sym same)
+newest-end : (end : Option ℕ) (base : DeviceState) (o : ℕ) (history : List FinishRecord) (u : Version) → chosen None (versions_to end base o history) ≡ Some u → u.end ≡ end
+newest-end end base o [] u e = let same : record { writer = base.number; begin = base.clock; end = end; words = object_words base.objects o } ≡ u = cc in ap (λ (x : Version). x.end) (sym same)
 newest-end end base o (i ∷ history) u e = go (newest-end end base o history u) (written i.run.writes o) e
   where
     go : (chosen None (versions_to end base o history) ≡ Some u → u.end ≡ end) → (w : Option (List ℕ)) → chosen None (tops end base o i history w) ≡ Some u → u.end ≡ end
@@ -45,7 +45,7 @@ meets-place : (v : Version) (i : Interval) → meet v i ≡ true → is_empty (w
 meets-place v i h = below_both (max v.begin i.lo) v.end i.hi h
 
 -- and the chosen version meets it
-pub chosen-place : (base : Base) (history : List Item) (o : ℕ) (i : Interval) (v : Version) → IsNumbered base history → is_empty i ≡ false → chosen i.hi (versions base o history) ≡ Some v → is_empty (within (Some v) i) ≡ false
+pub chosen-place : (base : DeviceState) (history : List FinishRecord) (o : ℕ) (i : Interval) (v : Version) → IsNumbered base history → is_empty i ≡ false → chosen i.hi (versions base o history) ≡ Some v → is_empty (within (Some v) i) ≡ false
 chosen-place base history o i v n ne e = go i.hi refl ne e
   where
     go : (hi : Option ℕ) → i.hi ≡ hi → is_reached i.lo hi ≡ false → chosen hi (versions base o history) ≡ Some v → is_empty (within (Some v) (record { lo = i.lo; hi = i.hi })) ≡ false
@@ -56,7 +56,7 @@ chosen-place base history o i v n ne e = go i.hi refl ne e
         (chosen-meets i.lo hi (leb-false hi i.lo ne) base o history n None tt v e) e refl))
 
 -- what ends at some point has an end, and so has all that is older
-all_ended : (p : ℕ) (base : Base) (o : ℕ) (history : List Item) → AllByRecursion (λ v. is_none v.end ≡ false) (versions_to (Some p) base o history)
+all_ended : (p : ℕ) (base : DeviceState) (o : ℕ) (history : List FinishRecord) → AllByRecursion (λ v. is_none v.end ≡ false) (versions_to (Some p) base o history)
 all_ended p base o [] = (refl, tt)
 all_ended p base o (i ∷ history) =
     elim (written i.run.writes o) as (λ w. AllByRecursion (λ v. is_none v.end ≡ false) (tops (Some p) base o i history w)) [
@@ -64,7 +64,7 @@ all_ended p base o (i ∷ history) =
       | Some words ↦ (refl, all_ended i.point base o history)
     ]
 
-older_ended : (base : Base) (o : ℕ) (history : List Item) → AllByRecursion (λ v. is_none v.end ≡ false) (older (versions base o history))
+older_ended : (base : DeviceState) (o : ℕ) (history : List FinishRecord) → AllByRecursion (λ v. is_none v.end ≡ false) (older (versions base o history))
 older_ended base o [] = tt
 older_ended base o (i ∷ history) =
     elim (written i.run.writes o) as (λ w. AllByRecursion (λ v. is_none v.end ≡ false) (older (tops None base o i history w))) [
@@ -90,5 +90,5 @@ first_unended (x ∷ xs) n u v h c d e = go (eqb x.writer n) refl e
         rw (ne_eqb n u.writer other) (found (λ v. is_none v.end ≡ false) n xs v h e)
 
 -- the version that was read has not ended just where its writer is that of the newest
-pub newest-read : (base : Base) (history : List Item) (r : Read) (u v : Version) → version_read base history r ≡ Some v → chosen None (versions base r.object history) ≡ Some u → is_newest (Some v) ≡ eqb r.writer u.writer
+pub newest-read : (base : DeviceState) (history : List FinishRecord) (r : Read) (u v : Version) → version_read base history r ≡ Some v → chosen None (versions base r.object history) ≡ Some u → is_newest (Some v) ≡ eqb r.writer u.writer
 newest-read base history r u v e c = first_unended (versions base r.object history) r.writer u v (older_ended base r.object history) c (newest-end None base r.object history u c) e

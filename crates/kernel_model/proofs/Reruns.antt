@@ -3,7 +3,7 @@ use Rattle.std.proofs.Common.{◌≡◌, ℕ, ◌<◌, Bool, true, false, cond, 
 use Rattle.std.specs.Prelude.{◌&&◌, map}
 use Rattle.std.specs.List.{AllByRecursion}
 use Rattle.std.proofs.lemmas.Bool.{le-ltb}
-use Rattle.kernel_model.specs.Items.{Item, entry_of, listing, placed, precedes, serial_order}
+use Rattle.kernel_model.specs.Items.{FinishRecord, entry_of, listing, placed, precedes, serial_order}
 use Rattle.kernel_model.specs.EntryReplay.{Place, Rerun, entry_order, put_in_order}
 use Rattle.kernel_model.proofs.EntryOrder.{order_last}
 
@@ -19,7 +19,7 @@ unfoldable pub put_rerun : Rerun → List Rerun → List Rerun
 put_rerun r [] = r ∷ []
 put_rerun r (x ∷ xs) = cond (precedes r.item x.item) (r ∷ x ∷ xs) (x ∷ put_rerun r xs)
 
-unfoldable pub reruns_of : List Item → List Rerun
+unfoldable pub reruns_of : List FinishRecord → List Rerun
 reruns_of [] = []
 reruns_of (i ∷ history) = put_rerun (record { place = length history; item = i }) (reruns_of history)
 
@@ -41,15 +41,15 @@ items-put r (x ∷ xs) = go (items-put r xs) (precedes r.item x.item)
     go : map (λ r. r.item) (put_rerun r xs) ≡ placed r.item (map (λ r. r.item) xs) → (b : Bool) →
         map (λ r. r.item) (cond b (r ∷ x ∷ xs) (x ∷ put_rerun r xs)) ≡ cond b (r.item ∷ x.item ∷ map (λ r. r.item) xs) (x.item ∷ placed r.item (map (λ r. r.item) xs))
     go rest true = refl
-    go rest false = ap (λ (is : List Item). x.item ∷ is) rest
+    go rest false = ap (λ (is : List FinishRecord). x.item ∷ is) rest
 
-pub items-reruns : (history : List Item) → map (λ r. r.item) (reruns_of history) ≡ serial_order history
+pub items-reruns : (history : List FinishRecord) → map (λ r. r.item) (reruns_of history) ≡ serial_order history
 unfolding reruns_of
 items-reruns [] = refl
 items-reruns (i ∷ history) = items-put (record { place = length history; item = i }) (reruns_of history) ∙ ap (placed i) (items-reruns history)
 
 -- the places of it
-pub reruns_below : (history : List Item) → AllByRecursion (λ r. r.place < length history) (reruns_of history)
+pub reruns_below : (history : List FinishRecord) → AllByRecursion (λ r. r.place < length history) (reruns_of history)
 unfolding reruns_of
 reruns_below [] = tt
 reruns_below (i ∷ history) = put_rerun-all (λ r. r.place < length (i ∷ history)) (record { place = length history; item = i }) (reruns_of history) (omega arith) (below (reruns_of history) (reruns_below history))
@@ -77,11 +77,11 @@ places-put r (x ∷ xs) h = rw (same_test r.item.point x.item.point r.item.numbe
     go rest true = refl
     go rest false = ap (λ (ps : List Place). place_of x ∷ ps) rest
 
-pub length-listing : (history : List Item) → length (listing history) ≡ length history
+pub length-listing : (history : List FinishRecord) → length (listing history) ≡ length history
 length-listing [] = refl
 length-listing (i ∷ history) = omega (arith, length-append (listing history) (entry_of i ∷ []), length-listing history)
 
-pub places-reruns : (history : List Item) → map place_of (reruns_of history) ≡ entry_order (listing history)
+pub places-reruns : (history : List FinishRecord) → map place_of (reruns_of history) ≡ entry_order (listing history)
 unfolding reruns_of
 places-reruns [] = refl
 places-reruns (i ∷ history) =

@@ -4,7 +4,7 @@ use Rattle.std.specs.Prelude.{option_map}
 use Rattle.std.proofs.lemmas.List.{length-replicate, length-set}
 use Rattle.std.proofs.lemmas.Bool.{ltb-true}
 use Rattle.kernel_model.specs.Sizes.{Sizes}
-use Rattle.kernel_model.specs.Effects.{Trap, words_of}
+use Rattle.kernel_model.specs.Effects.{Trap, object_words}
 use Rattle.kernel_model.specs.Runs.{Step, Went, Reads, Writes, Spawns, Ends}
 use Rattle.kernel_model.specs.Fit.{IsMachine, IsOutcome, IsWrite, IsSetUp}
 use Rattle.kernel_model.specs.WorkedTasks.{Op, Work, Add, Take, Put, PutAt, Fork, Stop, StopSum, Spent, Task, machine_of, step_of, toy, with_first}
@@ -89,7 +89,7 @@ set_up-adding = record {
   };
 }
   where
-    at : (o : ℕ) → o < 1 → length (words_of adding.base.objects o) ≡ 1
+    at : (o : ℕ) → o < 1 → length (object_words adding.base.objects o) ≡ 1
     at zero l = refl
     at (suc o) l = absurd (omega (arith, l))
 
@@ -111,7 +111,7 @@ set_up-copy_and_put = record {
   };
 }
   where
-    at : (o : ℕ) → o < 2 → length (words_of copy_and_put.base.objects o) ≡ 1
+    at : (o : ℕ) → o < 2 → length (object_words copy_and_put.base.objects o) ≡ 1
     at zero l = refl
     at (suc zero) l = refl
     at (suc (suc o)) l = absurd (omega (arith, l))
@@ -134,7 +134,7 @@ set_up-resumed_later = record {
   };
 }
   where
-    at : (o : ℕ) → o < 2 → length (words_of resumed_later.base.objects o) ≡ 1
+    at : (o : ℕ) → o < 2 → length (object_words resumed_later.base.objects o) ≡ 1
     at zero l = refl
     at (suc zero) l = refl
     at (suc (suc o)) l = absurd (omega (arith, l))

@@ -1,15 +1,15 @@
 -- What a table may keep of who touched an object, in place of the listing: this project's own.
 use Rattle.std.specs.Prelude.{ℕ, max, List, [], ◌∷◌, Option, Some, None, if◌then◌else◌}
 use Rattle.kernel_model.specs.Effects.{Write}
-use Rattle.kernel_model.specs.Items.{Item}
+use Rattle.kernel_model.specs.Items.{FinishRecord}
 use Rattle.kernel_model.specs.Intervals.{Interval, touches, last_touch}
 
 -- the bound of an object: the greatest point of those that read or wrote it, or else the floor, which is the clock at the last boot
-abbrev pub bound_of : ℕ → ℕ → List Item → ℕ
+abbrev pub bound_of : ℕ → ℕ → List FinishRecord → ℕ
 bound_of floor o history = max floor (last_touch o history)
 
 -- with the touch of a finish that joins, if one does
-abbrev pub with_touch : Option Item → ℕ → ℕ → ℕ
+abbrev pub with_touch : Option FinishRecord → ℕ → ℕ → ℕ
 with_touch None o bound = bound
 with_touch (Some i) o bound = if touches i o then max i.point bound else bound
 

@@ -2,8 +2,8 @@
 use Rattle.std.specs.Prelude.{◌≡◌, ℕ, ◌+◌, ◌==◌, max, nat_lt, Bool, false, ◌&&◌, ◌||◌, List, [], ◌∷◌, length, map, sum_by, Option, Some, None, if◌then◌else◌}
 use Rattle.std.specs.List.{enumerate_from}
 use Rattle.kernel_model.specs.Effects.{Outcome, Exit, Trap, Spawn, Objects, Run, Programs}
-use Rattle.kernel_model.specs.Items.{Item, Entry}
-use Rattle.kernel_model.specs.Replay.{Base, Tables, task_under, tables_of, after, after_all}
+use Rattle.kernel_model.specs.Items.{FinishRecord, Entry}
+use Rattle.kernel_model.specs.Replay.{DeviceState, Tables, task_under, tables_of, after, after_all}
 use Rattle.kernel_model.specs.Serial.{InIdOrder}
 
 -- an entry, and its place in the listing
@@ -42,26 +42,26 @@ is_same_outcome (Trap a) (Trap b) = a == b
 is_same_outcome _ _ = false
 
 -- the finish of an entry whose whole run is this
-abbrev pub item_with : Entry → Run → Item
+abbrev pub item_with : Entry → Run → FinishRecord
 item_with e run = record { number = e.number; task = e.task; point = e.point; first = e.first; run = run }
 
 -- if the run ends as the entry says
-abbrev pub item_if_same : Entry → Run → Option Item
+abbrev pub item_if_same : Entry → Run → Option FinishRecord
 item_if_same e run = if is_same_outcome run.outcome e.outcome then Some (item_with e run) else None
 
 -- if its task is open
-abbrev pub item_if_open : Programs → Objects → Entry → Option Spawn → Option Item
+abbrev pub item_if_open : Programs → Objects → Entry → Option Spawn → Option FinishRecord
 item_if_open whole objects e None = None
 item_if_open whole objects e (Some task) = item_if_same e (whole task.program task.arg objects)
 
 -- the finish of an entry on these tables: its task is open, and its whole run ends as it says
-abbrev pub item_on : Programs → Tables → Entry → Option Item
+abbrev pub item_on : Programs → Tables → Entry → Option FinishRecord
 item_on whole t e = item_if_open whole t.objects e (t.tasks e.task)
 
 -- a finish that was run again, and its place in the listing
 pub record Rerun : Type 0 where
   pub place : ℕ
-  pub item : Item
+  pub item : FinishRecord
 
 -- what a replay comes to
 pub data Replayed : Type 0 where
@@ -82,7 +82,7 @@ replayed_on whole t (p ∷ ps) = elim (item_on whole t p.entry) [
 ]
 
 -- the serial replay of a listing
-abbrev pub replay : Programs → Base → List Entry → Replayed
+abbrev pub replay : Programs → DeviceState → List Entry → Replayed
 replay whole base entries = replayed_on whole (tables_of base) (entry_order entries)
 
 -- the tables after some finishes
@@ -110,7 +110,7 @@ latest clock [] = clock
 latest clock (e ∷ entries) = max e.point (latest clock entries)
 
 -- f is the state that these entries leave, where the replay found these finishes
-pub record Leaves (base : Base) (entries : List Entry) (reruns : List Rerun) (f : Base) : Type 0 where
+pub record Leaves (base : DeviceState) (entries : List Entry) (reruns : List Rerun) (f : DeviceState) : Type 0 where
   pub objects : f.objects ≡ (after_reruns reruns (tables_of base)).objects
   pub tasks : (id : ℕ) → task_under f.tasks id ≡ (after_reruns reruns (tables_of base)).tasks id
   pub by_id : InIdOrder f.tasks
@@ -119,7 +119,7 @@ pub record Leaves (base : Base) (entries : List Entry) (reruns : List Rerun) (f 
   pub next : f.next ≡ base.next + sum_by (λ r. length r.item.run.spawns) reruns
 
 -- the entries replay and leave f, and their numbers and the ids of their children follow one another
-pub record AreSerial (whole : Programs) (base : Base) (entries : List Entry) (f : Base) : Type 0 where
+pub record AreSerial (whole : Programs) (base : DeviceState) (entries : List Entry) (f : DeviceState) : Type 0 where
   pub reruns : List Rerun
   pub good : replay whole base entries ≡ Good reruns
   pub numbers : NumbersFollow base.number entries

@@ -1,7 +1,7 @@
 -- A caller at work while the others hold nothing: this project's own.
 use Rattle.std.specs.Prelude.{◌≡◌, ℕ, List, Option, None, get_or}
-use Rattle.kernel_model.specs.Items.{Item}
-use Rattle.kernel_model.specs.Replay.{Base}
+use Rattle.kernel_model.specs.Items.{FinishRecord}
+use Rattle.kernel_model.specs.Replay.{DeviceState}
 use Rattle.kernel_model.specs.Intervals.{read_interval}
 use Rattle.kernel_model.specs.Verdicts.{Empty, Slots}
 use Rattle.kernel_model.specs.Live.{Mark, Answer, IsStale, Refused}
@@ -11,7 +11,7 @@ abbrev pub HoldsAlone : ℕ → List (Option Mark) → Type 0
 HoldsAlone n marks = (k : ℕ) → (k ≡ n → ⊥) → get_or marks k None ≡ None
 
 -- no version that the attempt read has ended
-abbrev pub HasNoEnd : Base → List Item → Mark → Type 0
+abbrev pub HasNoEnd : DeviceState → List FinishRecord → Mark → Type 0
 HasNoEnd base history m = (read_interval base history m.start m.reads).hi ≡ None
 
 -- no answer to an attempt that met others

@@ -3,7 +3,7 @@ use Rattle.std.specs.Prelude.{◌≡◌, ℕ, List, [], ◌∷◌, map}
 use Rattle.kernel_model.specs.Effects.{Exit, Objects}
 use Rattle.kernel_model.specs.Runs.{whole_run}
 use Rattle.kernel_model.specs.Items.{Entry}
-use Rattle.kernel_model.specs.Replay.{Base, tables_of}
+use Rattle.kernel_model.specs.Replay.{DeviceState, tables_of}
 use Rattle.kernel_model.specs.EntryReplay.{Replayed, Good, Wrong, after_reruns, replay}
 use Rattle.kernel_model.specs.WorkedTasks.{entry, Scene, machine_of}
 use Rattle.kernel_model.specs.WorkedRuns.{copy_and_put}
@@ -18,7 +18,7 @@ places_in (Good reruns) = map (λ r. r.place) reruns
 places_in (Wrong place) = []
 
 -- the objects that a good replay leaves
-abbrev pub objects_in : Base → Replayed → Objects
+abbrev pub objects_in : DeviceState → Replayed → Objects
 objects_in base (Good reruns) = (after_reruns reruns (tables_of base)).objects
 objects_in base (Wrong place) = []
 

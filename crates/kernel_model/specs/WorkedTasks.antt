@@ -2,9 +2,9 @@
 use Rattle.std.specs.Prelude.{ℕ, zero, suc, ◌+◌, ◌/◌, ◌%◌, nat_lt, List, [], ◌∷◌, ◌++◌, length, get_or, set, take, map, replicate, Option, Some, None, is_some, option_map, if◌then◌else◌}
 use Rattle.kernel_model.specs.Sizes.{Sizes}
 use Rattle.kernel_model.specs.Effects.{Outcome, Exit, Trap, Spawn, Objects}
-use Rattle.kernel_model.specs.Runs.{Reads, Spawns, Writes, Step, Went, Ends, Steps, fuel_cause}
-use Rattle.kernel_model.specs.Items.{Item, Entry, serial_order}
-use Rattle.kernel_model.specs.Replay.{TaskRec, Base, tables_of, after_all}
+use Rattle.kernel_model.specs.Runs.{Reads, Spawns, Writes, Step, Went, Ends, TaskMachine, fuel_cause}
+use Rattle.kernel_model.specs.Items.{FinishRecord, Entry, serial_order}
+use Rattle.kernel_model.specs.Replay.{TaskRec, DeviceState, tables_of, after_all}
 use Rattle.kernel_model.specs.Turns.{Line, Nothing}
 use Rattle.kernel_model.specs.Events.{Power, State, Event, CoreStep, opened, state_after}
 use Rattle.kernel_model.specs.Durable.{durable, listed}
@@ -47,7 +47,7 @@ step_of sizes (StopSum ∷ ops) sum = Ends (Exit sum)
 step_of sizes (Spent ∷ ops) sum = Ends (Trap fuel_cause)
 
 -- the machine of these tasks, where each program with an argument has some instructions
-abbrev pub toy : Sizes → (ℕ → ℕ → List Op) → Steps Task
+abbrev pub toy : Sizes → (ℕ → ℕ → List Op) → TaskMachine Task
 toy sizes program = record {
   load = λ p arg. record { ops = program p arg; sum = 0; place = None };
   step = λ m. step_of sizes m.ops m.sum;
@@ -103,11 +103,11 @@ abbrev pub entry : ℕ → ℕ → ℕ → Outcome → ℕ → Entry
 entry number task point outcome first = record { number = number; task = task; point = point; first = first; outcome = outcome }
 
 -- a state
-abbrev pub state : Objects → List TaskRec → ℕ → ℕ → ℕ → Base
+abbrev pub state : Objects → List TaskRec → ℕ → ℕ → ℕ → DeviceState
 state objects tasks clock number next = record { objects = objects; tasks = tasks; clock = clock; number = number; next = next }
 
 -- the state after a format: the tasks have the ids from 1 on
-abbrev pub formatted : Objects → List TaskRec → Base
+abbrev pub formatted : Objects → List TaskRec → DeviceState
 formatted objects tasks = state objects tasks 0 0 (length tasks + 1)
 
 -- the lines that print something
@@ -120,13 +120,13 @@ shown (line ∷ lines) = line ∷ shown lines
 pub record Scene : Type 0 where
   pub sizes : Sizes
   pub program : ℕ → ℕ → List Op
-  pub base : Base
+  pub base : DeviceState
   pub cores : ℕ
   pub power : Power
   pub boots : ℕ
 
 -- the machine of a scene
-abbrev pub machine_of : Scene → Steps Task
+abbrev pub machine_of : Scene → TaskMachine Task
 machine_of x = toy x.sizes x.program
 
 -- before the first event
@@ -138,17 +138,17 @@ abbrev pub shows : Scene → List Event → List Line
 shows x events = shown (report_lines (machine_of x) x.sizes x.base (first_of x) events)
 
 -- what is durable after some events: the state, and the boots
-abbrev pub leaves : Scene → List Event → Base × ℕ
+abbrev pub leaves : Scene → List Event → DeviceState × ℕ
 leaves x events = let d = durable x.base None (state_after (machine_of x) x.sizes x.base (first_of x) events) in (d.state, d.boots)
 
 -- the finishes that are durable then
-abbrev pub finishes_of : Scene → List Event → List Item
+abbrev pub finishes_of : Scene → List Event → List FinishRecord
 finishes_of x events = listed (state_after (machine_of x) x.sizes x.base (first_of x) events)
 
 -- the tasks of some finishes in serial order
-abbrev pub order_of : List Item → List ℕ
+abbrev pub order_of : List FinishRecord → List ℕ
 order_of history = map (λ i. i.task) (serial_order history)
 
 -- the objects that some finishes leave, put in serial order
-abbrev pub replayed : Base → List Item → Objects
+abbrev pub replayed : DeviceState → List FinishRecord → Objects
 replayed base history = (after_all (serial_order history) (tables_of base)).objects

@@ -2,9 +2,9 @@
 
 ghost use Rattle.std.specs.Prelude.{ℕ, ◌≡◌, ◌≤◌, ◌+◌, ◌++◌, ◌∷◌, [], ◌⊎◌, List, Option, length, take, slice_get};
 ghost use Rattle.std.specs.Option.{option_to_list};
-ghost use Rattle.kernel_model.specs.Runs.{Steps};
-ghost use Rattle.kernel_model.specs.Items.{Item, listing};
-ghost use Rattle.kernel_model.specs.Replay.{Base};
+ghost use Rattle.kernel_model.specs.Runs.{TaskMachine};
+ghost use Rattle.kernel_model.specs.Items.{FinishRecord, listing};
+ghost use Rattle.kernel_model.specs.Replay.{DeviceState};
 ghost use Rattle.kernel_model.specs.Sizes.{Sizes};
 ghost use Rattle.kernel_model.specs.Turns.{Line};
 ghost use Rattle.kernel_model.specs.Events.{Event, State, lines_of, event_step, state_after};
@@ -14,7 +14,7 @@ ghost use Rattle.kernel_model.specs.Execution.{Execution, start_of, state_at, wr
 
 /// One event more leads to the next state, and adds its line and its writes.
 pub fn one_event_more<M>()
-    ensures { (steps : Steps M) (sizes : Sizes) (base : Base) (s : State M) (events : List Event) (n : ℕ) (e : Event) → slice_get events n ≡ Option.Some e
+    ensures { (steps : TaskMachine M) (sizes : Sizes) (base : DeviceState) (s : State M) (events : List Event) (n : ℕ) (e : Event) → slice_get events n ≡ Option.Some e
         → (let t = state_after steps sizes base s (take n events) in
         (state_after steps sizes base s (take (n + 1) events) ≡ (event_step steps sizes base t e).0)
         × (lines_of steps sizes base s (take (n + 1) events) ≡ lines_of steps sizes base s (take n events) ++ (event_step steps sizes base t e).1 ∷ [])
@@ -23,33 +23,33 @@ pub fn one_event_more<M>()
 
 /// The lines of the first events are the first lines, one for each event.
 pub fn first_lines<M>()
-    ensures { (steps : Steps M) (sizes : Sizes) (base : Base) (s : State M) (events : List Event) (n : ℕ)
+    ensures { (steps : TaskMachine M) (sizes : Sizes) (base : DeviceState) (s : State M) (events : List Event) (n : ℕ)
         → (lines_of steps sizes base s (take n events) ≡ take n (lines_of steps sizes base s events)) × (length (lines_of steps sizes base s events) ≡ length events) }
 {}
 
 /// More events make no fewer writes, and none make more than all.
 pub fn writes_only_grow<M>()
-    ensures { (steps : Steps M) (sizes : Sizes) (base : Base) (s : State M) (events : List Event) (m : ℕ)
+    ensures { (steps : TaskMachine M) (sizes : Sizes) (base : DeviceState) (s : State M) (events : List Event) (m : ℕ)
         → ((n : ℕ) → m ≤ n → writes_after steps sizes base s (take m events) ≤ writes_after steps sizes base s (take n events))
         × (writes_after steps sizes base s (take m events) ≤ writes_after steps sizes base s events) }
 {}
 
 /// Each count up to the writes of a run is that of some number of its events.
 pub fn each_count_is_reached<M>()
-    ensures { (steps : Steps M) (sizes : Sizes) (base : Base) (s : State M) (events : List Event) (k : ℕ) → k ≤ writes_after steps sizes base s events
+    ensures { (steps : TaskMachine M) (sizes : Sizes) (base : DeviceState) (s : State M) (events : List Event) (k : ℕ) → k ≤ writes_after steps sizes base s events
         → (n : ℕ) × (n ≤ length events) × (writes_after steps sizes base s (take n events) ≡ k) }
 {}
 
 /// After a call that was lost within event n, the device has the writes of the first n events, or of one event more.
 pub fn lost_call_leaves<M>()
-    ensures { (steps : Steps M) (sizes : Sizes) (base : Base) (s : State M) (events : List Event) (n k : ℕ)
+    ensures { (steps : TaskMachine M) (sizes : Sizes) (base : DeviceState) (s : State M) (events : List Event) (n k : ℕ)
         → writes_after steps sizes base s (take n events) ≤ k → k ≤ writes_after steps sizes base s (take (n + 1) events)
         → (k ≡ writes_after steps sizes base s (take n events)) ⊎ (k ≡ writes_after steps sizes base s (take (n + 1) events)) }
 {}
 
 /// What is listed stays listed, and in its place.
 pub fn listing_only_grows<M>()
-    ensures { (x : Execution M) (m n : ℕ) → m ≤ n → (newer : List Item) × (listed (state_at x n) ≡ newer ++ listed (state_at x m))
+    ensures { (x : Execution M) (m n : ℕ) → m ≤ n → (newer : List FinishRecord) × (listed (state_at x n) ≡ newer ++ listed (state_at x m))
         × (listing (listed (state_at x n)) ≡ listing (listed (state_at x m)) ++ listing newer) }
 {}
 

@@ -1,14 +1,14 @@
 -- What a sink took, piece by piece.
 use Rattle.std.proofs.Common.{◌≡◌, ℕ, ◌+◌, List, ◌++◌, Option, Some, None, refl, ap, ◌∙◌, sym, take, drop, take-add, append_assoc, ◌≤◌, ◌-◌, length, arith}
 use Rattle.std.proofs.lemmas.Grind.{common_steps}
-use Rattle.nv_base.specs.Streams.{PutsText, Stream, grown}
+use Rattle.nv_base.specs.Streams.{PutsText, Stream, appended}
 
-grown-grown : (o : Option (List ℕ)) (a b : List ℕ) → grown (grown o a) b ≡ grown o (a ++ b)
+grown-grown : (o : Option (List ℕ)) (a b : List ℕ) → appended (appended o a) b ≡ appended o (a ++ b)
 grown-grown None a b = refl
 grown-grown (Some x) a b = ap (λ y. Some y) (append_assoc x a b)
 
-put_more : (o p q : Option (List ℕ)) (bytes : List ℕ) (i n : ℕ) → p ≡ grown o (take i bytes) → q ≡ grown p (take n (drop i bytes)) → q ≡ grown o (take (i + n) bytes)
-put_more o p q bytes i n e f = f ∙ ap (λ x. grown x (take n (drop i bytes))) e ∙ grown-grown o _ _ ∙ ap (grown o) (sym (take-add i n bytes))
+put_more : (o p q : Option (List ℕ)) (bytes : List ℕ) (i n : ℕ) → p ≡ appended o (take i bytes) → q ≡ appended p (take n (drop i bytes)) → q ≡ appended o (take (i + n) bytes)
+put_more o p q bytes i n e f = f ∙ ap (λ x. appended x (take n (drop i bytes))) e ∙ grown-grown o _ _ ∙ ap (appended o) (sym (take-add i n bytes))
 
 cut : (bytes : List ℕ) (i n : ℕ) → i ≤ length bytes → n ≤ length (take (length bytes - i) (drop i bytes)) → take n (take (length bytes - i) (drop i bytes)) ≡ take n (drop i bytes)
 cut bytes i n h k = grind (arith, common_steps)
@@ -17,6 +17,6 @@ cut bytes i n h k = grind (arith, common_steps)
 pub put_rest : (o p q : Stream) (bytes : List ℕ) (i n : ℕ) → i ≤ length bytes → n ≤ length (take (length bytes - i) (drop i bytes))
     → PutsText (take i bytes) o p → PutsText (take n (take (length bytes - i) (drop i bytes))) p q → PutsText (take (i + n) bytes) o q
 put_rest o p q bytes i n h k e f = record {
-  put = put_more o.bytes p.bytes q.bytes bytes i n e.put (f.put ∙ ap (grown p.bytes) (cut bytes i n h k));
+  put = put_more o.bytes p.bytes q.bytes bytes i n e.put (f.put ∙ ap (appended p.bytes) (cut bytes i n h k));
   still = f.still ∙ e.still;
 }

@@ -13,6 +13,6 @@ unfoldable pub objects_of : ℕ → List ℕ
 objects_of word = ones_from 128 0 word
 
 -- the word of some objects
-abbrev pub word_of : List ℕ → ℕ
-word_of [] = 0
-word_of (x ∷ xs) = 2 ^ x + word_of xs
+abbrev pub bits_word : List ℕ → ℕ
+bits_word [] = 0
+bits_word (x ∷ xs) = 2 ^ x + bits_word xs

@@ -8,8 +8,8 @@ pub record Stream : Type 0 where
   pub faults : ℕ
 
 -- the count of faults is greater than it was, or stands at the last value of its type
-abbrev pub Rose : ℕ → ℕ → Type 0
-Rose old new = (old ≤ new) × ((old < new) ⊎ (new ≡ 2 ^ 64 - 1))
+abbrev pub FaultCounted : ℕ → ℕ → Type 0
+FaultCounted old new = (old ≤ new) × ((old < new) ⊎ (new ≡ 2 ^ 64 - 1))
 
 -- ---- the bytes left, before and behind
 
@@ -40,20 +40,20 @@ AtMostGone old new n = (m : ℕ) × (m ≤ n) × AreGone old new m
 -- ---- the bytes taken, before and behind
 
 -- what was taken before, and the piece behind it
-abbrev pub grown : Option (List ℕ) → List ℕ → Option (List ℕ)
-grown None piece = None
-grown (Some taken) piece = Some (taken ++ piece)
+abbrev pub appended : Option (List ℕ) → List ℕ → Option (List ℕ)
+appended None piece = None
+appended (Some taken) piece = Some (taken ++ piece)
 
 -- a front of the piece was put, and nothing else: not all of the piece
 abbrev pub PutFront : Option (List ℕ) → Option (List ℕ) → List ℕ → Type 0
-PutFront old new piece = (n : ℕ) × (n < length piece) × (new ≡ grown old (take n piece))
+PutFront old new piece = (n : ℕ) × (n < length piece) × (new ≡ appended old (take n piece))
 
 -- ---- what calls make of a source or a sink
 
 -- a call failed, and moved nothing
 pub record Fails (old new : Stream) : Type 0 where
   pub kept : new.bytes ≡ old.bytes
-  pub counted : Rose old.faults new.faults
+  pub counted : FaultCounted old.faults new.faults
 
 -- a call took n bytes into the buffer
 pub record Takes (n : ℕ) (buffer : List ℕ) (old new : Stream) : Type 0 where
@@ -67,10 +67,10 @@ pub record ReadsAll (bytes : List ℕ) (old new : Stream) : Type 0 where
 
 -- the text was put whole, and no call failed
 pub record PutsText (text : List ℕ) (old new : Stream) : Type 0 where
-  pub put : new.bytes ≡ grown old.bytes text
+  pub put : new.bytes ≡ appended old.bytes text
   pub still : new.faults ≡ old.faults
 
 -- a call failed, before all of the text was put
 pub record PutsFront (text : List ℕ) (old new : Stream) : Type 0 where
   pub front : PutFront old.bytes new.bytes text
-  pub counted : Rose old.faults new.faults
+  pub counted : FaultCounted old.faults new.faults

@@ -1,7 +1,7 @@
 // What the kernel tells: how a task ended, the entry of a finish, and the line of a turn.
 
 use crate::causes::TrapCause;
-use crate::names::{CoreId, ObjId, Point, ProgId, Seq, TaskId};
+use crate::ids::{CoreId, ObjId, Point, ProgId, Seq, TaskId};
 
 /// How a task ended.
 #[derive(Clone, Copy, PartialEq, Eq, Debug)]

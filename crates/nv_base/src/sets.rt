@@ -4,7 +4,7 @@ ghost use Rattle.std.specs.Prelude.{◌≡◌, ◌<◌, []};
 ghost use Rattle.object_sets.specs.ObjectSets.{is_among, with_object, AreBelow, IsIncreasing};
 
 use crate::limits::MAX_OBJECTS;
-use crate::names::ObjId;
+use crate::ids::ObjId;
 use std::marker::Model;
 
 /// A set of objects below 128, which contracts see as the increasing list of their numbers.
@@ -16,8 +16,8 @@ pub struct ObjSet {
 
 impl Model for ObjSet {
     ghost use Rattle.std.specs.Prelude.{ℕ, List, ◌<◌, ◌^◌};
-    ghost use Rattle.nv_base.specs.Bits.{objects_of, word_of};
-    ghost use Rattle.nv_base.specs.WordBack.{word_of-objects_of};
+    ghost use Rattle.nv_base.specs.Bits.{objects_of, bits_word};
+    ghost use Rattle.nv_base.specs.WordBack.{bits_word-objects_of};
     ghost use Rattle.std.proofs.Common.{ap};
 
     ghost Value = { List ℕ };
@@ -26,9 +26,9 @@ impl Model for ObjSet {
 
     ghost invariant = { λ a. a.bits < 2 ^ 128 };
 
-    ghost inverse = { λ xs. record { bits = word_of xs } };
+    ghost inverse = { λ xs. record { bits = bits_word xs } };
 
-    ghost inverse_ok = { λ a h. ap (λ b. record { bits = b }) (word_of-objects_of a.bits h) };
+    ghost inverse_ok = { λ a h. ap (λ b. record { bits = b }) (bits_word-objects_of a.bits h) };
 }
 
 impl ObjSet {

@@ -4,7 +4,7 @@
 ghost use Rattle.std.specs.Prelude.{◌≡◌, ◌≤◌, ◌<◌, IfOk, OnErr, OnOk, length};
 ghost use Rattle.std.specs.Io.KnownBytes.{ReadConsumes, WriteAppends};
 ghost use Rattle.nv_base.specs.StdStreams.{read_faults, reader_of, reader_seen, write_faults, writer_of, writer_seen};
-ghost use Rattle.nv_base.specs.Streams.{Rose};
+ghost use Rattle.nv_base.specs.Streams.{FaultCounted};
 
 use crate::streams::{Sink, SinkFailed, Source, SourceFailed};
 use std::io::{Read, Write};
@@ -18,7 +18,7 @@ fn read_some<R: Read>(
     ensures within { IfOk result (λ n. n ≤ length buf.new) }
     ensures bytes { ReadConsumes (R.remaining reader.old) (R.remaining reader.new) result buf.new }
     ensures still { OnOk result (count.new ≡ count.old) }
-    ensures failed { OnErr result (Rose count.old count.new) }
+    ensures failed { OnErr result (FaultCounted count.old count.new) }
 {
     match reader.read(buf) {
         Ok(n) => Ok(n),
@@ -36,7 +36,7 @@ fn write_some<W: Write>(writer: &mut W, count: &mut u64, piece: &[u8]) -> Result
     ensures some { IfOk result (λ n. 0 < length piece.now → 0 < n) }
     ensures bytes { WriteAppends (W.contents writer.old) (W.contents writer.new) result piece.now }
     ensures still { OnOk result (count.new ≡ count.old) }
-    ensures failed { OnErr result (Rose count.old count.new) }
+    ensures failed { OnErr result (FaultCounted count.old count.new) }
 {
     match writer.write(piece) {
         Ok(n) if n > 0 || piece.is_empty() => Ok(n),
@@ -72,7 +72,7 @@ impl<R: Read> Source for StdSource<R> {
         ensures within { IfOk result (λ n. n ≤ length buf.new) }
         ensures bytes { ReadConsumes (R.remaining (reader_of self.old)) (R.remaining (reader_of self.new)) result buf.new }
         ensures still { OnOk result (read_faults self.new ≡ read_faults self.old) }
-        ensures failed { OnErr result (Rose (read_faults self.old) (read_faults self.new)) }
+        ensures failed { OnErr result (FaultCounted (read_faults self.old) (read_faults self.new)) }
         ensures never_falls { read_faults self.old ≤ read_faults self.new }
     {
         read_some(&mut self.reader, &mut self.count, buf)
@@ -104,7 +104,7 @@ impl<W: Write> Sink for StdSink<W> {
         ensures some { IfOk result (λ n. 0 < length piece.now → 0 < n) }
         ensures bytes { WriteAppends (W.contents (writer_of self.old)) (W.contents (writer_of self.new)) result piece.now }
         ensures still { OnOk result (write_faults self.new ≡ write_faults self.old) }
-        ensures failed { OnErr result (Rose (write_faults self.old) (write_faults self.new)) }
+        ensures failed { OnErr result (FaultCounted (write_faults self.old) (write_faults self.new)) }
         ensures never_falls { write_faults self.old ≤ write_faults self.new }
     {
         write_some(&mut self.writer, &mut self.count, piece)

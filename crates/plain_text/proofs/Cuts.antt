@@ -7,7 +7,7 @@ use Rattle.std.proofs.lemmas.Option.{cond_some}
 use Rattle.std.proofs.lemmas.List.{take_all, drop_all}
 use Rattle.std.proofs.lemmas.List.Sums.{length-filter, count_by-le-length, fails_before_first, passes_at_first, prefix_len-le-length}
 use Rattle.std.proofs.lemmas.List.Splits.{slice_split_first, slice_split_none, slice_split-cons_yes, slice_split-cons_no, length-slice_split}
-use Rattle.plain_text.specs.Words.{is_blank, words_in, words_of, word_and_rest}
+use Rattle.plain_text.specs.Words.{is_blank, words_in, line_words, word_and_rest}
 
 abbrev is_feed : ℕ → Bool
 is_feed b = eqb b 10
@@ -103,8 +103,8 @@ word_found bytes rest i j e r n =
     sym whole ∙ rw ends (words_in-first rest some)
 
 -- the words before a comment
-pub words_of-cut : (line : List ℕ) → words_in (take (unwrap_or (position (λ b. eqb b 35) line) (length line)) line) ≡ words_of line
-words_of-cut line = rw (position-or (λ b. eqb b 35) line) refl
+pub line_words-cut : (line : List ℕ) → words_in (take (unwrap_or (position (λ b. eqb b 35) line) (length line)) line) ≡ line_words line
+line_words-cut line = rw (position-or (λ b. eqb b 35) line) refl
 
 -- a line has at most one word more than bytes
 pub words_few : (bytes : List ℕ) → length (words_in bytes) ≤ length bytes + 1

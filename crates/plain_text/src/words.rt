@@ -3,7 +3,7 @@
 ghost use Rattle.std.specs.Prelude.{◌≡◌, ◌∷◌, ◌==◌, [], not, length, option_map, position, MatchOption};
 ghost use Rattle.std.specs.Iterator.{YieldsFirstBy, item_count};
 ghost use Rattle.std.specs.List.{before_first};
-ghost use Rattle.plain_text.specs.Words.{is_blank as blank, is_plain as plain, words_of, words_in, word_and_rest};
+ghost use Rattle.plain_text.specs.Words.{is_blank as blank, is_plain as plain, line_words, words_in, word_and_rest};
 
 /// Words that stand between spaces and tabs.
 #[derive(Clone, Copy, Debug)]
@@ -48,7 +48,7 @@ impl<'a> Words<'a> {
 
     /// The words of a line, up to a comment, which begins with `#`.
     pub fn new(line: &'a [u8]) -> Words<'a>
-        ensures { words_left result ≡ words_of line.entry.now }
+        ensures { words_left result ≡ line_words line.entry.now }
     {
         let end = first_hash(line).unwrap_or(line.len());
         Words { rest: &line[..end] }

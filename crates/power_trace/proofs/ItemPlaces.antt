@@ -2,7 +2,7 @@
 use Rattle.std.proofs.Common.{◌≡◌, ℕ, zero, suc, ◌+◌, ◌-◌, ◌*◌, ◌<◌, ◌≤◌, List, [], ◌∷◌, ◌++◌, take, length, get_or, inl, inr, refl, ap, ◌∙◌, arith}
 use Rattle.std.specs.List.{AllByRecursion, slice_get}
 use Rattle.std.proofs.lemmas.Bool.{cases_lt}
-use Rattle.schedule_model.specs.Schedules.{StepItem, InOrder, Drawn}
+use Rattle.schedule_model.specs.Schedules.{StepItem, Steps, Mix}
 use Rattle.schedule_model.specs.CoreSteps.{item_steps, core_steps}
 use Rattle.schedule_model.specs.Limits.{step_count, steps_together, IsItem}
 use Rattle.schedule_model.proofs.StepLaws.{length-item_steps}
@@ -39,8 +39,8 @@ one_product a b h k = grind arith
 
 -- an item within the limits has a step
 pub some_step : (cores : ℕ) (item : StepItem) → IsItem cores item → 1 ≤ step_count item
-some_step cores (InOrder order times) p = one_product (length order) times p.0 p.1
-some_step cores (Drawn seed count) p = p
+some_step cores (Steps order times) p = one_product (length order) times p.0 p.1
+some_step cores (Mix seed count) p = p
 
 totals_rise : (cores : ℕ) (items : List StepItem) (i j : ℕ) → AllByRecursion (IsItem cores) items → i < j → j ≤ length items
     → steps_together (take i items) < steps_together (take j items)

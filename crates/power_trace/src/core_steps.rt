@@ -14,8 +14,8 @@ use std::marker::Model;
 /// The steps that are left of an item.
 #[derive(Debug, Drop)]
 pub(crate) enum ItemSteps<'a> {
-    InOrder(Sequence<'a>),
-    Drawn(Draw),
+    Steps(Sequence<'a>),
+    Mix(Draw),
 }
 
 impl<'a> ItemSteps<'a> {
@@ -28,8 +28,8 @@ impl<'a> ItemSteps<'a> {
             StepItem::Steps {
                 cores: order,
                 times,
-            } => ItemSteps::InOrder(Sequence::new(order.as_slice(), *times)),
-            StepItem::Mix { seed, count } => ItemSteps::Drawn(Draw::new(*seed, cores, *count)),
+            } => ItemSteps::Steps(Sequence::new(order.as_slice(), *times)),
+            StepItem::Mix { seed, count } => ItemSteps::Mix(Draw::new(*seed, cores, *count)),
         }
     }
 
@@ -37,8 +37,8 @@ impl<'a> ItemSteps<'a> {
         ensures { YieldsFirst steps_left self.old result self.new }
     {
         match self {
-            ItemSteps::InOrder(sequence) => sequence.next_core(),
-            ItemSteps::Drawn(draw) => draw.next_core(),
+            ItemSteps::Steps(sequence) => sequence.next_core(),
+            ItemSteps::Mix(draw) => draw.next_core(),
         }
     }
 }
@@ -74,7 +74,7 @@ impl<'a> CoreSteps<'a> {
     {
         CoreSteps {
             cores,
-            item: ItemSteps::InOrder(Sequence::new(&[], 0)),
+            item: ItemSteps::Steps(Sequence::new(&[], 0)),
             items,
         }
     }

@@ -1,21 +1,21 @@
 -- How long names are, and how many words an object has, in a set within the limits.
 use Rattle.std.proofs.Common.{ℕ, zero, suc, ◌<◌, ◌≤◌, length, List, [], ◌∷◌, get_or, map, arith}
 use Rattle.std.specs.List.{AllByRecursion}
-use Rattle.set_model.specs.Sets.{ObjectPart, ProgramPart, TaskSet, object_at, program_at}
+use Rattle.set_model.specs.Sets.{ObjPart, ProgPart, TaskSet, object_at, program_at}
 use Rattle.set_model.specs.Limits.{IsObject, IsTaskSet}
 use Rattle.set_model.specs.Names.{IsName, IsNamed}
 
-object_name : (objects : List ObjectPart) (none : ObjectPart) (o : ℕ) → AllByRecursion IsName (map (λ p. p.name) objects) → o < length objects → length (get_or objects o none).name ≤ 16
+object_name : (objects : List ObjPart) (none : ObjPart) (o : ℕ) → AllByRecursion IsName (map (λ p. p.name) objects) → o < length objects → length (get_or objects o none).name ≤ 16
 object_name [] none o h l = absurd (omega (arith, l))
 object_name (p ∷ objects) none zero h l = h.0.size.1
 object_name (p ∷ objects) none (suc o) h l = object_name objects none o h.1 (omega arith)
 
-program_name : (programs : List ProgramPart) (none : ProgramPart) (p : ℕ) → AllByRecursion IsName (map (λ q. q.name) programs) → p < length programs → length (get_or programs p none).name ≤ 16
+program_name : (programs : List ProgPart) (none : ProgPart) (p : ℕ) → AllByRecursion IsName (map (λ q. q.name) programs) → p < length programs → length (get_or programs p none).name ≤ 16
 program_name [] none p h l = absurd (omega (arith, l))
 program_name (q ∷ programs) none zero h l = h.0.size.1
 program_name (q ∷ programs) none (suc p) h l = program_name programs none p h.1 (omega arith)
 
-object_size : (objects : List ObjectPart) (none : ObjectPart) (o : ℕ) → AllByRecursion IsObject objects → o < length objects → (get_or objects o none).size ≤ 64
+object_size : (objects : List ObjPart) (none : ObjPart) (o : ℕ) → AllByRecursion IsObject objects → o < length objects → (get_or objects o none).size ≤ 64
 object_size [] none o h l = absurd (omega (arith, l))
 object_size (p ∷ objects) none zero h l = h.0.size.1
 object_size (p ∷ objects) none (suc o) h l = object_size objects none o h.1 (omega arith)

@@ -5,9 +5,9 @@ use Rattle.nv_base.specs.declared.causes.TrapCause.{TrapCause}
 use Rattle.nv_base.specs.declared.causes.TrapCause.TheVariants.{Illegal, Jump, Fetch, LoadAlign, Load, StoreAlign, Store, Break, Call, Object, CallAlign, CallRange, Program, Spawns, Fuel}
 use Rattle.kernel_model.specs.Effects.{Trap}
 use Rattle.kernel_model.specs.Fit.{IsOutcome}
-use Rattle.report_text.specs.Causes.{word_of}
+use Rattle.report_text.specs.Causes.{numbered_cause_word}
 
-pub word_of_cause : (cause : TrapCause) → word_of (cause_number cause) ≡ cause_word cause
+pub word_of_cause : (cause : TrapCause) → numbered_cause_word (cause_number cause) ≡ cause_word cause
 word_of_cause Illegal = refl
 word_of_cause Jump = refl
 word_of_cause Fetch = refl
@@ -24,7 +24,7 @@ word_of_cause Program = refl
 word_of_cause Spawns = refl
 word_of_cause Fuel = refl
 
-pub cause_named : (n : ℕ) → IsOutcome (Trap n) → (cause : TrapCause) × (cause_number cause ≡ n) × (word_of n ≡ cause_word cause)
+pub cause_named : (n : ℕ) → IsOutcome (Trap n) → (cause : TrapCause) × (cause_number cause ≡ n) × (numbered_cause_word n ≡ cause_word cause)
 cause_named zero h = absurd (omega arith)
 cause_named (suc zero) h = (Illegal, refl, refl)
 cause_named (suc (suc zero)) h = (Jump, refl, refl)

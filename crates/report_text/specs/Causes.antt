@@ -10,5 +10,5 @@ causes =
     Illegal ∷ Jump ∷ Fetch ∷ LoadAlign ∷ Load ∷ StoreAlign ∷ Store ∷ Break ∷ Call ∷ Object ∷ CallAlign ∷ CallRange ∷ Program ∷ Spawns ∷ Fuel ∷ []
 
 -- no cause has the number 0, nor one above the last: these have no word
-abbrev pub word_of : ℕ → List ℕ
-word_of number = get_or ([] ∷ map cause_word causes) number []
+abbrev pub numbered_cause_word : ℕ → List ℕ
+numbered_cause_word number = get_or ([] ∷ map cause_word causes) number []

@@ -7,7 +7,7 @@ use Rattle.kernel_model.specs.Items.{Entry}
 use Rattle.kernel_model.specs.Replay.{TaskRec}
 use Rattle.kernel_model.specs.Turns.{Line, Nothing, Start, Stale, RefuseEmpty, RefuseSlots, RefuseRecords, Finish, Found, Failed, Booted}
 use Rattle.set_model.specs.Sets.{TaskSet, object_at, program_at}
-use Rattle.report_text.specs.Causes.{word_of}
+use Rattle.report_text.specs.Causes.{numbered_cause_word}
 
 -- a word before a number
 abbrev pub field : List ℕ → ℕ → List ℕ
@@ -18,7 +18,7 @@ line_feed = 10 ∷ []
 
 abbrev pub outcome_text : Outcome → List ℕ
 outcome_text (Exit code) = field (codes " exit ") code
-outcome_text (Trap cause) = codes " trap " ++ word_of cause
+outcome_text (Trap cause) = codes " trap " ++ numbered_cause_word cause
 
 -- `finish N task T point P exit V first F`, or with `trap WORD`, or with `found` in place of `finish`
 abbrev pub entry_text : List ℕ → Entry → List ℕ

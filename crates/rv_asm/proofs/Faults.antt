@@ -3,7 +3,7 @@ use Rattle.std.proofs.Common.{◌≡◌, ℕ, ◌+◌, ◌≤◌, List, [], ◌�
 use Rattle.std.proofs.lemmas.Bool.{cases_Bool, ltb-false}
 use Rattle.rv_asm.specs.declared.cause.AsmCause.{AsmCause}
 use Rattle.rv_asm.specs.declared.cause.AsmError.{AsmError}
-use Rattle.rv_asm.specs.Assembly.{◌>>=◌, at, assembled, fitting, label_taken, line_after, lines_after, words_of}
+use Rattle.rv_asm.specs.Assembly.{◌>>=◌, at, assembled, fitting, label_taken, line_after, lines_after, body_words}
 use Rattle.rv_asm.specs.Labels.{Found, labels_of}
 use Rattle.rv_asm.specs.Laws.{FirstFault}
 use Rattle.rv_asm.specs.Lines.{Body, Line, parsed}
@@ -98,7 +98,7 @@ label_then (Ok t) (Ok b) more words new h = by_words (more b) h
 
 line_few : (found : Found) (n : ℕ) (words new : List ℕ) (l : Line) → line_after found n words l ≡ Ok new → length new ≤ 1024
 unfolding line_after
-line_few found n words new l h = label_then (label_taken found n l.label) l.body (words_of found (length words)) words new h
+line_few found n words new l h = label_then (label_taken found n l.label) l.body (body_words found (length words)) words new h
 
 lines_few : (found : Found) (n : ℕ) (words new : List ℕ) (ls : List Line) → length words ≤ 1024 → lines_after found n words ls ≡ Ok new → length new ≤ 1024
 unfolding lines_after

@@ -4,7 +4,7 @@ use Rattle.std.specs.Cmp.Lexicographic.{pointwise}
 use Rattle.rv_isa.specs.Names.{mnemonic_of}
 use Rattle.rv_isa.specs.Ranges.{IsInstr}
 use Rattle.rv_isa.specs.Texts.{operands_of}
-use Rattle.rv_isa.specs.Words.{word_of}
+use Rattle.rv_isa.specs.Words.{instruction_word}
 use Rattle.rv_isa.specs.declared.instruction.ImmOp.TheVariants.{Addi, Slti, Sltiu, Xori, Ori, Andi, Slli, Srli, Srai}
 use Rattle.rv_isa.specs.declared.instruction.BranchOp.TheVariants.{Beq, Bne, Blt, Bge, Bltu, Bgeu}
 use Rattle.rv_isa.specs.declared.instruction.LoadOp.TheVariants.{Lb, Lh, Lw, Lbu, Lhu}
@@ -104,7 +104,7 @@ abbrev pub filled_in : Instr → Open
 filled_in i = put_all i (operands_of i) (opened (template i) Absent)
 
 -- an instruction whose operands were all filled in has its word
-pub words_back : (found : Found) (here : ℕ) (i : Instr) → IsPlain i → IsInstr i → IsNoFence i → instruction_words found here (filled_in i).instr (filled_in i).value ≡ Ok (word_of i ∷ [])
+pub words_back : (found : Found) (here : ℕ) (i : Instr) → IsPlain i → IsInstr i → IsNoFence i → instruction_words found here (filled_in i).instr (filled_in i).value ≡ Ok (instruction_word i ∷ [])
 words_back found here (Lui rd imm) so ok other = rw (whole_value_fits (Lui rd 0) (pos imm) (short_word (pos imm) so.number) ok) refl
 words_back found here (Auipc rd imm) so ok other = rw (whole_value_fits (Auipc rd 0) (pos imm) (short_word (pos imm) so.number) ok) refl
 words_back found here (Jal rd offset) so ok other = rw (whole_value_fits (Jal rd (pos 0)) offset (short_word offset so.number) ok) refl

@@ -9,13 +9,13 @@ use Rattle.rv_isa.specs.Names.{mnemonic_of}
 use Rattle.rv_isa.specs.Ranges.{IsInstr}
 use Rattle.rv_isa.specs.Table.{instruction_of}
 use Rattle.rv_isa.specs.Texts.{operands_of, operand_text, operands_text, raw_text, hexadecimal, line_text, text_of}
-use Rattle.rv_isa.specs.Words.{word_of}
+use Rattle.rv_isa.specs.Words.{instruction_word}
 use Rattle.rv_isa.specs.declared.syntax.Operand.{Operand}
 use Rattle.rv_isa.specs.declared.syntax.Operand.TheVariants.{Rd, Rs1, Rs2, Immediate, Target, Memory}
 use Rattle.rv_isa.specs.declared.instruction.Instr.{Instr}
 use Rattle.rv_isa.specs.declared.instruction.Instr.TheVariants.{Lui, Auipc, Jal, Jalr, Branch, Load, Store, OpImm, Op, Fence, Ecall, Ebreak}
 use Rattle.rv_asm.specs.declared.cause.AsmCause.{AsmCause}
-use Rattle.rv_asm.specs.Assembly.{words_of, line_after, lines_after, assembled}
+use Rattle.rv_asm.specs.Assembly.{body_words, line_after, lines_after, assembled}
 use Rattle.rv_asm.specs.Disassembly.{disassembled}
 use Rattle.rv_asm.specs.Forms.{x0, single_templates, branch_templates, load_templates, store_templates, imm_templates, op_templates, templates, pseudo_forms, form_named}
 use Rattle.rv_asm.specs.Labels.{Found, labels_of}
@@ -37,14 +37,14 @@ line_is name rest token unlabelled text =
 record IsSaid (w : ℕ) (text : List ℕ) : Type 0 where
   body : Body
   read : parsed text ≡ line None (Ok body)
-  words : (found : Found) (here : ℕ) → words_of found here body ≡ Ok (w ∷ [])
+  words : (found : Found) (here : ℕ) → body_words found here body ≡ Ok (w ∷ [])
   bytes : list_all is_text_byte text ≡ true
   some : 0 < length text
 
 -- ---- words that are no instruction
 
-raw_words : (w : ℕ) → w < 2 ^ 32 → (found : Found) (here : ℕ) → words_of found here (Word (pos w)) ≡ Ok (w ∷ [])
-unfolding words_of
+raw_words : (w : ℕ) → w < 2 ^ 32 → (found : Found) (here : ℕ) → body_words found here (Word (pos w)) ≡ Ok (w ∷ [])
+unfolding body_words
 raw_words w lt found here = let fits : leb w (2 ^ 32 - 1) ≡ true = le-leb _ _ (omega arith) in rw fits refl
 
 raw_said : (w : ℕ) → w < 2 ^ 32 → IsSaid w (raw_text w)
@@ -87,8 +87,8 @@ row_body : (i : Instr) → IsFormed i → IsPlain i → (first : Operand) (other
 row_body i shape so first others e =
     rw (shape.no_load, shape.no_word, shape.named, e, pieces_are (operand_text i) (operand_token i so) first others, filled_back i so (first ∷ others) (opened (template i) Absent)) refl
 
-row_said : (i : Instr) (w : ℕ) → IsInstr i → IsNoFence i → word_of i ≡ w → (first : Operand) (others : List Operand) → operands_of i ≡ first ∷ others → IsSaid w (mnemonic_of i ++ operands_text i (first ∷ others))
-unfolding words_of
+row_said : (i : Instr) (w : ℕ) → IsInstr i → IsNoFence i → instruction_word i ≡ w → (first : Operand) (others : List Operand) → operands_of i ≡ first ∷ others → IsSaid w (mnemonic_of i ++ operands_text i (first ∷ others))
+unfolding body_words
 row_said i w ok other same first others e =
     let shape = formed i in
     let so = plain i ok in
@@ -101,8 +101,8 @@ row_said i w ok other same first others e =
       some = omega (arith, length-append (mnemonic_of i) (operands_text i (first ∷ others)));
     }
 
-alone : (i : Instr) (w : ℕ) → parsed (mnemonic_of i) ≡ line None (Ok (Instruction (opened (template i) Absent))) → word_of (template i) ≡ w → list_all is_text_byte (mnemonic_of i) ≡ true → 0 < length (mnemonic_of i) → IsSaid w (mnemonic_of i)
-unfolding words_of
+alone : (i : Instr) (w : ℕ) → parsed (mnemonic_of i) ≡ line None (Ok (Instruction (opened (template i) Absent))) → instruction_word (template i) ≡ w → list_all is_text_byte (mnemonic_of i) ≡ true → 0 < length (mnemonic_of i) → IsSaid w (mnemonic_of i)
+unfolding body_words
 alone i w read same bytes some = record {
   body = Instruction (opened (template i) Absent);
   read = read;
@@ -112,7 +112,7 @@ alone i w read same bytes some = record {
 }
 
 fence_said : (w : ℕ) → eqb w 0x0FF0000F ≡ true → IsSaid w (codes "fence")
-unfolding form_named filled words_of single_templates branch_templates load_templates store_templates imm_templates op_templates templates pseudo_forms
+unfolding form_named filled body_words single_templates branch_templates load_templates store_templates imm_templates op_templates templates pseudo_forms
 fence_said w e = record {
   body = Instruction (opened (Fence x0 x0 0x0FF) Absent);
   read = refl;
@@ -123,9 +123,9 @@ fence_said w e = record {
 
 -- what the table reads of a word is within its ranges, and has this word
 abbrev Back : Type 0
-Back = (word : ℕ) (i : Instr) → word < 2 ^ 32 → instruction_of word ≡ Some i → (word_of i ≡ word) × IsInstr i
+Back = (word : ℕ) (i : Instr) → word < 2 ^ 32 → instruction_of word ≡ Some i → (instruction_word i ≡ word) × IsInstr i
 
-said_by : (w : ℕ) (found : Option Instr) → w < 2 ^ 32 → ((i : Instr) → found ≡ Some i → (word_of i ≡ w) × IsInstr i) → IsSaid w (line_text w found)
+said_by : (w : ℕ) (found : Option Instr) → w < 2 ^ 32 → ((i : Instr) → found ≡ Some i → (instruction_word i ≡ w) × IsInstr i) → IsSaid w (line_text w found)
 unfolding form_named filled single_templates branch_templates load_templates store_templates imm_templates op_templates templates pseudo_forms
 said_by w None lt back = raw_said w lt
 said_by w (Some (Lui rd imm)) lt back = let b = back (Lui rd imm) refl in row_said (Lui rd imm) w b.1 tt b.0 Rd (Immediate ∷ []) refl

@@ -2,7 +2,7 @@
 use Rattle.std.specs.Prelude.{ℕ, ◌+◌, ◌*◌, nat_lt, ℤ, pos, ◌-ℤ◌, Bool, false, List, [], ◌∷◌, ◌++◌, length, map, Option, Some, None, Result, Ok, Err, if◌then◌else◌}
 use Rattle.nv_base.specs.declared.limits.TheConstants.{MAX_CODE}
 use Rattle.rv_isa.specs.Fields.{unsigned}
-use Rattle.rv_isa.specs.Words.{word_of}
+use Rattle.rv_isa.specs.Words.{instruction_word}
 use Rattle.rv_isa.specs.declared.instruction.Instr.{Instr}
 use Rattle.rv_asm.specs.declared.cause.AsmCause.{AsmCause}
 use Rattle.rv_asm.specs.declared.cause.AsmCause.TheVariants.{Twice, Label, Range, TooLong}
@@ -31,19 +31,19 @@ offset_to here (Some s) = Ok (distance here s.place)
 
 -- the word of an instruction with its value
 abbrev pub valued : Instr → ℤ → Result (List ℕ) AsmCause
-valued i z = if fits i z then Ok (word_of (with_value z i) ∷ []) else Err Range
+valued i z = if fits i z then Ok (instruction_word (with_value z i) ∷ []) else Err Range
 
 abbrev pub instruction_words : Found → ℕ → Instr → Value → Result (List ℕ) AsmCause
-instruction_words found here i operands.Absent = Ok (word_of i ∷ [])
+instruction_words found here i operands.Absent = Ok (instruction_word i ∷ [])
 instruction_words found here i (operands.Number z) = valued i z
 instruction_words found here i (operands.Label name) = offset_to here (found name) >>= valued i
 
 -- the words of a body at a place
-unfoldable pub words_of : Found → ℕ → Body → Result (List ℕ) AsmCause
-words_of found here Nothing = Ok []
-words_of found here (Instruction o) = instruction_words found here o.instr o.value
-words_of found here (Word z) = if is_word z then Ok (unsigned 32 z ∷ []) else Err Range
-words_of found here (Load rd z) = if is_word z then Ok (map word_of (loads rd (unsigned 32 z))) else Err Range
+unfoldable pub body_words : Found → ℕ → Body → Result (List ℕ) AsmCause
+body_words found here Nothing = Ok []
+body_words found here (Instruction o) = instruction_words found here o.instr o.value
+body_words found here (Word z) = if is_word z then Ok (unsigned 32 z ∷ []) else Err Range
+body_words found here (Load rd z) = if is_word z then Ok (map instruction_word (loads rd (unsigned 32 z))) else Err Range
 
 -- the spot is on an earlier line
 abbrev pub is_before : Option Spot → ℕ → Bool
@@ -63,7 +63,7 @@ unfoldable pub line_after : Found → ℕ → List ℕ → Line → Result (List
 line_after found n words l = do
   _ ← label_taken found n l.label
   body ← l.body
-  more ← words_of found (length words) body
+  more ← body_words found (length words) body
   fitting words more
 
 abbrev pub at : {A : Type 0} → ℕ → Result A AsmCause → Result A AsmError

@@ -2,8 +2,8 @@
 
 ghost use Rattle.std.specs.Prelude.{◌≡◌, ◌≤◌, length, map};
 ghost use Rattle.rv_isa.specs.Ranges.{IsInstr, IsReg};
-ghost use Rattle.rv_isa.specs.Words.{word_of as word_in};
-ghost use Rattle.rv_asm.specs.Assembly.{distance as distance_in, instruction_words, offset_to, valued as valued_in, words_of};
+ghost use Rattle.rv_isa.specs.Words.{instruction_word};
+ghost use Rattle.rv_asm.specs.Assembly.{distance as distance_in, instruction_words, offset_to, valued as valued_in, body_words};
 ghost use Rattle.rv_asm.specs.Labels.{body_count};
 ghost use Rattle.rv_asm.specs.Found.{find_in};
 ghost use Rattle.rv_asm.specs.Loads.{loads};
@@ -42,7 +42,7 @@ impl Code {
 
 fn load_words(rd: Reg, value: u32) -> Code
     requires { IsReg rd }
-    ensures { code_words result ≡ map word_in (loads rd value) }
+    ensures { code_words result ≡ map instruction_word (loads rd value) }
 {
     match load_of(rd, value) {
         Load::One(instr) => Code::One(encode(instr)),
@@ -102,10 +102,10 @@ fn instruction(labels: &Labels<'_>, here: u32, partial: Open<'_>) -> Result<Code
 }
 
 /// The words of a line at a place.
-#[tactic(auto, unfolding(crate::specs::Assembly::words_of))]
+#[tactic(auto, unfolding(crate::specs::Assembly::body_words))]
 pub fn code_of(labels: &Labels<'_>, here: u32, body: Body<'_>) -> Result<Code, AsmCause>
     requires { IsWhole (Ok (body_seen body)) }
-    ensures { code_seen result ≡ words_of (find_in labels.now) here (body_seen body.entry) }
+    ensures { code_seen result ≡ body_words (find_in labels.now) here (body_seen body.entry) }
 {
     match body {
         Body::Nothing => Ok(Code::Nothing),

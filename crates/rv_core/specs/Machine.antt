@@ -4,4 +4,4 @@ pub use Rattle.rv_core.specs.Operations.{register, with_register}
 pub use Rattle.rv_core.specs.Execution.{goes_on, service_of}
 unfoldable pub use Rattle.rv_core.specs.Execution.{executed}
 pub use Rattle.rv_core.specs.Stepping.{step_of, runs, answer, IsCall, Keeps}
-pub use Rattle.rv_core.specs.Task.{blank, loaded, first_state, resumed, misfit, IsPlace}
+pub use Rattle.rv_core.specs.Task.{blank, loaded, first_state, resumed, place_refusal, IsPlace}

@@ -27,8 +27,8 @@ resumed s None = goes_on s
 resumed s (Some value) = goes_on (with_register s 10 value)
 
 -- the first test of a place of some words that fails
-abbrev pub misfit : MachineState → ℕ → ℕ → Option TrapCause
-misfit s at words =
+abbrev pub place_refusal : MachineState → ℕ → ℕ → Option TrapCause
+place_refusal s at words =
     if at % 4 == 0
     then (if nat_le (at + 4 * words) (length s.memory) then None else Some trap.CallRange)
     else Some trap.CallAlign

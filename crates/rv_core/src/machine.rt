@@ -8,7 +8,7 @@ ghost use Rattle.rv_core.specs.State.{Next};
 ghost use Rattle.rv_core.specs.Operations.{register, with_register, sum_of, store_size, put_at};
 ghost use Rattle.rv_core.specs.Execution.{goes_on, jumps, branches, loads, stores, calls, service_of, executed};
 ghost use Rattle.rv_core.specs.Stepping.{step_of, answer, IsCall, Keeps};
-ghost use Rattle.rv_core.specs.Task.{blank, first_state, resumed, misfit, IsPlace};
+ghost use Rattle.rv_core.specs.Task.{blank, first_state, resumed, place_refusal, IsPlace};
 
 use crate::bytes::{load_code, word_in, words_out};
 use crate::operations::{
@@ -101,7 +101,7 @@ impl Machine {
     /// Whether so many words fit at an address: `CallAlign` exactly where the address is no multiple of 4,
     /// and else `CallRange` exactly where the words are not whole in memory.
     pub fn fits(&self, at: u32, words: u32) -> Result<(), TrapCause>
-        ensures refusal { result_err result ≡ misfit self.now at words }
+        ensures refusal { result_err result ≡ place_refusal self.now at words }
         ensures ok { OnOk result (IsPlace self.now at words) }
     {
         if at % 4 != 0 {

@@ -1,7 +1,7 @@
 -- The table reads the word of an instruction as that instruction.
 use Rattle.std.proofs.Common.{◌≡◌, ℕ, ◌+◌, ◌*◌, ◌<◌, ℤ, pos, negsuc, arith, refl, ◌∙◌, Some, ap}
 use Rattle.rv_isa.specs.Fields.{bits, signed, unsigned, IsSigned}
-use Rattle.rv_isa.specs.Words.{word_of, imm_funct3, branch_funct3, load_funct3, store_funct3, op_funct3, op_funct7, imm_bits}
+use Rattle.rv_isa.specs.Words.{instruction_word, imm_funct3, branch_funct3, load_funct3, store_funct3, op_funct3, op_funct7, imm_bits}
 use Rattle.rv_isa.specs.Formats.{i_immediate, s_immediate, b_immediate, j_immediate}
 use Rattle.rv_isa.specs.Table.{instruction_of}
 use Rattle.rv_isa.specs.Ranges.{IsReg, IsInstr}
@@ -55,7 +55,7 @@ reads_i w r s Srli z p a f b c d = elim p [ ]
 reads_i w r s Srai z p a f b c d = elim p [ ]
 
 word_i : (r s : Reg) (o : ImmOp) (z : ℤ) → IsPlain o → IsReg r → IsReg s → IsSigned 12 z → imm_funct3 o < 8 → imm_bits o z ≡ unsigned 12 z
-    → instruction_of (word_of (OpImm o r s z)) ≡ Some (OpImm o r s z)
+    → instruction_of (instruction_word (OpImm o r s z)) ≡ Some (OpImm o r s z)
 unfolding instruction_of
 word_i r s o z p a b ok f same_bits =
     rw same_bits (
@@ -63,9 +63,9 @@ word_i r s o z p a b ok f same_bits =
     reads_i _ _ _ o z p e.0 e.2 e.1 e.3 (ap (signed 12) e.4 ∙ signed-unsigned 12 z (omega arith) ok))
 
 word_s : (r s : Reg) (n : ℕ) → IsReg r → IsReg s → n < 32
-    → (instruction_of (word_of (OpImm Slli r s (pos n))) ≡ Some (OpImm Slli r s (pos n)))
-    × (instruction_of (word_of (OpImm Srli r s (pos n))) ≡ Some (OpImm Srli r s (pos n)))
-    × (instruction_of (word_of (OpImm Srai r s (pos n))) ≡ Some (OpImm Srai r s (pos n)))
+    → (instruction_of (instruction_word (OpImm Slli r s (pos n))) ≡ Some (OpImm Slli r s (pos n)))
+    × (instruction_of (instruction_word (OpImm Srli r s (pos n))) ≡ Some (OpImm Srli r s (pos n)))
+    × (instruction_of (instruction_word (OpImm Srai r s (pos n))) ≡ Some (OpImm Srai r s (pos n)))
 unfolding instruction_of
 word_s r s n a b c =
     let e = section_s 19 r.0 1 s.0 n 0 n (omega arith) (omega arith) a (omega arith) b (omega arith) c in
@@ -171,7 +171,7 @@ branch_small Bge = omega arith
 branch_small Bltu = omega arith
 branch_small Bgeu = omega arith
 
-pub read_word : (i : Instr) → IsInstr i → instruction_of (word_of i) ≡ Some i
+pub read_word : (i : Instr) → IsInstr i → instruction_of (instruction_word i) ≡ Some i
 unfolding IsPlain instruction_of
 read_word (Jal r z) ok =
     let e = section_j r.0 (unsigned 21 z) ok.0 (unsigned_below 21 z (omega arith) ok.1.0) ok.1.1 in

@@ -3,7 +3,7 @@ use Rattle.std.proofs.Common.{◌≡◌, ℕ, ◌+◌, ◌*◌, ◌<◌, ◌^◌
 use Rattle.std.proofs.lemmas.Grind.{common_steps}
 use Rattle.std.proofs.lemmas.List.Elements.{All-nil, All-cons, All-head, All-tail}
 use Rattle.rv_isa.specs.Fields.{bits, signed, unsigned, IsSigned}
-use Rattle.rv_isa.specs.Words.{word_of, imm_funct3, branch_funct3, load_funct3, store_funct3, op_funct3, op_funct7, imm_bits}
+use Rattle.rv_isa.specs.Words.{instruction_word, imm_funct3, branch_funct3, load_funct3, store_funct3, op_funct3, op_funct7, imm_bits}
 use Rattle.rv_isa.specs.Formats.{rd, rs1, u_immediate, i_immediate, j_immediate}
 use Rattle.rv_isa.specs.Table.{instruction_of, HasNoRow, Row, table, read_by, by_opcode, by_funct3, by_word, branch, load, store, op_imm, shift_imm, op}
 use Rattle.rv_isa.specs.Ranges.{IsInstr, IsImmediate}
@@ -23,7 +23,7 @@ use Rattle.rv_isa.specs.declared.instruction.Instr.TheVariants.{Lui, Auipc, Jal,
 
 -- a word that the row has is the word of what the row reads
 record IsBack (w : ℕ) (row : Row) : Type 0 where
-  pub back : row.has w ≡ true → (word_of (row.reads w) ≡ w) × IsInstr (row.reads w)
+  pub back : row.has w ≡ true → (instruction_word (row.reads w) ≡ w) × IsInstr (row.reads w)
 
 both : (a b : Bool) → (a && b) ≡ true → (a ≡ true) × (b ≡ true)
 both true b h = (refl, h)
@@ -37,14 +37,14 @@ and3 false b c h = cc
 same : (a b : ℕ) → (a == b) ≡ true → a ≡ b
 same a b h = grind (arith, common_steps)
 
-back_j : (w : ℕ) → w < 2 ^ 32 → bits 0 7 w ≡ 111 → (word_of (Jal (rd w) (j_immediate w)) ≡ w) × IsInstr (Jal (rd w) (j_immediate w))
+back_j : (w : ℕ) → w < 2 ^ 32 → bits 0 7 w ≡ 111 → (instruction_word (Jal (rd w) (j_immediate w)) ≡ w) × IsInstr (Jal (rd w) (j_immediate w))
 back_j w small op =
     let u = bits 31 1 w * 1048576 + bits 12 8 w * 4096 + bits 20 1 w * 2048 + bits 21 10 w * 2 in
     let fits : u < 2 ^ 21 = omega arith in
     let same_bits : unsigned 21 (signed 21 u) ≡ u = unsigned-signed 21 u (omega arith) fits in
     (rw same_bits (omega arith), (omega arith, (IsSigned-signed 21 u (omega arith) fits, rw same_bits (omega arith))))
 
-back_b : (w : ℕ) (op : BranchOp) → w < 2 ^ 32 → bits 0 7 w ≡ 99 → bits 12 3 w ≡ branch_funct3 op → (word_of ((branch (branch_funct3 op) op).reads w) ≡ w) × IsInstr ((branch (branch_funct3 op) op).reads w)
+back_b : (w : ℕ) (op : BranchOp) → w < 2 ^ 32 → bits 0 7 w ≡ 99 → bits 12 3 w ≡ branch_funct3 op → (instruction_word ((branch (branch_funct3 op) op).reads w) ≡ w) × IsInstr ((branch (branch_funct3 op) op).reads w)
 back_b w o small op f =
     let u = bits 31 1 w * 4096 + bits 7 1 w * 2048 + bits 25 6 w * 32 + bits 8 4 w * 2 in
     let fits : u < 2 ^ 13 = omega arith in
@@ -53,11 +53,11 @@ back_b w o small op f =
 
 -- the six rows of plain immediates
 back_i : (w : ℕ) (o : ImmOp) → bits 12 3 w ≡ imm_funct3 o → imm_bits o (signed 12 (bits 20 12 w)) ≡ bits 20 12 w → IsImmediate o (signed 12 (bits 20 12 w))
-    → w < 2 ^ 32 → bits 0 7 w ≡ 19 → (word_of ((op_imm (imm_funct3 o) o).reads w) ≡ w) × IsInstr ((op_imm (imm_funct3 o) o).reads w)
+    → w < 2 ^ 32 → bits 0 7 w ≡ 19 → (instruction_word ((op_imm (imm_funct3 o) o).reads w) ≡ w) × IsInstr ((op_imm (imm_funct3 o) o).reads w)
 back_i w o f same_bits fits small op = (rw (same_bits, ← f) (omega arith), (omega arith, omega arith, fits))
 
 back_s : (w : ℕ) (o : ImmOp) (g : ℕ) → bits 12 3 w ≡ imm_funct3 o → bits 25 7 w ≡ g → imm_bits o (pos (bits 20 5 w)) ≡ g * 32 + bits 20 5 w → IsImmediate o (pos (bits 20 5 w))
-    → w < 2 ^ 32 → bits 0 7 w ≡ 19 → (word_of ((shift_imm (imm_funct3 o) g o).reads w) ≡ w) × IsInstr ((shift_imm (imm_funct3 o) g o).reads w)
+    → w < 2 ^ 32 → bits 0 7 w ≡ 19 → (instruction_word ((shift_imm (imm_funct3 o) g o).reads w) ≡ w) × IsInstr ((shift_imm (imm_funct3 o) g o).reads w)
 back_s w o g f e same_bits fits small op = (rw (same_bits, ← f, ← e) (omega arith), (omega arith, omega arith, fits))
 
 i_bits : (w : ℕ) → unsigned 12 (signed 12 (bits 20 12 w)) ≡ bits 20 12 w
@@ -66,7 +66,7 @@ i_bits w = unsigned-signed 12 (bits 20 12 w) (omega arith) (omega arith)
 i_fits : (w : ℕ) → IsSigned 12 (signed 12 (bits 20 12 w))
 i_fits w = IsSigned-signed 12 (bits 20 12 w) (omega arith) (omega arith)
 
-back_st : (w : ℕ) (o : StoreOp) → w < 2 ^ 32 → bits 0 7 w ≡ 35 → bits 12 3 w ≡ store_funct3 o → (word_of ((store (store_funct3 o) o).reads w) ≡ w) × IsInstr ((store (store_funct3 o) o).reads w)
+back_st : (w : ℕ) (o : StoreOp) → w < 2 ^ 32 → bits 0 7 w ≡ 35 → bits 12 3 w ≡ store_funct3 o → (instruction_word ((store (store_funct3 o) o).reads w) ≡ w) × IsInstr ((store (store_funct3 o) o).reads w)
 back_st w o small e f =
     let u = bits 25 7 w * 32 + bits 7 5 w in
     let fits : u < 2 ^ 12 = omega arith in
@@ -82,7 +82,7 @@ row_st w o small = record { back = λ h. let e = both _ _ h in back_st w o small
 row_op : (w : ℕ) (o : RegOp) → w < 2 ^ 32 → IsBack w (op (op_funct3 o) (op_funct7 o) o)
 row_op w o small = record { back = λ h. let e = and3 _ _ _ h in let code : bits 0 7 w ≡ 51 = same _ _ e.0 in let f : bits 12 3 w ≡ op_funct3 o = same _ _ e.1 in let g : bits 25 7 w ≡ op_funct7 o = same _ _ e.2 in (rw (← f, ← g) (omega arith), (omega arith, omega arith, omega arith)) }
 
-back_jalr : (w : ℕ) → w < 2 ^ 32 → bits 0 7 w ≡ 103 → bits 12 3 w ≡ 0 → (word_of (Jalr (rd w) (rs1 w) (i_immediate w)) ≡ w) × IsInstr (Jalr (rd w) (rs1 w) (i_immediate w))
+back_jalr : (w : ℕ) → w < 2 ^ 32 → bits 0 7 w ≡ 103 → bits 12 3 w ≡ 0 → (instruction_word (Jalr (rd w) (rs1 w) (i_immediate w)) ≡ w) × IsInstr (Jalr (rd w) (rs1 w) (i_immediate w))
 back_jalr w small op f = (rw (i_bits w) (omega arith), (omega arith, omega arith, i_fits w))
 
 row_b : (w : ℕ) (o : BranchOp) → w < 2 ^ 32 → IsBack w (branch (branch_funct3 o) o)
@@ -99,11 +99,11 @@ data AllBack (w : ℕ) : List Row → Type 0 where
   no_more : AllBack w []
   ◌⨾◌ : {row : Row} {rows : List Row} → IsBack w row → AllBack w rows → AllBack w (row ∷ rows)
 
-read_back : (rows : List Row) (w : ℕ) (i : Instr) → AllBack w rows → read_by rows w ≡ Some i → (word_of i ≡ w) × IsInstr i
+read_back : (rows : List Row) (w : ℕ) (i : Instr) → AllBack w rows → read_by rows w ≡ Some i → (instruction_word i ≡ w) × IsInstr i
 read_back [] w i all h = cc
 read_back (row ∷ rows) w i (first ⨾ rest) h =
-    elim (row.has w) as (λ b. row.has w ≡ b → cond b (Some (row.reads w)) (read_by rows w) ≡ Some i → (word_of i ≡ w) × IsInstr i)
-    [ true ↦ λ e h. subst (λ (j : Instr). (word_of j ≡ w) × IsInstr j) (cc) (first.back e) | false ↦ λ e h. read_back rows w i rest h ] refl h
+    elim (row.has w) as (λ b. row.has w ≡ b → cond b (Some (row.reads w)) (read_by rows w) ≡ Some i → (instruction_word i ≡ w) × IsInstr i)
+    [ true ↦ λ e h. subst (λ (j : Instr). (instruction_word j ≡ w) × IsInstr j) (cc) (first.back e) | false ↦ λ e h. read_back rows w i rest h ] refl h
 
 row_lui : (w : ℕ) → w < 2 ^ 32 → IsBack w (by_opcode 0b0110111 (λ v. Lui (rd v) (u_immediate v)))
 row_lui w small = record { back = λ h. let op : bits 0 7 w ≡ 55 = same _ _ h in (omega arith, (omega arith, omega arith)) }
@@ -142,7 +142,7 @@ table_back w small =
     row_fence w small ⨾ row_ecall w ⨾ row_ebreak w ⨾ no_more
 
 -- what the table reads is an instruction, and its word is the word that was read
-pub word_back : (w : ℕ) (i : Instr) → w < 2 ^ 32 → instruction_of w ≡ Some i → (word_of i ≡ w) × IsInstr i
+pub word_back : (w : ℕ) (i : Instr) → w < 2 ^ 32 → instruction_of w ≡ Some i → (instruction_word i ≡ w) × IsInstr i
 unfolding instruction_of
 word_back w i small h = read_back table w i (table_back w small) h
 

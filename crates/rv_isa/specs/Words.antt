@@ -101,16 +101,16 @@ u_word opcode rd imm = opcode + rd * 128 + imm * 4096
 abbrev pub s_word : ℕ → ℕ → ℕ → ℕ → ℕ → ℕ
 s_word opcode funct3 rs1 rs2 u = opcode + bits 0 5 u * 128 + funct3 * 4096 + rs1 * 32768 + rs2 * 1048576 + bits 5 7 u * 33554432
 
-abbrev pub word_of : Instr → ℕ
-word_of (Lui rd imm) = u_word 55 rd.0 imm
-word_of (Auipc rd imm) = u_word 23 rd.0 imm
-word_of (Jal rd offset) = j_word 111 rd.0 (unsigned 21 offset)
-word_of (Jalr rd rs1 imm) = i_word 103 rd.0 0 rs1.0 (unsigned 12 imm)
-word_of (Branch op rs1 rs2 offset) = b_word 99 (branch_funct3 op) rs1.0 rs2.0 (unsigned 13 offset)
-word_of (Load op rd rs1 imm) = i_word 3 rd.0 (load_funct3 op) rs1.0 (unsigned 12 imm)
-word_of (Store op rs1 rs2 imm) = s_word 35 (store_funct3 op) rs1.0 rs2.0 (unsigned 12 imm)
-word_of (OpImm op rd rs1 imm) = i_word 19 rd.0 (imm_funct3 op) rs1.0 (imm_bits op imm)
-word_of (Op op rd rs1 rs2) = i_word 51 rd.0 (op_funct3 op) rs1.0 (op_funct7 op * 32 + rs2.0)
-word_of (Fence rd rs1 bits) = i_word 15 rd.0 0 rs1.0 bits
-word_of Ecall = 115
-word_of Ebreak = 1048691
+abbrev pub instruction_word : Instr → ℕ
+instruction_word (Lui rd imm) = u_word 55 rd.0 imm
+instruction_word (Auipc rd imm) = u_word 23 rd.0 imm
+instruction_word (Jal rd offset) = j_word 111 rd.0 (unsigned 21 offset)
+instruction_word (Jalr rd rs1 imm) = i_word 103 rd.0 0 rs1.0 (unsigned 12 imm)
+instruction_word (Branch op rs1 rs2 offset) = b_word 99 (branch_funct3 op) rs1.0 rs2.0 (unsigned 13 offset)
+instruction_word (Load op rd rs1 imm) = i_word 3 rd.0 (load_funct3 op) rs1.0 (unsigned 12 imm)
+instruction_word (Store op rs1 rs2 imm) = s_word 35 (store_funct3 op) rs1.0 rs2.0 (unsigned 12 imm)
+instruction_word (OpImm op rd rs1 imm) = i_word 19 rd.0 (imm_funct3 op) rs1.0 (imm_bits op imm)
+instruction_word (Op op rd rs1 rs2) = i_word 51 rd.0 (op_funct3 op) rs1.0 (op_funct7 op * 32 + rs2.0)
+instruction_word (Fence rd rs1 bits) = i_word 15 rd.0 0 rs1.0 bits
+instruction_word Ecall = 115
+instruction_word Ebreak = 1048691

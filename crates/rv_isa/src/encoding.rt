@@ -4,7 +4,7 @@ ghost use Rattle.std.specs.Prelude.{◌≡◌, ◌≤◌, ◌<◌, ◌+◌, ◌*
 ghost use Rattle.rv_isa.specs.Fields.{unsigned, IsSigned};
 ghost use Rattle.rv_isa.specs.Ranges.{IsInstr, IsReg, IsImmediate};
 ghost use Rattle.rv_isa.specs.Table.{instruction_of};
-ghost use Rattle.rv_isa.specs.Words.{branch_funct3, imm_funct3, load_funct3, store_funct3, op_funct3, op_funct7, u_word, s_word, imm_bits, i_word, b_word, j_word, word_of};
+ghost use Rattle.rv_isa.specs.Words.{branch_funct3, imm_funct3, load_funct3, store_funct3, op_funct3, op_funct7, u_word, s_word, imm_bits, i_word, b_word, j_word, instruction_word};
 
 use crate::fields::{field, low_bits};
 use crate::instruction::{BranchOp, ImmOp, Instr, LoadOp, Reg, RegOp, StoreOp};
@@ -164,7 +164,7 @@ fn bits_of_imm(op: ImmOp, imm: i32) -> u32
 /// The word of an instruction: the table has this instruction for it, and for no other word.
 pub fn encode(i: Instr) -> u32
     requires { IsInstr i }
-    ensures word { result ≡ word_of i }
+    ensures word { result ≡ instruction_word i }
     ensures again { instruction_of result ≡ Some i }
     ensures only { (word : ℕ) → word < 2 ^ 32 → instruction_of word ≡ Some i → result ≡ word }
 {
@@ -173,7 +173,7 @@ pub fn encode(i: Instr) -> u32
 
 fn word(i: Instr) -> u32
     requires { IsInstr i }
-    ensures { result ≡ word_of i }
+    ensures { result ≡ instruction_word i }
 {
     match i {
         Instr::Lui { rd, imm } => u_format(0b0110111, rd, imm),

@@ -6,7 +6,7 @@ mod encoding;
 mod fields;
 mod instruction;
 pub mod laws;
-mod names;
+mod mnemonics;
 mod syntax;
 #[cfg(test)]
 mod tests;
@@ -17,6 +17,6 @@ mod texts;
 pub use decoding::decode;
 pub use encoding::encode;
 pub use instruction::{BranchOp, ImmOp, Instr, LoadOp, Reg, RegOp, StoreOp};
-pub use names::{mnemonic, register_name};
+pub use mnemonics::{mnemonic, register_name};
 pub use syntax::{Operand, operands};
 pub use texts::{push_hexadecimal, push_text, text};

@@ -8,7 +8,7 @@ ghost use Rattle.rv_isa.specs.Texts.{HasFront, hexadecimal, instruction_text, op
 
 use crate::decoding::decode;
 use crate::instruction::{Instr, Reg};
-use crate::names::{mnemonic, register_name};
+use crate::mnemonics::{mnemonic, register_name};
 use crate::syntax::{Operand, destination, first_source, number, operands, second_source};
 use nv_base::NoMemory;
 use std::alloc::{AllocError, Global};

@@ -4,7 +4,7 @@ use Rattle.std.proofs.lemmas.List.{length-map}
 use Rattle.std.specs.List.{AllByRecursion}
 use Rattle.rand_pcg.specs.Lcg.{Lcg}
 use Rattle.rand_pcg.specs.Pcg.{pcg32}
-use Rattle.schedule_model.specs.Schedules.{StepItem, InOrder, Drawn}
+use Rattle.schedule_model.specs.Schedules.{StepItem, Steps, Mix}
 use Rattle.schedule_model.specs.CoreSteps.{repeated, words, generator_of, core_of_word, item_steps, core_steps}
 use Rattle.schedule_model.specs.Limits.{step_count, steps_together, IsItem}
 
@@ -19,8 +19,8 @@ length-words zero g = refl
 length-words (suc count) g = ap suc (length-words count (pcg32 g).1)
 
 pub length-item_steps : (cores : ℕ) (item : StepItem) → length (item_steps cores item) ≡ step_count item
-length-item_steps cores (InOrder order times) = length-repeated times order
-length-item_steps cores (Drawn seed count) =
+length-item_steps cores (Steps order times) = length-repeated times order
+length-item_steps cores (Mix seed count) =
     length-map (words count (generator_of seed)) (core_of_word cores) ∙ length-words count (generator_of seed)
 
 pub length-core_steps : (cores : ℕ) (items : List StepItem) → length (core_steps cores items) ≡ steps_together items
@@ -43,8 +43,8 @@ all-drawn cores [] h = tt
 all-drawn cores (w ∷ ws) h = (omega arith, all-drawn cores ws h)
 
 pub all-item_steps : (cores : ℕ) (item : StepItem) → 1 ≤ cores → IsItem cores item → AllByRecursion (λ core. core < cores) (item_steps cores item)
-all-item_steps cores (InOrder order times) h p = all-repeated (λ core. core < cores) times order p.2
-all-item_steps cores (Drawn seed count) h p = all-drawn cores (words count (generator_of seed)) h
+all-item_steps cores (Steps order times) h p = all-repeated (λ core. core < cores) times order p.2
+all-item_steps cores (Mix seed count) h p = all-drawn cores (words count (generator_of seed)) h
 
 pub all-core_steps : (cores : ℕ) (items : List StepItem) → 1 ≤ cores → AllByRecursion (IsItem cores) items
     → AllByRecursion (λ core. core < cores) (core_steps cores items)

@@ -4,7 +4,7 @@
 use Rattle.std.specs.Prelude.{ℕ, zero, suc, ◌%◌, List, [], ◌∷◌, ◌++◌, map}
 use Rattle.rand_pcg.specs.Lcg.{Lcg, started, increment_of}
 use Rattle.rand_pcg.specs.Pcg.{multiplier_64, pcg32}
-use Rattle.schedule_model.specs.Schedules.{StepItem, InOrder, Drawn}
+use Rattle.schedule_model.specs.Schedules.{StepItem, Steps, Mix}
 
 -- a list so many times over
 unfoldable pub repeated : ℕ → List ℕ → List ℕ
@@ -26,8 +26,8 @@ core_of_word cores word = word % cores
 
 -- the core of each step of an item, in order
 abbrev pub item_steps : ℕ → StepItem → List ℕ
-item_steps cores (InOrder order times) = repeated times order
-item_steps cores (Drawn seed count) = map (core_of_word cores) (words count (generator_of seed))
+item_steps cores (Steps order times) = repeated times order
+item_steps cores (Mix seed count) = map (core_of_word cores) (words count (generator_of seed))
 
 -- the core of each step of the items, one item after another
 unfoldable pub core_steps : ℕ → List StepItem → List ℕ

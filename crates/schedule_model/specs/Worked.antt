@@ -1,7 +1,7 @@
 -- Worked schedules, computed from the definitions.
 use Rattle.std.specs.Prelude.{◌≡◌, ℕ, List, [], ◌∷◌, ◌++◌, map, sum, replicate}
 use Rattle.kernel_model.specs.Events.{Event, CoreStep, Fail}
-use Rattle.schedule_model.specs.Schedules.{InOrder, Drawn}
+use Rattle.schedule_model.specs.Schedules.{Steps, Mix}
 use Rattle.schedule_model.specs.CoreSteps.{core_steps}
 use Rattle.schedule_model.specs.Failures.{with_failures, events_of}
 
@@ -39,12 +39,12 @@ FailureAtTheEnd =
 -- a sequence twice, and then steps that a generator draws
 abbrev pub SequenceTwice : Type 0
 SequenceTwice =
-    events_of (record { cores = 2; items = InOrder (0 ∷ 1 ∷ 1 ∷ []) 2 ∷ Drawn 18 1 ∷ []; on_times = 4 ∷ [] })
+    events_of (record { cores = 2; items = Steps (0 ∷ 1 ∷ 1 ∷ []) 2 ∷ Mix 18 1 ∷ []; on_times = 4 ∷ [] })
     ≡ map CoreStep (0 ∷ 1 ∷ 1 ∷ 0 ∷ []) ++ Fail ∷ map CoreStep (1 ∷ 1 ∷ 1 ∷ [])
 
 -- what the seeds 18 and 5 draw, computed beside this with the reference code of PCG
 abbrev pub DrawnSteps : Type 0
 DrawnSteps =
-    (core_steps 2 (Drawn 18 16 ∷ []) ≡ 1 ∷ 1 ∷ 0 ∷ 0 ∷ 1 ∷ 1 ∷ 0 ∷ 1 ∷ 0 ∷ 0 ∷ 1 ∷ 1 ∷ 0 ∷ 1 ∷ 0 ∷ 1 ∷ [])
-    × (core_steps 8 (Drawn 5 16 ∷ []) ≡ 1 ∷ 0 ∷ 7 ∷ 5 ∷ 0 ∷ 5 ∷ 4 ∷ 0 ∷ 6 ∷ 1 ∷ 7 ∷ 4 ∷ 3 ∷ 5 ∷ 7 ∷ 4 ∷ [])
-    × (sum (core_steps 8 (Drawn 5 1000 ∷ [])) ≡ 3598)
+    (core_steps 2 (Mix 18 16 ∷ []) ≡ 1 ∷ 1 ∷ 0 ∷ 0 ∷ 1 ∷ 1 ∷ 0 ∷ 1 ∷ 0 ∷ 0 ∷ 1 ∷ 1 ∷ 0 ∷ 1 ∷ 0 ∷ 1 ∷ [])
+    × (core_steps 8 (Mix 5 16 ∷ []) ≡ 1 ∷ 0 ∷ 7 ∷ 5 ∷ 0 ∷ 5 ∷ 4 ∷ 0 ∷ 6 ∷ 1 ∷ 7 ∷ 4 ∷ 3 ∷ 5 ∷ 7 ∷ 4 ∷ [])
+    × (sum (core_steps 8 (Mix 5 1000 ∷ [])) ≡ 3598)

@@ -11,7 +11,7 @@ use Rattle.std.proofs.lemmas.Fmt.{length_signed_le}
 use Rattle.std.proofs.lemmas.List.{append-nil}
 use Rattle.std.proofs.lemmas.List.Folds.{list_all-append}
 use Rattle.std.proofs.lemmas.List.Splits.{slice_split_at}
-use Rattle.plain_text.specs.Words.{is_blank, words_in, words_of}
+use Rattle.plain_text.specs.Words.{is_blank, words_in, line_words}
 use Rattle.rv_isa.specs.Names.{mnemonic_of, register_names, register_name}
 use Rattle.rv_isa.specs.Ranges.{IsInstr, IsImmediate}
 use Rattle.rv_isa.specs.Table.{instruction_of}
@@ -183,7 +183,7 @@ code_line word rest most first piece fits =
     } in
     let split : slice_split is_blank (word ++ 32 ∷ rest) ≡ word ∷ slice_split is_blank rest = slice_split_at is_blank word 32 rest (no_blanks word first.written) refl in
     let some : eqb (length word) 0 ≡ false = let s = first.written.some in ne_eqb _ _ (omega arith) in
-    let words : words_of (word ++ 32 ∷ rest) ≡ word ∷ words_in rest = ap words_in (before_comment (word ++ 32 ∷ rest) line) ∙ rw (split, some) refl in
+    let words : line_words (word ++ 32 ∷ rest) ≡ word ∷ words_in rest = ap words_in (before_comment (word ++ 32 ∷ rest) line) ∙ rw (split, some) refl in
     record {
       line = line;
       inside = rw words first.other;
@@ -193,7 +193,7 @@ code_line word rest most first piece fits =
 code_word : (word : List ℕ) → IsFirst word → IsCode word
 code_word word first =
     let line : IsLine word = record { bytes = word_line word first.written.bytes; some = first.written.some } in
-    let words : words_of word ≡ word ∷ [] = ap words_of (sym (append-nil word)) ∙ spaced_words word [] first.written tt in
+    let words : line_words word ≡ word ∷ [] = ap line_words (sym (append-nil word)) ∙ spaced_words word [] first.written tt in
     record { line = line; inside = rw words first.other; few = let f = first.few in omega arith }
 
 -- ---- instructions

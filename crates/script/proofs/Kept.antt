@@ -5,7 +5,7 @@ use Rattle.kernel_model.specs.Effects.{Spawn}
 use Rattle.nv_base.specs.declared.limits.TheConstants.{MAX_FORMAT}
 use Rattle.set_model.specs.Limits.{IsWithin, max_objects, max_records}
 use Rattle.set_model.specs.Names.{AreNames}
-use Rattle.set_model.specs.Sets.{ObjectPart, ProgramPart, TaskSet}
+use Rattle.set_model.specs.Sets.{ObjPart, ProgPart, TaskSet}
 use Rattle.schedule_model.specs.Limits.{IsItem}
 use Rattle.schedule_model.specs.Schedules.{StepItem}
 use Rattle.script.specs.declared.keyword.Stage.{Stage}
@@ -130,10 +130,10 @@ follows (Some Run) Task h = absurd cc
 follows (Some Run) Schedule h = absurd cc
 follows (Some Run) Run h = absurd cc
 
-abbrev pub IsSized : ObjectPart → Type 0
+abbrev pub IsSized : ObjPart → Type 0
 IsSized o = IsWithin 1 64 o.size × IsWithin 2 8 o.slots × (length o.first ≡ o.size)
 
-abbrev pub IsFitting : ℕ → ProgramPart → Type 0
+abbrev pub IsFitting : ℕ → ProgPart → Type 0
 IsFitting memory p = IsWithin 1 1000000 p.fuel × (length p.code ≤ 1024) × (4 * length p.code ≤ memory)
 
 pub record Kept (r : ℕ) (set : TaskSet) (t : Timeline) : Type 0 where
@@ -244,7 +244,7 @@ kept_memory r set t k n w m b = record {
   programs = λ h. k.programs (omega arith);
   few_programs = k.few_programs;
   no_programs = λ h. k.no_programs (omega arith);
-  each_program = subst (λ (xs : List ProgramPart). AllByRecursion (IsFitting n) xs) (sym (k.no_programs (omega arith))) tt;
+  each_program = subst (λ (xs : List ProgPart). AllByRecursion (IsFitting n) xs) (sym (k.no_programs (omega arith))) tt;
   program_names = k.program_names;
   no_tasks = λ h. k.no_tasks (omega arith);
   few_tasks = k.few_tasks;
@@ -278,7 +278,7 @@ kept_records r set t k n w b = record {
   short = k.short;
 }
 
-pub kept_object : (r : ℕ) (set : TaskSet) (t : Timeline) → Kept r set t → (o : ObjectPart) → IsSized o → AreNames (map (λ o. o.name) (set.objects ++ o ∷ [])) → length set.objects ≢ max_objects set.format → (4 ≤ r) × (r ≤ 5) → Kept 5 (record set { objects = set.objects ++ o ∷ [] }) t
+pub kept_object : (r : ℕ) (set : TaskSet) (t : Timeline) → Kept r set t → (o : ObjPart) → IsSized o → AreNames (map (λ o. o.name) (set.objects ++ o ∷ [])) → length set.objects ≢ max_objects set.format → (4 ≤ r) × (r ≤ 5) → Kept 5 (record set { objects = set.objects ++ o ∷ [] }) t
 kept_object r set t k o s n f b = record {
   format = λ h. k.format (omega arith);
   cores = λ h. k.cores (omega arith);
@@ -302,7 +302,7 @@ kept_object r set t k o s n f b = record {
   short = k.short;
 }
 
-pub kept_program : (r : ℕ) (set : TaskSet) (t : Timeline) → Kept r set t → (p : ProgramPart) → IsFitting set.memory p → AreNames (map (λ p. p.name) (set.programs ++ p ∷ [])) → length set.programs ≢ 16 → (5 ≤ r) × (r ≤ 6) → Kept 6 (record set { programs = set.programs ++ p ∷ [] }) t
+pub kept_program : (r : ℕ) (set : TaskSet) (t : Timeline) → Kept r set t → (p : ProgPart) → IsFitting set.memory p → AreNames (map (λ p. p.name) (set.programs ++ p ∷ [])) → length set.programs ≢ 16 → (5 ≤ r) × (r ≤ 6) → Kept 6 (record set { programs = set.programs ++ p ∷ [] }) t
 kept_program r set t k p s n f b = record {
   format = λ h. k.format (omega arith);
   cores = λ h. k.cores (omega arith);

@@ -3,14 +3,15 @@ use Rattle.std.proofs.Common.{◌≡◌, ℕ, ◌+◌, ◌-◌, ◌%◌, ◌^◌
 use Rattle.std.specs.List.{AllByRecursion, list_all, flat_map, before_first}
 use Rattle.std.proofs.lemmas.Bool.{ltb-false, ltb-true, leb-true, eqb-true, eqb-false}
 use Rattle.std.proofs.lemmas.List.{length-map}
-use Rattle.plain_text.specs.Words.{is_plain, words_of}
+use Rattle.plain_text.specs.Words.{is_plain, line_words}
 use Rattle.plain_text.specs.Numbers.{is_numeral}
 use Rattle.kernel_model.specs.Effects.{Spawn}
 use Rattle.nv_base.specs.declared.limits.TheConstants.{MAX_FORMAT}
 use Rattle.set_model.specs.Limits.{IsWithin, max_objects, max_records}
-use Rattle.set_model.specs.Sets.{ObjectPart, TaskSet}
+use Rattle.set_model.specs.Sets.{ObjPart, TaskSet}
 use Rattle.schedule_model.specs.Limits.{IsItem, steps_together}
-use Rattle.schedule_model.specs.Schedules.{StepItem, InOrder, Drawn}
+use Rattle.schedule_model.specs.Schedules.{StepItem}
+use Rattle.schedule_model.specs.Schedules as schedules
 use Rattle.script.specs.declared.refusals.ScriptCause.{ScriptCause}
 use Rattle.script.specs.declared.refusals.ScriptCause.TheVariants as causes
 use Rattle.script.specs.declared.items.OnTimes.{OnTimes}
@@ -69,7 +70,7 @@ memory_ok set new words h =
 
 -- an object that a line gives
 record Adds (set new : TaskSet) : Type 0 where
-  object : ObjectPart
+  object : ObjPart
   word : List ℕ
   named : new_name (λ o. o.name) set.objects word ≡ Ok object.name
   size : IsWithin 1 64 object.size
@@ -88,7 +89,7 @@ object_ok set new words h =
     let c = bind_ok (number 1 64 w.1) (λ size. number 2 8 w.2 >>= λ slots. first_values size w.3 >>= λ first. last b.0 size slots first) new b.2 in
     let d = bind_ok (number 2 8 w.2) (λ slots. first_values c.0 w.3 >>= λ first. last b.0 c.0 slots first) new c.2 in
     let e = bind_ok (first_values c.0 w.3) (λ first. last b.0 c.0 d.0 first) new d.2 in
-    let object : ObjectPart = record { name = b.0; size = c.0; slots = d.0; first = e.0 } in
+    let object : ObjPart = record { name = b.0; size = c.0; slots = d.0; first = e.0 } in
     let t = refused_if (eqb (length set.objects) (max_objects set.format)) causes.Many (record set { objects = set.objects ++ object ∷ [] }) new e.2 in
     record {
       object = object;
@@ -138,10 +139,10 @@ within_ok : (cores : ℕ) (digits : List ℕ) (times : Option ℕ) (item : StepI
 within_ok cores digits None item h = absurd cc
 within_ok cores digits (Some times) item h = go (is_numeral 10 32 digits) refl h
   where
-    go : (b : Bool) → is_numeral 10 32 digits ≡ b → cond (not b) (Err causes.Number) (cond (list_all (λ d. ltb (d - 48) cores) digits && are_times times) (Ok (InOrder (map (λ d. d - 48) digits) times)) (Err causes.Range)) ≡ Ok item → IsItem cores item
+    go : (b : Bool) → is_numeral 10 32 digits ≡ b → cond (not b) (Err causes.Number) (cond (list_all (λ d. ltb (d - 48) cores) digits && are_times times) (Ok (schedules.Steps (map (λ d. d - 48) digits) times)) (Err causes.Range)) ≡ Ok item → IsItem cores item
     go false e h = absurd cc
     go true e h =
-        let t = allowed_if (list_all (λ d. ltb (d - 48) cores) digits && are_times times) causes.Range (InOrder (map (λ d. d - 48) digits) times) item h in
+        let t = allowed_if (list_all (λ d. ltb (d - 48) cores) digits && are_times times) causes.Range (schedules.Steps (map (λ d. d - 48) digits) times) item h in
         let u = both_true (list_all (λ d. ltb (d - 48) cores) digits) (are_times times) t.0 in
         let v = both_true (leb 1 times) (leb times 1000000) u.1 in
         let some = some_length digits e in
@@ -165,12 +166,12 @@ steps_ok cores t u words k h = go (eqb (length words) 0) h
 mix_ok : (cores : ℕ) (t u : Timeline) (words : Words) → AllByRecursion (IsItem cores) t.items → mix_after t words ≡ Ok u → AllByRecursion (IsItem cores) u.items × (event_count u ≤ 1000000)
 unfolding mix_after
 mix_ok cores t u words k h =
-    let last = λ (seed count : ℕ). let r : Result Timeline ScriptCause = cond (are_many (event_count t + count)) (Err causes.Many) (Ok (record t { items = t.items ++ Drawn seed count ∷ [] })) in r in
+    let last = λ (seed count : ℕ). let r : Result Timeline ScriptCause = cond (are_many (event_count t + count)) (Err causes.Many) (Ok (record t { items = t.items ++ schedules.Mix seed count ∷ [] })) in r in
     let a = bind_ok (two words) (λ word. number 0 (2 ^ 32 - 1) word.0 >>= λ seed. number 1 1000000 word.1 >>= λ count. last seed count) u h in
     let w = a.0 in
     let b = bind_ok (number 0 (2 ^ 32 - 1) w.0) (λ seed. number 1 1000000 w.1 >>= λ count. last seed count) u a.2 in
     let c = bind_ok (number 1 1000000 w.1) (λ count. last b.0 count) u b.2 in
-    let one : List StepItem = Drawn b.0 c.0 ∷ [] in
+    let one : List StepItem = schedules.Mix b.0 c.0 ∷ [] in
     let r = refused_if (are_many (event_count t + c.0)) causes.Many (record t { items = t.items ++ one }) u c.2 in
     let range = number_ok 1 1000000 c.0 w.1 c.1 in
     let count = few (event_count t + c.0) r.0 in
@@ -241,7 +242,7 @@ keyword_kept Object n p q words k f h =
     set_kept Object p q (object_after p.set words)
     (λ new e.
     let a = object_ok p.set new words e in
-    let names = named_with (λ (o : ObjectPart). o.name) p.set.objects a.object a.word a.object.name k.object_names a.named refl in
+    let names = named_with (λ (o : ObjPart). o.name) p.set.objects a.object a.word a.object.name k.object_names a.named refl in
     subst (λ (s : TaskSet). Kept 5 s p.timeline) a.same
     (kept_object (rank p.last) p.set p.timeline k a.object (a.size, a.slots, a.first) names (eqb-false (length p.set.objects) (max_objects p.set.format) a.room) (follows p.last stages.Object f)))
     h
@@ -283,8 +284,8 @@ words_kept n p q (first ∷ words) k h =
 
 pub line_kept : (n : ℕ) (p q : Parts) (line : List ℕ) → KeptParts p → line_after n p line ≡ Ok q → KeptParts q
 line_kept n p q line k h =
-    let a = plain (is_plain line) (words_after n p (words_of line)) h in
-    words_kept n p q (words_of line) k a
+    let a = plain (is_plain line) (words_after n p (line_words line)) h in
+    words_kept n p q (line_words line) k a
   where
     plain : (b : Bool) (r : Result Parts ScriptCause) → cond b r (Err causes.Byte) ≡ Ok q → r ≡ Ok q
     plain true r h = h

@@ -1,11 +1,11 @@
 -- Each block and each section keeps the limits, and so does a whole script.
 use Rattle.std.proofs.Common.{◌≡◌, ℕ, ◌+◌, ◌*◌, ◌≤◌, Bool, true, false, cond, not, is_some, List, [], ◌∷◌, length, map, position, Option, Some, None, Result, Ok, Err, ltb, eqb, refl, ap, subst, arith}
 use Rattle.std.proofs.lemmas.Bool.{ltb-false, eqb-false}
-use Rattle.plain_text.specs.Words.{is_plain, words_of}
+use Rattle.plain_text.specs.Words.{is_plain, line_words}
 use Rattle.rv_asm.specs.Assembly.{assembled}
 use Rattle.rv_asm.specs.declared.cause.AsmError.{AsmError}
 use Rattle.set_model.specs.Limits.{IsWithin}
-use Rattle.set_model.specs.Sets.{ProgramPart}
+use Rattle.set_model.specs.Sets.{ProgPart}
 use Rattle.script.specs.declared.refusals.ScriptCause.{ScriptCause}
 use Rattle.script.specs.declared.refusals.ScriptCause.TheVariants as causes
 use Rattle.script.specs.declared.keyword.BlockKind.{BlockKind}
@@ -50,7 +50,7 @@ header_ok p words header h =
 
 line_short : (code all : List ℕ) (line : List ℕ) → length code ≤ 1024 → code_line_after code line ≡ Ok all → length all ≤ 1024
 unfolding code_after
-line_short code all line few h = plain (is_plain line) (words_of line) h
+line_short code all line few h = plain (is_plain line) (line_words line) h
   where
     found : (b : Bool) (first : List ℕ) (words : List (List ℕ)) → cond (not b) (Err causes.Word) (with_words code (first ∷ words) >>= λ more. cond (ltb 1024 (length more)) (Err causes.Many) (Ok more)) ≡ Ok all → length all ≤ 1024
     found false first words h = absurd cc
@@ -101,8 +101,8 @@ block_kept short n p q kind words body end k h =
     let b = bind_ok (code_of kind n body) (λ code. at (n + 1 + length body) (program_after p header code end)) q a.2 in
     let code = b.0 in
     let o = program_ok p q header code end (at_ok (n + 1 + length body) (program_after p header code end) q b.2) in
-    let program : ProgramPart = record { name = header.name; fuel = header.fuel; code = code } in
-    let names = named_with (λ (x : ProgramPart). x.name) p.set.programs program s.word header.name k.program_names s.named refl in
+    let program : ProgPart = record { name = header.name; fuel = header.fuel; code = code } in
+    let names = named_with (λ (x : ProgPart). x.name) p.set.programs program s.word header.name k.program_names s.named refl in
     subst KeptParts o.1
     (kept_program (rank p.last) p.set p.timeline k program (s.fuel, code_short short kind n body code b.1, o.0) names (eqb-false (length p.set.programs) 16 s.room) (follows p.last stages.Program s.stage))
 

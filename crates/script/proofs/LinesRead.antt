@@ -5,7 +5,7 @@ use Rattle.std.specs.Fmt.{decimal}
 use Rattle.std.proofs.lemmas.Bool.{ne_eqb, le-ltb, eq-eqb}
 use Rattle.std.proofs.lemmas.List.{length-map}
 use Rattle.kernel_model.specs.Effects.{Spawn}
-use Rattle.set_model.specs.Sets.{ObjectPart, ProgramPart, TaskSet, program_at}
+use Rattle.set_model.specs.Sets.{ObjPart, ProgPart, TaskSet, program_at}
 use Rattle.set_model.specs.Limits.{IsObject, IsProgram, IsTask, max_objects}
 use Rattle.set_model.specs.Names.{IsName, AreDistinct}
 use Rattle.script.specs.declared.keyword.Stage.{Stage}
@@ -22,7 +22,7 @@ use Rattle.script.proofs.NamesRead.{is_new}
 
 -- ---- the set so far
 
-abbrev pub so_far : TaskSet → List ObjectPart → List ProgramPart → List Spawn → TaskSet
+abbrev pub so_far : TaskSet → List ObjPart → List ProgPart → List Spawn → TaskSet
 so_far set objects programs tasks = record {
   format = set.format;
   cores = set.cores;
@@ -33,7 +33,7 @@ so_far set objects programs tasks = record {
   tasks = tasks;
 }
 
-abbrev pub after : TaskSet → Option Stage → List ObjectPart → List ProgramPart → List Spawn → Parts
+abbrev pub after : TaskSet → Option Stage → List ObjPart → List ProgPart → List Spawn → Parts
 after set last objects programs tasks = record { last = last; cores_line = 2; set = so_far set objects programs tasks; timeline = no_events }
 
 -- ---- lines
@@ -45,10 +45,10 @@ line_is n p q first others one all read =
     rw (line_is_plain (spaced first others) (spaced_line first others one all), spaced_words first others one all) read
 
 -- the words of an object's line
-abbrev pub object_words : ObjectPart → List (List ℕ)
+abbrev pub object_words : ObjPart → List (List ℕ)
 object_words o = o.name ∷ decimal o.size ∷ decimal o.slots ∷ map decimal o.first
 
-values_are : (o : ObjectPart) → IsObject o → first_values o.size (map decimal o.first) ≡ Ok o.first
+values_are : (o : ObjPart) → IsObject o → first_values o.size (map decimal o.first) ≡ Ok o.first
 unfolding first_values
 values_are o h =
     let size : length (map decimal o.first) ≡ o.size = length-map o.first decimal ∙ h.first in
@@ -57,7 +57,7 @@ values_are o h =
     let right : eqb o.size o.size ≡ true = eq-eqb _ _ refl in
     rw (size, some, right) (values_back o.first h.words)
 
-pub object_is : (set : TaskSet) (done : List ObjectPart) (o : ObjectPart) (others : List (List ℕ)) → IsObject o → IsName o.name → AreDistinct (map (λ o. o.name) done ++ o.name ∷ others) → length done < max_objects set.format
+pub object_is : (set : TaskSet) (done : List ObjPart) (o : ObjPart) (others : List (List ℕ)) → IsObject o → IsName o.name → AreDistinct (map (λ o. o.name) done ++ o.name ∷ others) → length done < max_objects set.format
     → object_after (so_far set done [] []) (object_words o) ≡ Ok (so_far set (done ++ o ∷ []) [] [])
 unfolding object_after
 object_is set done o others h name once few =
@@ -85,10 +85,10 @@ task_is set done t h name known few =
 
 -- ---- programs
 
-abbrev pub program_words : ProgramPart → List (List ℕ)
+abbrev pub program_words : ProgPart → List (List ℕ)
 program_words p = p.name ∷ decimal p.fuel ∷ []
 
-pub header_is : (set : TaskSet) (last : Stage) (done : List ProgramPart) (p : ProgramPart) (others : List (List ℕ)) → may_follow (Some last) stages.Program ≡ true → IsProgram set.memory p → IsName p.name
+pub header_is : (set : TaskSet) (last : Stage) (done : List ProgPart) (p : ProgPart) (others : List (List ℕ)) → may_follow (Some last) stages.Program ≡ true → IsProgram set.memory p → IsName p.name
     → AreDistinct (map (λ p. p.name) done ++ p.name ∷ others) → length done < 16
     → header_of (after set (Some last) set.objects done []) (program_words p) ≡ Ok (record { name = p.name; fuel = p.fuel })
 unfolding header_of
@@ -97,7 +97,7 @@ header_is set last done p others may h name once few =
     let room : eqb (length done) 16 ≡ false = ne_eqb _ _ (omega arith) in
     rw (may, is_new (λ program. program.name) done p.name others name once, number_back 1 1000000 p.fuel fuel.0 fuel.1 (omega arith), room) refl
 
-pub program_is : (set : TaskSet) (last : Option Stage) (done : List ProgramPart) (p : ProgramPart) → IsProgram set.memory p
+pub program_is : (set : TaskSet) (last : Option Stage) (done : List ProgPart) (p : ProgPart) → IsProgram set.memory p
     → program_after (after set last set.objects done []) (record { name = p.name; fuel = p.fuel }) p.code (Some (codes "end")) ≡ Ok (after set (Some stages.Program) set.objects (done ++ p ∷ []) [])
 unfolding program_after
 program_is set last done p h =

@@ -1,7 +1,7 @@
 -- The lines of a script come in the order of the table.
 use Rattle.std.proofs.Common.{◌≡◌, ℕ, suc, ◌+◌, Bool, true, false, cond, ◌&&◌, List, [], ◌∷◌, ◌++◌, replicate, length, Option, Some, None, Ok, Err, refl, sym, ap, ◌∙◌, option_map}
 use Rattle.std.specs.List.{cons_option}
-use Rattle.plain_text.specs.Words.{is_plain, words_of}
+use Rattle.plain_text.specs.Words.{is_plain, line_words}
 use Rattle.script.specs.declared.refusals.ScriptCause.TheVariants as causes
 use Rattle.script.specs.declared.keyword.Keyword.{Keyword}
 use Rattle.script.specs.declared.keyword.BlockKind.{BlockKind}
@@ -198,11 +198,11 @@ words_next n p q (first ∷ words) h =
         let same : keyword ≡ k = cc in
         (rw (ap stage_of same) at f, last ∙ ap (λ (k : Keyword). Some (stage_of k)) same)
 
-line_next : (n : ℕ) (p q : Parts) (line : List ℕ) → line_after n p line ≡ Ok q → Next p.last q.last (stage_of_words (words_of line))
+line_next : (n : ℕ) (p q : Parts) (line : List ℕ) → line_after n p line ≡ Ok q → Next p.last q.last (stage_of_words (line_words line))
 line_next n p q line h = plain (is_plain line) h
   where
-    plain : (b : Bool) → cond b (words_after n p (words_of line)) (Err causes.Byte) ≡ Ok q → Next p.last q.last (stage_of_words (words_of line))
-    plain true h = words_next n p q (words_of line) h
+    plain : (b : Bool) → cond b (words_after n p (line_words line)) (Err causes.Byte) ≡ Ok q → Next p.last q.last (stage_of_words (line_words line))
+    plain true h = words_next n p q (line_words line) h
     plain false h = absurd cc
 
 block_next : (n : ℕ) (p q : Parts) (kind : BlockKind) (words body : List (List ℕ)) (end : Option (List ℕ)) → block_after n p kind words body end ≡ Ok q → Next p.last q.last (Some Program)

@@ -7,12 +7,12 @@ use Rattle.kernel_model.specs.Effects.{Spawn}
 use Rattle.rv_isa.specs.Ranges.{IsInstr}
 use Rattle.rv_isa.specs.Table.{instruction_of}
 use Rattle.rv_isa.specs.Texts.{text_of}
-use Rattle.rv_isa.specs.Words.{word_of}
+use Rattle.rv_isa.specs.Words.{instruction_word}
 use Rattle.rv_isa.specs.declared.instruction.Instr.{Instr}
 use Rattle.rv_asm.specs.Assembly.{assembled}
 use Rattle.rv_asm.specs.Disassembly.{disassembled}
 use Rattle.set_model.proofs.LimitFacts.{few_records}
-use Rattle.set_model.specs.Sets.{ObjectPart, ProgramPart, TaskSet, program_at}
+use Rattle.set_model.specs.Sets.{ObjPart, ProgPart, TaskSet, program_at}
 use Rattle.set_model.specs.Limits.{IsObject, IsProgram, IsTask, IsTaskSet}
 use Rattle.set_model.specs.Names.{IsName, IsNamed}
 use Rattle.script.specs.Reading.{read}
@@ -28,14 +28,14 @@ use Rattle.script.proofs.WrittenWords.{decimal_written, decimals_written, name_w
 
 -- ---- the words of a set are written as words
 
-objects_written : (objects : List ObjectPart) → AllByRecursion IsObject objects → AllByRecursion IsName (map (λ o. o.name) objects) → AllByRecursion (λ o. AllByRecursion IsWritten (object_words o)) objects
+objects_written : (objects : List ObjPart) → AllByRecursion IsObject objects → AllByRecursion IsName (map (λ o. o.name) objects) → AllByRecursion (λ o. AllByRecursion IsWritten (object_words o)) objects
 objects_written [] each names = tt
 objects_written (o ∷ objects) each names =
     let size = each.0.size in
     let slots = each.0.slots in
     ((name_written o.name names.0, (decimal_written o.size (omega arith), (decimal_written o.slots (omega arith), decimals_written o.first each.0.words))), objects_written objects each.1 names.1)
 
-programs_written : AreWithin → (memory : ℕ) (programs : List ProgramPart) → AllByRecursion (IsProgram memory) programs → AllByRecursion IsName (map (λ p. p.name) programs) → AllByRecursion IsWrittenProgram programs
+programs_written : AreWithin → (memory : ℕ) (programs : List ProgPart) → AllByRecursion (IsProgram memory) programs → AllByRecursion IsName (map (λ p. p.name) programs) → AllByRecursion IsWrittenProgram programs
 programs_written within memory [] each names = tt
 programs_written within memory (p ∷ programs) each names =
     let fuel = each.0.fuel in
@@ -64,7 +64,7 @@ set_written within set h named =
 -- ---- the laws of instructions, as they are needed here
 
 abbrev Back : Type 0
-Back = (word : ℕ) (i : Instr) → word < 2 ^ 32 → instruction_of word ≡ Some i → (word_of i ≡ word) × IsInstr i
+Back = (word : ℕ) (i : Instr) → word < 2 ^ 32 → instruction_of word ≡ Some i → (instruction_word i ≡ word) × IsInstr i
 
 abbrev Again : Type 0
 Again = (words : List ℕ) → AllByRecursion (λ word. word < 2 ^ 32) words → length words ≤ 1024 → assembled (lines (disassembled words)) ≡ Ok words

@@ -6,7 +6,7 @@ use Rattle.std.proofs.lemmas.Grind.{flat_map-append}
 use Rattle.std.proofs.lemmas.List.{append-nil}
 use Rattle.kernel_model.specs.Effects.{Spawn}
 use Rattle.rv_isa.specs.Texts.{text_of}
-use Rattle.set_model.specs.Sets.{ObjectPart, ProgramPart, TaskSet, program_at}
+use Rattle.set_model.specs.Sets.{ObjPart, ProgPart, TaskSet, program_at}
 use Rattle.script.specs.ScriptText.{field, number_text, object_text, code_text, program_text, task_text, script_text}
 use Rattle.script.proofs.LinesRead.{object_words, program_words, task_words}
 use Rattle.script.proofs.WrittenLines.{spaced, joined}
@@ -16,13 +16,13 @@ use Rattle.script.proofs.WrittenLines.{spaced, joined}
 abbrev pub number_line : List ℕ → ℕ → List ℕ
 number_line word n = spaced word (decimal n ∷ [])
 
-abbrev pub object_line : ObjectPart → List ℕ
+abbrev pub object_line : ObjPart → List ℕ
 object_line o = spaced (codes "object") (object_words o)
 
-abbrev pub program_line : ProgramPart → List ℕ
+abbrev pub program_line : ProgPart → List ℕ
 program_line p = spaced (codes "program") (program_words p)
 
-abbrev pub program_lines : ProgramPart → List (List ℕ)
+abbrev pub program_lines : ProgPart → List (List ℕ)
 program_lines p = program_line p ∷ (map text_of p.code ++ codes "end" ∷ [])
 
 abbrev pub task_line : TaskSet → Spawn → List ℕ
@@ -45,7 +45,7 @@ values_text : (ws : List ℕ) → flat_map (field (codes " ")) ws ≡ flat_map (
 values_text [] = refl
 values_text (w ∷ ws) = ap (λ (more : List ℕ). (32 ∷ decimal w) ++ more) (values_text ws)
 
-object_joined : (o : ObjectPart) → object_text o ≡ object_line o ++ 10 ∷ []
+object_joined : (o : ObjPart) → object_text o ≡ object_line o ++ 10 ∷ []
 object_joined o =
     let values : ((o.name ++ (32 ∷ decimal o.size)) ++ (32 ∷ decimal o.slots)) ++ flat_map (field (codes " ")) o.first ≡ o.name ++ ((32 ∷ decimal o.size) ++ ((32 ∷ decimal o.slots) ++ flat_map (λ word. 32 ∷ word) (map decimal o.first))) =
     four o.name (32 ∷ decimal o.size) (32 ∷ decimal o.slots) (flat_map (field (codes " ")) o.first)
@@ -60,7 +60,7 @@ program_seam : (name fuel code end : List ℕ) → (((name ++ fuel) ++ 10 ∷ []
 program_seam name fuel code end =
     append_assoc ((name ++ fuel) ++ 10 ∷ []) code end ∙ ap (λ (f : List ℕ). ((name ++ f) ++ 10 ∷ []) ++ (code ++ end)) (sym (append-nil fuel))
 
-program_joined : (p : ProgramPart) → program_text p ≡ joined (program_lines p)
+program_joined : (p : ProgPart) → program_text p ≡ joined (program_lines p)
 program_joined p =
     let body : flat_map code_text p.code ++ codes "end\n" ≡ joined (map text_of p.code ++ codes "end" ∷ []) =
     ap (λ (c : List ℕ). c ++ codes "end\n") (code_joined p.code) ∙ sym (flat_map-append (λ (line : List ℕ). line ++ 10 ∷ []) (map text_of p.code) (codes "end" ∷ [])) in
@@ -74,13 +74,13 @@ task_joined set t = ap (λ (arg : List ℕ). codes "task " ++ (((program_at set 
 number_joined : (n : ℕ) → decimal n ++ 10 ∷ [] ≡ (decimal n ++ []) ++ 10 ∷ []
 number_joined n = ap (λ (d : List ℕ). d ++ 10 ∷ []) (sym (append-nil (decimal n)))
 
-objects_joined : (objects : List ObjectPart) → flat_map object_text objects ≡ joined (map object_line objects)
+objects_joined : (objects : List ObjPart) → flat_map object_text objects ≡ joined (map object_line objects)
 objects_joined [] = refl
 objects_joined (o ∷ objects) =
     ap (λ (t : List ℕ). t ++ flat_map object_text objects) (object_joined o)
     ∙ ap (λ (t : List ℕ). (object_line o ++ 10 ∷ []) ++ t) (objects_joined objects)
 
-programs_joined : (programs : List ProgramPart) → flat_map program_text programs ≡ joined (flat_map program_lines programs)
+programs_joined : (programs : List ProgPart) → flat_map program_text programs ≡ joined (flat_map program_lines programs)
 programs_joined [] = refl
 programs_joined (p ∷ programs) =
     ap (λ (t : List ℕ). t ++ flat_map program_text programs) (program_joined p)

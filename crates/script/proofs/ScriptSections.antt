@@ -5,7 +5,7 @@ use Rattle.std.specs.Fmt.{decimal}
 use Rattle.std.proofs.lemmas.List.{append-nil}
 use Rattle.kernel_model.specs.Effects.{Spawn}
 use Rattle.rv_isa.specs.Texts.{text_of}
-use Rattle.set_model.specs.Sets.{ObjectPart, ProgramPart, TaskSet}
+use Rattle.set_model.specs.Sets.{ObjPart, ProgPart, TaskSet}
 use Rattle.script.specs.declared.keyword.BlockKind.{BlockKind}
 use Rattle.script.specs.declared.keyword.BlockKind.TheVariants as blocks
 use Rattle.script.specs.Keywords.{block_kind_of}
@@ -17,7 +17,7 @@ use Rattle.script.proofs.WrittenLines.{IsWritten, literal, IsLine, spaced, space
 
 -- ---- what is known of the words of a set
 
-pub record IsWrittenProgram (p : ProgramPart) : Type 0 where
+pub record IsWrittenProgram (p : ProgPart) : Type 0 where
   pub words : AllByRecursion IsWritten (program_words p)
   pub code : AllByRecursion IsCode (map text_of p.code)
 
@@ -36,7 +36,7 @@ all-append : {X : Type 0} (P : X → Type 0) (xs ys : List X) → AllByRecursion
 all-append P [] ys a b = b
 all-append P (x ∷ xs) ys a b = (a.0, all-append P xs ys a.1 b)
 
-object_lines_are : (objects : List ObjectPart) → AllByRecursion (λ o. AllByRecursion IsWritten (object_words o)) objects → AllByRecursion IsLine (map object_line objects)
+object_lines_are : (objects : List ObjPart) → AllByRecursion (λ o. AllByRecursion IsWritten (object_words o)) objects → AllByRecursion IsLine (map object_line objects)
 object_lines_are [] all = tt
 object_lines_are (o ∷ objects) all = (spaced_line (codes "object") (object_words o) (literal (codes "object") refl) all.0, object_lines_are objects all.1)
 
@@ -44,7 +44,7 @@ pub code_lines_are : (ls : List (List ℕ)) → AllByRecursion IsCode ls → All
 code_lines_are [] all = tt
 code_lines_are (l ∷ ls) all = (all.0.line, code_lines_are ls all.1)
 
-program_lines_are : (programs : List ProgramPart) → AllByRecursion IsWrittenProgram programs → AllByRecursion IsLine (flat_map program_lines programs)
+program_lines_are : (programs : List ProgPart) → AllByRecursion IsWrittenProgram programs → AllByRecursion IsLine (flat_map program_lines programs)
 program_lines_are [] all = tt
 program_lines_are (p ∷ programs) all =
     all-append IsLine (program_lines p) (flat_map program_lines programs) (
@@ -111,10 +111,10 @@ block_goes kind words body (line ∷ more) end rest all h =
 
 -- ---- the sections of a set
 
-abbrev pub object_section : ObjectPart → Section
+abbrev pub object_section : ObjPart → Section
 object_section o = Single (object_line o)
 
-abbrev pub program_section : ProgramPart → Section
+abbrev pub program_section : ProgPart → Section
 program_section p = Block blocks.Program (program_words p) (map text_of p.code) (Some (codes "end"))
 
 abbrev pub task_section : TaskSet → Spawn → Section
@@ -125,7 +125,7 @@ script_sections set =
     Single (number_line (codes "nvk") set.format) ∷ Single (number_line (codes "cores") set.cores) ∷ Single (number_line (codes "memory") set.memory) ∷ Single (number_line (codes "records") set.records) ∷
     (map object_section set.objects ++ (map program_section set.programs ++ (map (task_section set) set.tasks ++ Single (codes "run") ∷ [])))
 
-objects_cut : (objects : List ObjectPart) (rest : List (List ℕ)) → AllByRecursion (λ o. AllByRecursion IsWritten (object_words o)) objects
+objects_cut : (objects : List ObjPart) (rest : List (List ℕ)) → AllByRecursion (λ o. AllByRecursion IsWritten (object_words o)) objects
     → sections_from None (map object_line objects ++ rest) ≡ map object_section objects ++ sections_from None rest
 objects_cut [] rest all = refl
 objects_cut (o ∷ objects) rest all =
@@ -142,7 +142,7 @@ tasks_cut set (t ∷ tasks) rest all =
 regroup : (code : List (List ℕ)) (end : List ℕ) (more rest : List (List ℕ)) → ((code ++ end ∷ []) ++ more) ++ rest ≡ code ++ end ∷ (more ++ rest)
 regroup code end more rest = append_assoc (code ++ end ∷ []) more rest ∙ append_assoc code (end ∷ []) (more ++ rest)
 
-programs_cut : (programs : List ProgramPart) (rest : List (List ℕ)) → AllByRecursion IsWrittenProgram programs
+programs_cut : (programs : List ProgPart) (rest : List (List ℕ)) → AllByRecursion IsWrittenProgram programs
     → sections_from None (flat_map program_lines programs ++ rest) ≡ map program_section programs ++ sections_from None rest
 programs_cut [] rest all = refl
 programs_cut (p ∷ programs) rest all =

@@ -9,7 +9,7 @@ use Rattle.rv_isa.specs.Texts.{text_of}
 use Rattle.rv_asm.specs.Assembly.{assembled}
 use Rattle.nv_base.specs.declared.limits.TheConstants.{MAX_FORMAT}
 use Rattle.set_model.proofs.LimitFacts.{most_records}
-use Rattle.set_model.specs.Sets.{ObjectPart, ProgramPart, TaskSet, program_at}
+use Rattle.set_model.specs.Sets.{ObjPart, ProgPart, TaskSet, program_at}
 use Rattle.set_model.specs.Limits.{IsObject, IsProgram, IsTask, IsTaskSet, max_objects, max_records}
 use Rattle.set_model.specs.Names.{IsName, IsNamed, AreDistinct}
 use Rattle.script.specs.declared.keyword.BlockKind.TheVariants as blocks
@@ -56,19 +56,19 @@ last_some last now (x ∷ xs) some = last_same now xs
 
 -- ---- objects
 
-object_words_after : (set : TaskSet) (n : ℕ) (last : Stage) (done : List ObjectPart) (o : ObjectPart) (others : List (List ℕ)) → may_follow (Some last) stages.Object ≡ true
+object_words_after : (set : TaskSet) (n : ℕ) (last : Stage) (done : List ObjPart) (o : ObjPart) (others : List (List ℕ)) → may_follow (Some last) stages.Object ≡ true
     → IsObject o → IsName o.name → AreDistinct (map (λ o. o.name) done ++ o.name ∷ others) → length done < max_objects set.format
     → words_after n (after set (Some last) done [] []) (codes "object" ∷ object_words o) ≡ Ok (after set (Some stages.Object) (done ++ o ∷ []) [] [])
 unfolding words_after
 object_words_after set n last done o others may h name once few = rw (may, object_is set done o others h name once few) refl
 
-objects_read : (set : TaskSet) (last : Stage) (done todo : List ObjectPart) (n : ℕ) (rest : List Section) → set.objects ≡ done ++ todo → may_follow (Some last) stages.Object ≡ true
+objects_read : (set : TaskSet) (last : Stage) (done todo : List ObjPart) (n : ℕ) (rest : List Section) → set.objects ≡ done ++ todo → may_follow (Some last) stages.Object ≡ true
     → AllByRecursion IsObject todo → AllByRecursion IsName (map (λ o. o.name) todo) → AllByRecursion (λ o. AllByRecursion IsWritten (object_words o)) todo → AreDistinct (map (λ o. o.name) set.objects) → length set.objects ≤ max_objects set.format
     → (m : ℕ) × (sections_after n (after set (Some last) done [] []) (map object_section todo ++ rest) ≡ sections_after m (after set (Some (last_of last stages.Object todo)) set.objects [] []) rest)
 objects_read set last done [] n rest e may each names words once few =
-    (n, ap (λ (os : List ObjectPart). sections_after n (after set (Some last) os [] []) rest) (sym (append-nil done) ∙ sym e))
+    (n, ap (λ (os : List ObjPart). sections_after n (after set (Some last) os [] []) rest) (sym (append-nil done) ∙ sym e))
 objects_read set last done (o ∷ todo) n rest e may each names words once few =
-    let seam : map (λ o. o.name) set.objects ≡ map (λ o. o.name) done ++ o.name ∷ map (λ o. o.name) todo = ap (map (λ (o : ObjectPart). o.name)) e ∙ map-append (λ (o : ObjectPart). o.name) done (o ∷ todo) in
+    let seam : map (λ o. o.name) set.objects ≡ map (λ o. o.name) done ++ o.name ∷ map (λ o. o.name) todo = ap (map (λ (o : ObjPart). o.name)) e ∙ map-append (λ (o : ObjPart). o.name) done (o ∷ todo) in
     let distinct : AreDistinct (map (λ o. o.name) done ++ o.name ∷ map (λ o. o.name) todo) = subst AreDistinct seam once in
     let room : length done < max_objects set.format = let total : length set.objects ≡ length done + length (o ∷ todo) = ap length e ∙ length-append done (o ∷ todo) in omega arith in
     let q = after set (Some stages.Object) (done ++ o ∷ []) [] [] in
@@ -98,20 +98,20 @@ code_is n body code all h =
     let none : ltb (length body) (length body) ≡ false = le-ltb _ _ (omega arith) in
     rw (none_bad body all, none, none_empty body all, h) refl
 
-block_is : (set : TaskSet) (n : ℕ) (last : Stage) (done : List ProgramPart) (p : ProgramPart) (others : List (List ℕ)) → AreAssembled → may_follow (Some last) stages.Program ≡ true
+block_is : (set : TaskSet) (n : ℕ) (last : Stage) (done : List ProgPart) (p : ProgPart) (others : List (List ℕ)) → AreAssembled → may_follow (Some last) stages.Program ≡ true
     → IsProgram set.memory p → IsName p.name → IsWrittenProgram p → AreDistinct (map (λ p. p.name) done ++ p.name ∷ others) → length done < 16
     → block_after n (after set (Some last) set.objects done []) blocks.Program (program_words p) (map text_of p.code) (Some (codes "end")) ≡ Ok (after set (Some stages.Program) set.objects (done ++ p ∷ []) [])
 unfolding block_after
 block_is set n last done p others assemble may h name written once few =
     rw (header_is set last done p others may h name once few, code_is n (map text_of p.code) p.code written.code (assemble p.code h.words h.code), program_is set (Some last) done p h) refl
 
-programs_read : (set : TaskSet) (last : Stage) (done todo : List ProgramPart) (n : ℕ) (rest : List Section) → AreAssembled → set.programs ≡ done ++ todo → may_follow (Some last) stages.Program ≡ true
+programs_read : (set : TaskSet) (last : Stage) (done todo : List ProgPart) (n : ℕ) (rest : List Section) → AreAssembled → set.programs ≡ done ++ todo → may_follow (Some last) stages.Program ≡ true
     → AllByRecursion (IsProgram set.memory) todo → AllByRecursion IsName (map (λ p. p.name) todo) → AllByRecursion IsWrittenProgram todo → AreDistinct (map (λ p. p.name) set.programs) → length set.programs ≤ 16
     → (m : ℕ) × (sections_after n (after set (Some last) set.objects done []) (map program_section todo ++ rest) ≡ sections_after m (after set (Some (last_of last stages.Program todo)) set.objects set.programs []) rest)
 programs_read set last done [] n rest assemble e may each names written once few =
-    (n, ap (λ (ps : List ProgramPart). sections_after n (after set (Some last) set.objects ps []) rest) (sym (append-nil done) ∙ sym e))
+    (n, ap (λ (ps : List ProgPart). sections_after n (after set (Some last) set.objects ps []) rest) (sym (append-nil done) ∙ sym e))
 programs_read set last done (p ∷ todo) n rest assemble e may each names written once few =
-    let seam : map (λ p. p.name) set.programs ≡ map (λ p. p.name) done ++ p.name ∷ map (λ p. p.name) todo = ap (map (λ (p : ProgramPart). p.name)) e ∙ map-append (λ (p : ProgramPart). p.name) done (p ∷ todo) in
+    let seam : map (λ p. p.name) set.programs ≡ map (λ p. p.name) done ++ p.name ∷ map (λ p. p.name) todo = ap (map (λ (p : ProgPart). p.name)) e ∙ map-append (λ (p : ProgPart). p.name) done (p ∷ todo) in
     let distinct : AreDistinct (map (λ p. p.name) done ++ p.name ∷ map (λ p. p.name) todo) = subst AreDistinct seam once in
     let room : length done < 16 = let total : length set.programs ≡ length done + length (p ∷ todo) = ap length e ∙ length-append done (p ∷ todo) in omega arith in
     let q = after set (Some stages.Program) set.objects (done ++ p ∷ []) [] in
@@ -122,7 +122,7 @@ programs_read set last done (p ∷ todo) n rest assemble e may each names writte
 
 -- ---- tasks
 
-name_at : (programs : List ProgramPart) (p : ℕ) (none : ProgramPart) → AllByRecursion IsName (map (λ q. q.name) programs) → p < length programs → IsName (get_or programs p none).name
+name_at : (programs : List ProgPart) (p : ℕ) (none : ProgPart) → AllByRecursion IsName (map (λ q. q.name) programs) → p < length programs → IsName (get_or programs p none).name
 name_at [] p none h l = absurd (omega arith)
 name_at (q ∷ programs) zero none h l = h.0
 name_at (q ∷ programs) (suc p) none h l = name_at programs p none h.1 (omega arith)
@@ -135,7 +135,7 @@ task_words_after : (set : TaskSet) (n : ℕ) (last : Stage) (done : List Spawn) 
 unfolding words_after
 task_words_after set n last done t may named h few =
     let name = task_name set t named h in
-    let known : known_name (λ p. p.name) set.programs (program_at set t.program).name ≡ Ok t.program = is_known (λ (p : ProgramPart). p.name) set.programs t.program _ name named.programs.once h.program in
+    let known : known_name (λ p. p.name) set.programs (program_at set t.program).name ≡ Ok t.program = is_known (λ (p : ProgPart). p.name) set.programs t.program _ name named.programs.once h.program in
     rw (may, task_is set done t h name known few) refl
 
 tasks_read : (set : TaskSet) (last : Stage) (done todo : List Spawn) (n : ℕ) (rest : List Section) → set.tasks ≡ done ++ todo → may_follow (Some last) stages.Task ≡ true → IsNamed set

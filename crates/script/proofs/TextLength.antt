@@ -5,7 +5,7 @@ use Rattle.std.specs.Fmt.{decimal}
 use Rattle.kernel_model.specs.Effects.{Spawn}
 use Rattle.rv_isa.specs.Texts.{text_of}
 use Rattle.set_model.proofs.LimitFacts.{few_objects, few_records}
-use Rattle.set_model.specs.Sets.{ObjectPart, ProgramPart, TaskSet, program_at}
+use Rattle.set_model.specs.Sets.{ObjPart, ProgPart, TaskSet, program_at}
 use Rattle.set_model.specs.Limits.{IsObject, IsProgram, IsTask, IsTaskSet}
 use Rattle.set_model.specs.Names.{IsName, IsNamed}
 use Rattle.script.specs.ScriptText.{field, number_text, object_text, code_text, program_text, task_text, script_text}
@@ -32,7 +32,7 @@ six : (a b c d e f : List ℕ) → length (a ++ b ++ c ++ d ++ e ++ f) ≡ lengt
 six a b c d e f =
     omega (arith, length-append (a ++ b ++ c ++ d ++ e) f, length-append (a ++ b ++ c ++ d) e, length-append (a ++ b ++ c) d, length-append (a ++ b) c, length-append a b)
 
-object_few : (o : ObjectPart) → IsObject o → IsName o.name → length (object_text o) ≤ 750
+object_few : (o : ObjPart) → IsObject o → IsName o.name → length (object_text o) ≤ 750
 object_few o h name =
     let size = h.size in
     let slots = h.slots in
@@ -43,7 +43,7 @@ object_few o h name =
     let c = flat_few (field (codes " ")) 11 o.first (fields_few o.first h.words) in
     omega (arith, six (codes "object ") o.name (field (codes " ") o.size) (field (codes " ") o.slots) (flat_map (field (codes " ")) o.first) (codes "\n"))
 
-objects_few : (objects : List ObjectPart) → AllByRecursion IsObject objects → AllByRecursion IsName (map (λ o. o.name) objects) → AllByRecursion (λ o. length (object_text o) ≤ 750) objects
+objects_few : (objects : List ObjPart) → AllByRecursion IsObject objects → AllByRecursion IsName (map (λ o. o.name) objects) → AllByRecursion (λ o. length (object_text o) ≤ 750) objects
 objects_few [] each names = tt
 objects_few (o ∷ objects) each names = (object_few o each.0 names.0, objects_few objects each.1 names.1)
 
@@ -51,7 +51,7 @@ codes_few : AreWithin → (ws : List ℕ) → AllByRecursion (λ w. w < 2 ^ 32) 
 codes_few within [] all = tt
 codes_few within (w ∷ ws) all = (let few = (word_code within w all.0).few in omega (arith, length-append (text_of w) (codes "\n")), codes_few within ws all.1)
 
-program_few : AreWithin → (memory : ℕ) (p : ProgramPart) → IsProgram memory p → IsName p.name → length (program_text p) ≤ 31784
+program_few : AreWithin → (memory : ℕ) (p : ProgPart) → IsProgram memory p → IsName p.name → length (program_text p) ≤ 31784
 program_few within memory p h name =
     let fuel = h.fuel in
     let code = h.code in
@@ -60,7 +60,7 @@ program_few within memory p h name =
     let b = flat_few code_text 31 p.code (codes_few within p.code h.words) in
     omega (arith, six (codes "program ") p.name (field (codes " ") p.fuel) (codes "\n") (flat_map code_text p.code) (codes "end\n"))
 
-programs_few : AreWithin → (memory : ℕ) (programs : List ProgramPart) → AllByRecursion (IsProgram memory) programs → AllByRecursion IsName (map (λ p. p.name) programs) → AllByRecursion (λ p. length (program_text p) ≤ 31784) programs
+programs_few : AreWithin → (memory : ℕ) (programs : List ProgPart) → AllByRecursion (IsProgram memory) programs → AllByRecursion IsName (map (λ p. p.name) programs) → AllByRecursion (λ p. length (program_text p) ≤ 31784) programs
 programs_few within memory [] each names = tt
 programs_few within memory (p ∷ programs) each names = (program_few within memory p each.0 names.0, programs_few within memory programs each.1 names.1)
 

@@ -7,7 +7,7 @@ use Rattle.std.proofs.lemmas.Bool.{le-leb, lt-ltb}
 use Rattle.kernel_model.specs.Effects.{Spawn}
 use Rattle.nv_base.specs.declared.limits.TheConstants.{MAX_FORMAT}
 use Rattle.set_model.specs.Limits.{IsWithin, max_objects, max_records}
-use Rattle.set_model.specs.Sets.{ObjectPart, ProgramPart, TaskSet}
+use Rattle.set_model.specs.Sets.{ObjPart, ProgPart, TaskSet}
 use Rattle.task_set.specs.FirstBroken.{first_broken, format_holds, cores_hold, memory_holds, records_hold, objects_hold, sizes_hold, slots_hold, firsts_hold, programs_hold, fuels_hold, codes_hold, tasks_hold, task_programs_hold}
 use Rattle.script.specs.declared.keyword.Stage.{Stage}
 use Rattle.script.specs.declared.keyword.Stage.TheVariants.{Nvk, Cores, Memory, Records, Object, Program, Task, Schedule, Run}
@@ -30,26 +30,26 @@ both false b e f = absurd cc
 in_range : (low high n : ℕ) → IsWithin low high n → is_in_range low high n ≡ true
 in_range low high n w = both (leb low n) (leb n high) (le-leb low n w.0) (le-leb n high w.1)
 
-sizes : (xs : List ObjectPart) → AllByRecursion IsSized xs → list_all (λ o. is_in_range 1 64 o.size) xs ≡ true
+sizes : (xs : List ObjPart) → AllByRecursion IsSized xs → list_all (λ o. is_in_range 1 64 o.size) xs ≡ true
 sizes [] h = refl
-sizes (x ∷ xs) h = both (is_in_range 1 64 x.size) (list_all (λ (o : ObjectPart). is_in_range 1 64 o.size) xs) (in_range 1 64 x.size h.0.0) (sizes xs h.1)
+sizes (x ∷ xs) h = both (is_in_range 1 64 x.size) (list_all (λ (o : ObjPart). is_in_range 1 64 o.size) xs) (in_range 1 64 x.size h.0.0) (sizes xs h.1)
 
-slots : (xs : List ObjectPart) → AllByRecursion IsSized xs → list_all (λ o. is_in_range 2 8 o.slots) xs ≡ true
+slots : (xs : List ObjPart) → AllByRecursion IsSized xs → list_all (λ o. is_in_range 2 8 o.slots) xs ≡ true
 slots [] h = refl
-slots (x ∷ xs) h = both (is_in_range 2 8 x.slots) (list_all (λ (o : ObjectPart). is_in_range 2 8 o.slots) xs) (in_range 2 8 x.slots h.0.1) (slots xs h.1)
+slots (x ∷ xs) h = both (is_in_range 2 8 x.slots) (list_all (λ (o : ObjPart). is_in_range 2 8 o.slots) xs) (in_range 2 8 x.slots h.0.1) (slots xs h.1)
 
-firsts : (xs : List ObjectPart) → AllByRecursion IsSized xs → list_all (λ o. eqb (length o.first) o.size) xs ≡ true
+firsts : (xs : List ObjPart) → AllByRecursion IsSized xs → list_all (λ o. eqb (length o.first) o.size) xs ≡ true
 firsts [] h = refl
-firsts (x ∷ xs) h = both (eqb (length x.first) x.size) (list_all (λ (o : ObjectPart). eqb (length o.first) o.size) xs) (eq-eqb (length x.first) x.size h.0.2) (firsts xs h.1)
+firsts (x ∷ xs) h = both (eqb (length x.first) x.size) (list_all (λ (o : ObjPart). eqb (length o.first) o.size) xs) (eq-eqb (length x.first) x.size h.0.2) (firsts xs h.1)
 
-fuels : (m : ℕ) (xs : List ProgramPart) → AllByRecursion (IsFitting m) xs → list_all (λ p. is_in_range 1 1000000 p.fuel) xs ≡ true
+fuels : (m : ℕ) (xs : List ProgPart) → AllByRecursion (IsFitting m) xs → list_all (λ p. is_in_range 1 1000000 p.fuel) xs ≡ true
 fuels m [] h = refl
-fuels m (x ∷ xs) h = both (is_in_range 1 1000000 x.fuel) (list_all (λ (p : ProgramPart). is_in_range 1 1000000 p.fuel) xs) (in_range 1 1000000 x.fuel h.0.0) (fuels m xs h.1)
+fuels m (x ∷ xs) h = both (is_in_range 1 1000000 x.fuel) (list_all (λ (p : ProgPart). is_in_range 1 1000000 p.fuel) xs) (in_range 1 1000000 x.fuel h.0.0) (fuels m xs h.1)
 
-codes : (m : ℕ) (xs : List ProgramPart) → AllByRecursion (IsFitting m) xs → list_all (λ p. leb (length p.code) 1024 && leb (4 * length p.code) m) xs ≡ true
+codes : (m : ℕ) (xs : List ProgPart) → AllByRecursion (IsFitting m) xs → list_all (λ p. leb (length p.code) 1024 && leb (4 * length p.code) m) xs ≡ true
 codes m [] h = refl
 codes m (x ∷ xs) h =
-    both (leb (length x.code) 1024 && leb (4 * length x.code) m) (list_all (λ (p : ProgramPart). leb (length p.code) 1024 && leb (4 * length p.code) m) xs)
+    both (leb (length x.code) 1024 && leb (4 * length x.code) m) (list_all (λ (p : ProgPart). leb (length p.code) 1024 && leb (4 * length p.code) m) xs)
     (both (leb (length x.code) 1024) (leb (4 * length x.code) m) (le-leb (length x.code) 1024 h.0.1) (le-leb (4 * length x.code) m h.0.2)) (codes m xs h.1)
 
 programs_known : (n : ℕ) (xs : List Spawn) → AllByRecursion (λ t. t.program < n) xs → list_all (λ t. ltb t.program n) xs ≡ true

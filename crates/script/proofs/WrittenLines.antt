@@ -7,7 +7,7 @@ use Rattle.std.proofs.lemmas.List.{take_all, append-nil}
 use Rattle.std.proofs.lemmas.List.Elements.{All-from_recursion}
 use Rattle.std.proofs.lemmas.List.Folds.{list_all-append}
 use Rattle.std.proofs.lemmas.List.Splits.{slice_split_at, slice_split_none, length-slice_split}
-use Rattle.plain_text.specs.Words.{is_blank, is_plain, words_in, words_of}
+use Rattle.plain_text.specs.Words.{is_blank, is_plain, words_in, line_words}
 
 -- ---- bytes
 
@@ -138,7 +138,7 @@ kept (w ∷ words) all =
     let some : eqb (length w) 0 ≡ false = let s = all.0.some in ne_eqb _ _ (omega arith) in
     rw (some, kept words all.1) refl
 
-pub spaced_words : (first : List ℕ) (others : List (List ℕ)) → IsWritten first → AllByRecursion IsWritten others → words_of (spaced first others) ≡ first ∷ others
+pub spaced_words : (first : List ℕ) (others : List (List ℕ)) → IsWritten first → AllByRecursion IsWritten others → line_words (spaced first others) ≡ first ∷ others
 spaced_words first others one all =
     ap words_in (before_comment (spaced first others) (spaced_line first others one all))
     ∙ ap (filter (λ w. not (eqb (length w) 0))) (split_spaced first others one all)

@@ -1,7 +1,7 @@
 -- What a block makes of the lines so far: a program. This project's own.
 use Rattle.std.specs.Prelude.{ℕ, ◌+◌, ◌*◌, ◌==◌, nat_lt, Bool, not, is_some, List, [], ◌∷◌, ◌++◌, length, map, position, Option, Some, None, Result, Ok, Err, if◌then◌else◌}
 use Rattle.nv_base.specs.declared.limits.TheConstants.{MAX_CODE, MAX_FUEL, MAX_PROGRAMS}
-use Rattle.plain_text.specs.Words.{is_plain, words_of}
+use Rattle.plain_text.specs.Words.{is_plain, line_words}
 use Rattle.plain_text.specs.Numbers.{value_in}
 use Rattle.rv_asm.specs.Assembly.{assembled}
 use Rattle.rv_asm.specs.declared.cause.AsmError.{AsmError}
@@ -60,7 +60,7 @@ code_after code (first ∷ words) =
       if nat_lt MAX_CODE (length all) then Err Many else Ok all
 
 abbrev pub code_line_after : List ℕ → List ℕ → Result (List ℕ) ScriptCause
-code_line_after code line = if is_plain line then code_after code (words_of line) else Err Byte
+code_line_after code line = if is_plain line then code_after code (line_words line) else Err Byte
 
 -- the lines of a `code` block, from line n on
 unfoldable pub code_lines_after : ℕ → List ℕ → List (List ℕ) → Result (List ℕ) ScriptError
@@ -103,7 +103,7 @@ abbrev pub is_ended : Option (List ℕ) → Result (List ℕ) ScriptCause
 is_ended None = Err End
 is_ended (Some line) =
     if not (is_plain line) then Err Byte
-    else if length (words_of line) == 1 then Ok line
+    else if length (line_words line) == 1 then Ok line
     else Err Count
 
 abbrev pub with_program : Parts → Header → List ℕ → Parts

@@ -26,26 +26,26 @@ code_word_of code.Label = codes "code label"
 code_word_of code.Twice = codes "code twice"
 code_word_of code.TooLong = codes "code toolong"
 
-abbrev pub word_of : ScriptCause → List ℕ
-word_of cause.Long = codes "long"
-word_of cause.Byte = codes "byte"
-word_of cause.Word = codes "word"
-word_of cause.Count = codes "count"
-word_of cause.Name = codes "name"
-word_of cause.Twice = codes "twice"
-word_of cause.Unknown = codes "unknown"
-word_of cause.Number = codes "number"
-word_of cause.Range = codes "range"
-word_of (cause.Code c) = code_word_of c
-word_of cause.Many = codes "many"
-word_of cause.End = codes "end"
+abbrev pub cause_word : ScriptCause → List ℕ
+cause_word cause.Long = codes "long"
+cause_word cause.Byte = codes "byte"
+cause_word cause.Word = codes "word"
+cause_word cause.Count = codes "count"
+cause_word cause.Name = codes "name"
+cause_word cause.Twice = codes "twice"
+cause_word cause.Unknown = codes "unknown"
+cause_word cause.Number = codes "number"
+cause_word cause.Range = codes "range"
+cause_word (cause.Code c) = code_word_of c
+cause_word cause.Many = codes "many"
+cause_word cause.End = codes "end"
 
 -- with its line feed
 abbrev pub line_for : Status → List ℕ
 line_for Done = []
 line_for WriteFault = []
 line_for Usage = codes "error usage\n"
-line_for (Script e) = codes "error script " ++ decimal e.line ++ codes " " ++ word_of e.cause ++ codes "\n"
+line_for (Script e) = codes "error script " ++ decimal e.line ++ codes " " ++ cause_word e.cause ++ codes "\n"
 line_for (Packed place) = codes "error packed " ++ decimal place ++ codes "\n"
 line_for ReadFault = codes "error read\n"
 line_for NoMemory = codes "error memory\n"

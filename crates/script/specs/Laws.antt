@@ -1,7 +1,7 @@
 -- What acceptance and refusal mean for a script as a whole. This project's own.
 use Rattle.std.specs.Prelude.{◌≡◌, ℕ, suc, ◌+◌, ◌<◌, ◌≤◌, List, [], ◌∷◌, ◌++◌, take, replicate, Option, Some, None, option_map, slice_get, Ok, Err}
 use Rattle.std.specs.List.{filter_map}
-use Rattle.plain_text.specs.Words.{words_of}
+use Rattle.plain_text.specs.Words.{line_words}
 use Rattle.set_model.specs.Names.{IsNamed}
 use Rattle.schedule_model.specs.Limits.{IsSchedule}
 use Rattle.task_set.specs.FirstBroken.{first_broken}
@@ -36,7 +36,7 @@ stage_of_words (first ∷ words) = option_map stage_of (keyword_of first)
 
 -- where a section stands in the order of a script, if it has words
 abbrev pub stage_in : Section → Option Stage
-stage_in (Single line) = stage_of_words (words_of line)
+stage_in (Single line) = stage_of_words (line_words line)
 stage_in (Block kind words body end) = Some Program
 
 abbrev pub stages_of : List Section → List Stage

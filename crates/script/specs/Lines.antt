@@ -1,6 +1,6 @@
 -- What a line that stands alone makes of the lines so far. This project's own.
 use Rattle.std.specs.Prelude.{ℕ, ◌==◌, List, [], ◌∷◌, length, Option, Some, None, Result, Ok, Err, if◌then◌else◌}
-use Rattle.plain_text.specs.Words.{is_plain, words_of}
+use Rattle.plain_text.specs.Words.{is_plain, line_words}
 use Rattle.script.specs.declared.refusals.ScriptCause.{ScriptCause}
 use Rattle.script.specs.declared.refusals.ScriptCause.TheVariants.{Byte, Word, Count}
 use Rattle.script.specs.declared.keyword.Keyword.{Keyword}
@@ -52,4 +52,4 @@ words_after n p (first ∷ words) = do
 
 -- line n
 abbrev pub line_after : ℕ → Parts → List ℕ → Result Parts ScriptCause
-line_after n p line = if is_plain line then words_after n p (words_of line) else Err Byte
+line_after n p line = if is_plain line then words_after n p (line_words line) else Err Byte

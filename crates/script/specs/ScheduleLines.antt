@@ -3,7 +3,7 @@ use Rattle.std.specs.Prelude.{ℕ, ◌+◌, ◌-◌, ◌^◌, ◌==◌, ◌&&◌
 use Rattle.std.specs.List.{list_all, before_first, after_first, flat_map}
 use Rattle.nv_base.specs.declared.limits.TheConstants.{MAX_EVENTS}
 use Rattle.plain_text.specs.Numbers.{is_numeral, value_in}
-use Rattle.schedule_model.specs.Schedules.{StepItem, InOrder, Drawn}
+use Rattle.schedule_model.specs.Schedules.{StepItem, Steps, Mix}
 use Rattle.schedule_model.specs.Limits.{steps_together}
 use Rattle.script.specs.declared.refusals.ScriptCause.{ScriptCause}
 use Rattle.script.specs.declared.refusals.ScriptCause.TheVariants.{Count, Number, Range, Many}
@@ -35,7 +35,7 @@ abbrev pub steps_within : ℕ → List ℕ → Option ℕ → Result StepItem Sc
 steps_within cores digits None = Err Number
 steps_within cores digits (Some times) =
     if not (is_numeral 10 32 digits) then Err Number
-    else if list_all (λ d. nat_lt (d - 48) cores) digits && are_times times then Ok (InOrder (map (λ d. d - 48) digits) times)
+    else if list_all (λ d. nat_lt (d - 48) cores) digits && are_times times then Ok (Steps (map (λ d. d - 48) digits) times)
     else Err Range
 
 -- `CORES` or `CORES*K`: each digit is a core
@@ -72,4 +72,4 @@ mix_after t words = do
   word ← two words
   seed ← number 0 (2 ^ 32 - 1) word.0
   count ← number 1 MAX_EVENTS word.1
-  if are_many (event_count t + count) then Err Many else Ok (record t { items = t.items ++ Drawn seed count ∷ [] })
+  if are_many (event_count t + count) then Err Many else Ok (record t { items = t.items ++ Mix seed count ∷ [] })

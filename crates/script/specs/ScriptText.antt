@@ -4,7 +4,7 @@ use Rattle.std.specs.Prelude.{ℕ, List, [], ◌++◌, codes}
 use Rattle.std.specs.List.{flat_map}
 use Rattle.std.specs.Fmt.{decimal}
 use Rattle.kernel_model.specs.Effects.{Spawn}
-use Rattle.set_model.specs.Sets.{ObjectPart, ProgramPart, TaskSet, program_at}
+use Rattle.set_model.specs.Sets.{ObjPart, ProgPart, TaskSet, program_at}
 use Rattle.rv_isa.specs.Texts.{text_of}
 use Rattle.script.specs.Parts.{Script}
 
@@ -17,7 +17,7 @@ abbrev pub number_text : List ℕ → ℕ → List ℕ
 number_text word n = field word n ++ codes "\n"
 
 -- `object NAME SIZE SLOTS VALUE ..`
-abbrev pub object_text : ObjectPart → List ℕ
+abbrev pub object_text : ObjPart → List ℕ
 object_text o = codes "object " ++ o.name ++ field (codes " ") o.size ++ field (codes " ") o.slots ++ flat_map (field (codes " ")) o.first ++ codes "\n"
 
 -- a word of code as its instruction
@@ -25,7 +25,7 @@ abbrev pub code_text : ℕ → List ℕ
 code_text word = text_of word ++ codes "\n"
 
 -- `program NAME FUEL`, the instructions, and `end`
-abbrev pub program_text : ProgramPart → List ℕ
+abbrev pub program_text : ProgPart → List ℕ
 program_text p = codes "program " ++ p.name ++ field (codes " ") p.fuel ++ codes "\n" ++ flat_map code_text p.code ++ codes "end\n"
 
 -- `task NAME ARG`, with the program's name

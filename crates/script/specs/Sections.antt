@@ -1,6 +1,6 @@
 -- A script cut into lines that stand alone, and blocks of lines up to an `end` line. This project's own.
 use Rattle.std.specs.Prelude.{ℕ, ◌+◌, Bool, false, is_some, List, [], ◌∷◌, ◌++◌, length, Option, Some, None, if◌then◌else◌, codes}
-use Rattle.plain_text.specs.Words.{is_plain, words_of}
+use Rattle.plain_text.specs.Words.{is_plain, line_words}
 use Rattle.script.specs.declared.keyword.BlockKind.{BlockKind}
 use Rattle.script.specs.Keywords.{is, block_kind_of}
 
@@ -25,7 +25,7 @@ opened_words (first ∷ words) = open_of (block_kind_of first) words
 
 -- the block that a line opens: none where it has a byte that is not allowed
 abbrev pub opened : List ℕ → Option Open
-opened line = if is_plain line then opened_words (words_of line) else None
+opened line = if is_plain line then opened_words (line_words line) else None
 
 abbrev pub is_end : List (List ℕ) → Bool
 is_end [] = false
@@ -33,7 +33,7 @@ is_end (first ∷ words) = is first (codes "end")
 
 -- a line ends a block also where it has a byte that is not allowed
 abbrev pub ends : List ℕ → Bool
-ends line = is_end (words_of line)
+ends line = is_end (line_words line)
 
 abbrev pub with_line : Open → List ℕ → Open
 with_line o line = record o { body = o.body ++ line ∷ [] }

@@ -3,7 +3,7 @@
 ghost use Rattle.std.specs.Prelude.{◌≡◌, ◌≢◌, ◌≤◌, ◌<◌, ◌+◌, ◌^◌, [], map, length, option_map, OnOk};
 ghost use Rattle.plain_text.specs.Left.{words_left};
 ghost use Rattle.script.specs.Answers.{Gives, Leaves, Reads, Takes};
-ghost use Rattle.script.specs.Blocks.{block_after, code_after, code_line_after, code_lines_after, code_of as code_words_of, code_word as code_word_of, header_of as words_header, hex_word as hex, is_ended as is_end_line, program_after, with_words};
+ghost use Rattle.script.specs.Blocks.{block_after, code_after, code_line_after, code_lines_after, code_of as code_words_of, code_word as code_word_of, header_of as words_header, hex_word as hex, is_ended, program_after, with_words};
 ghost use Rattle.script.specs.Views.{header_of};
 
 use crate::draft::Draft;
@@ -120,7 +120,7 @@ fn code_of(
 
 /// The `end` line, where it stands and has no other word.
 fn end_line(end: Option<&[u8]>) -> Result<&[u8], LineRefusal>
-    ensures { Gives (λ line. line.now) result (is_end_line (option_map (λ line. line.now) end.entry)) }
+    ensures { Gives (λ line. line.now) result (is_ended (option_map (λ line. line.now) end.entry)) }
 {
     let Some(line) = end else {
         return Err(LineRefusal::Fault(ScriptCause::End));

@@ -6,7 +6,7 @@ ghost use Rattle.plain_text.specs.Left.{words_left};
 ghost use Rattle.script.specs.Answers.{Gives, Leaves};
 ghost use Rattle.script.specs.Results.{each};
 ghost use Rattle.script.specs.SetLines.{cores_after, format_after, first_values as first_words, memory_after, object_after, records_after, task_after};
-ghost use Rattle.script.specs.Words.{known_name as known, new_name as new, place_of, value as value_word};
+ghost use Rattle.script.specs.Words.{known_name, new_name, place_of, value as value_word};
 
 use crate::refusals::{LineRefusal, ScriptCause};
 use crate::words::{number, one, three, two, value};
@@ -94,7 +94,7 @@ pub(crate) fn take_records(set: &mut SetParts, words: Words<'_>) -> Result<(), L
 
 /// A well-formed name that no object has.
 fn new_object_name<'a>(objects: &[ObjPart], word: &'a [u8]) -> Result<&'a [u8], LineRefusal>
-    ensures { Gives (λ w. w.now) result (new (λ o. o.name) objects.now word.entry.now) }
+    ensures { Gives (λ w. w.now) result (new_name (λ o. o.name) objects.now word.entry.now) }
 {
     if !is_name(word) {
         return Err(LineRefusal::Fault(ScriptCause::Name));
@@ -110,7 +110,7 @@ pub(crate) fn new_program_name<'a>(
     programs: &[ProgPart],
     word: &'a [u8],
 ) -> Result<&'a [u8], LineRefusal>
-    ensures { Gives (λ w. w.now) result (new (λ p. p.name) programs.now word.entry.now) }
+    ensures { Gives (λ w. w.now) result (new_name (λ p. p.name) programs.now word.entry.now) }
 {
     if !is_name(word) {
         return Err(LineRefusal::Fault(ScriptCause::Name));
@@ -123,7 +123,7 @@ pub(crate) fn new_program_name<'a>(
 
 /// Where the program of a well-formed name stands.
 fn known_program(programs: &[ProgPart], word: &[u8]) -> Result<usize, LineRefusal>
-    ensures exact { Gives (λ place. place) result (known (λ p. p.name) programs.now word.now) }
+    ensures exact { Gives (λ place. place) result (known_name (λ p. p.name) programs.now word.now) }
     ensures within { IfOk result (λ place. place < length programs.now) }
 {
     if !is_name(word) {
@@ -147,7 +147,7 @@ fn zeros(alloc: Global, size: u32) -> Result<WordList, NoMemory>
 fn values(alloc: Global, words: Words<'_>) -> Result<WordList, LineRefusal>
     ensures { Gives (λ list. list) result (each value_word (words_left words.entry)) }
 {
-    let mut values = WordList::new(alloc);
+    let mut values = WordList::new_name(alloc);
     for word in words {
         values.push(value(word)?)?;
     }

@@ -1,7 +1,7 @@
 //! How a command ended.
 
 ghost use Rattle.std.specs.Prelude.{◌≡◌};
-ghost use Rattle.script.specs.Exits.{exit_of, word_of};
+ghost use Rattle.script.specs.Exits.{exit_of, cause_word};
 
 use crate::refusals::{ScriptCause, ScriptError};
 use rv_asm::AsmCause;
@@ -59,7 +59,7 @@ impl Status {
 impl ScriptCause {
     /// The words that name the cause in the line of an answer.
     pub fn words(self) -> &'static str
-        ensures { result.now ≡ word_of self }
+        ensures { result.now ≡ cause_word self }
     {
         match self {
             ScriptCause::Long => "long",

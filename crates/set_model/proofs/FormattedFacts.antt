@@ -2,11 +2,11 @@
 use Rattle.std.proofs.Common.{◌≡◌, ℕ, zero, suc, ◌+◌, ◌<◌, ◌≤◌, length, List, [], ◌∷◌, get_or, map, refl, ap, arith}
 use Rattle.std.specs.List.{AllByRecursion}
 use Rattle.std.proofs.lemmas.List.{length-map}
-use Rattle.kernel_model.specs.Effects.{Spawn, words_of}
+use Rattle.kernel_model.specs.Effects.{Spawn, object_words}
 use Rattle.kernel_model.specs.Serial.{InIdOrder}
 use Rattle.kernel_model.specs.OpenTasks.{children}
 use Rattle.kernel_model.specs.Fit.{IsBase}
-use Rattle.set_model.specs.Sets.{ObjectPart, TaskSet}
+use Rattle.set_model.specs.Sets.{ObjPart, TaskSet}
 use Rattle.set_model.specs.Limits.{IsObject, IsTask, IsTaskSet}
 use Rattle.set_model.specs.Numbers.{sizes_of}
 use Rattle.set_model.specs.Formatted.{formatted}
@@ -31,8 +31,8 @@ programs : (n first : ℕ) (spawns : List Spawn) → AllByRecursion (IsTask n) s
 programs n first [] h = tt
 programs n first (s ∷ spawns) h = (h.0.program, programs n (first + 1) spawns h.1)
 
-words : (objects : List ObjectPart) (none : ObjectPart) (o : ℕ) → AllByRecursion IsObject objects → o < length objects
-    → length (words_of (map (λ p. p.first) objects) o) ≡ (get_or objects o none).size
+words : (objects : List ObjPart) (none : ObjPart) (o : ℕ) → AllByRecursion IsObject objects → o < length objects
+    → length (object_words (map (λ p. p.first) objects) o) ≡ (get_or objects o none).size
 words [] none o h l = absurd (omega (arith, l))
 words (p ∷ objects) none zero h l = h.0.first
 words (p ∷ objects) none (suc o) h l = words objects none o h.1 (omega arith)

@@ -3,7 +3,7 @@ use Rattle.std.specs.Prelude.{◌≡◌, ℕ, ◌*◌, ◌%◌, ◌^◌, ◌<◌
 use Rattle.std.specs.List.{AllByRecursion}
 use Rattle.kernel_model.specs.Effects.{Spawn}
 use Rattle.nv_base.specs.declared.limits.TheConstants.{MAX_CODE, MAX_CORES, MAX_FORMAT, MAX_FUEL, MAX_MEMORY, MAX_OBJECTS, MAX_OBJECTS_1, MAX_PROGRAMS, MAX_RECORDS, MAX_RECORDS_1, MAX_SIZE, MAX_SLOTS, MIN_MEMORY, MIN_SLOTS}
-use Rattle.set_model.specs.Sets.{ObjectPart, ProgramPart, TaskSet}
+use Rattle.set_model.specs.Sets.{ObjPart, ProgPart, TaskSet}
 
 -- from low to high, both included
 abbrev pub IsWithin : ℕ → ℕ → ℕ → Type 0
@@ -21,13 +21,13 @@ max_objects format = if format == 1 then MAX_OBJECTS_1 else MAX_OBJECTS
 abbrev pub max_records : ℕ → ℕ
 max_records format = if format == 1 then MAX_RECORDS_1 else MAX_RECORDS
 
-pub record IsObject (o : ObjectPart) : Type 0 where
+pub record IsObject (o : ObjPart) : Type 0 where
   pub size : IsWithin 1 MAX_SIZE o.size
   pub slots : IsWithin MIN_SLOTS MAX_SLOTS o.slots
   pub first : length o.first ≡ o.size
   pub words : AllByRecursion IsWord o.first
 
-pub record IsProgram (memory : ℕ) (p : ProgramPart) : Type 0 where
+pub record IsProgram (memory : ℕ) (p : ProgPart) : Type 0 where
   pub fuel : IsWithin 1 MAX_FUEL p.fuel
   pub code : length p.code ≤ MAX_CODE
   pub fits : 4 * length p.code ≤ memory

@@ -1,7 +1,7 @@
 -- From what a call has done, and the line that names its answer, to the answer.
 use Rattle.std.proofs.Common.{◌≡◌, ℕ, zero, suc, ◌≤◌, ◌⊎◌, List, [], take, Option, Some, None, inl, inr, refl, ap, sym, ◌∙◌, subst, arith}
 use Rattle.std.proofs.lemmas.Bool.{cases_lt}
-use Rattle.nv_base.specs.Streams.{PutFront, Rose, grown}
+use Rattle.nv_base.specs.Streams.{PutFront, FaultCounted, appended}
 use Rattle.sim_run.specs.Replies.{Refuses, reply, status_of}
 use Rattle.script.specs.Exits.{line_for}
 use Rattle.sim_run.specs.Answers.{Answered, AnsweredTo, Exchange, IsComplete, IsCutOff, IsDone, NoFault, OfInput, PutsNamed}
@@ -11,7 +11,7 @@ use Rattle.script.specs.declared.status.Status.{Status}
 use Rattle.script.specs.declared.status.Status.TheVariants.{Done, Usage, ReadFault, WriteFault, NoMemory, NotBuilt, Script, Packed}
 use Rattle.sim_run.proofs.Fronts.{grown_nothing, rose_later}
 
-rose_sooner : (a b c : ℕ) → Rose a b → b ≤ c → Rose a c
+rose_sooner : (a b c : ℕ) → FaultCounted a b → b ≤ c → FaultCounted a c
 rose_sooner a b c h l = (omega (arith, h.0), elim h.1 [ inl x ↦ inl (omega arith) | inr e ↦ elim (cases_lt b c) [ inl x ↦ inl (omega (arith, h.0)) | inr y ↦ inr (omega arith) ] ])
 
 take_none : (n : ℕ) → take {A = ℕ} n [] ≡ []
@@ -20,15 +20,15 @@ take_none (suc n) = refl
 
 no_name : (mid new : Option (List ℕ)) (rose : Type 0) → PutsName mid new rose [] → new ≡ mid
 no_name mid new rose (inl e) = e ∙ sym (grown_nothing mid)
-no_name mid new rose (inr h) = h.1.2 ∙ ap (grown mid) (take_none h.1.0) ∙ sym (grown_nothing mid)
+no_name mid new rose (inr h) = h.1.2 ∙ ap (appended mid) (take_none h.1.0) ∙ sym (grown_nothing mid)
 
 -- an exchange after the line
 abbrev pub later : Exchange → Option (List ℕ) → ℕ → Exchange
 later x new faults = record x { taken_now = new; write_faults_now = faults }
 
 named : (x : Exchange) (new : Option (List ℕ)) (faults : ℕ) (status : Status) → x.taken_now ≡ x.taken → x.write_faults ≤ x.write_faults_now
-    → PutsName x.taken_now new (Rose x.write_faults_now faults) (line_for status) → PutsNamed (later x new faults) status
-named x new faults status e l (inl f) = inl (f ∙ ap (λ t. grown t (line_for status)) e)
+    → PutsName x.taken_now new (FaultCounted x.write_faults_now faults) (line_for status) → PutsNamed (later x new faults) status
+named x new faults status e l (inl f) = inl (f ∙ ap (λ t. appended t (line_for status)) e)
 named x new faults status e l (inr h) = inr (rose_later _ _ _ l h.0, subst (λ t. PutFront t new (line_for status)) e h.1)
 
 on_input : (left : Option (List ℕ)) (P Q : List ℕ → Type 0) → ((input : List ℕ) → P input → Q input) → OfInput left P → OfInput left Q
@@ -43,15 +43,15 @@ still_cut c x new faults input e d = record { text = d.text; replies = d.replies
 
 answered_to : (c : Command) (x : Exchange) (new : Option (List ℕ)) (faults : ℕ) (status : Status)
     → x.write_faults ≤ x.write_faults_now → x.write_faults_now ≤ faults
-    → PutsName x.taken_now new (Rose x.write_faults_now faults) (line_for status) → CarriedOutTo c x status → AnsweredTo c (later x new faults) status
+    → PutsName x.taken_now new (FaultCounted x.write_faults_now faults) (line_for status) → CarriedOutTo c x status → AnsweredTo c (later x new faults) status
 answered_to c x new faults Done l m name h =
-    (h.0, on_input x.left (IsDone c x) (IsDone c (later x new faults)) (λ input d. still_done c x new faults input (no_name x.taken_now new (Rose x.write_faults_now faults) name) d) h.1)
+    (h.0, on_input x.left (IsDone c x) (IsDone c (later x new faults)) (λ input d. still_done c x new faults input (no_name x.taken_now new (FaultCounted x.write_faults_now faults) name) d) h.1)
 answered_to c x new faults Usage l m name h = h
 answered_to c x new faults ReadFault l m name h = (h.0, named x new faults ReadFault h.1 l name)
 answered_to c x new faults WriteFault l m name h = (
   rose_sooner _ _ _ h.0 m,
   h.1,
-  on_input x.left (IsCutOff c x) (IsCutOff c (later x new faults)) (λ input d. still_cut c x new faults input (no_name x.taken_now new (Rose x.write_faults_now faults) name) d) h.2,
+  on_input x.left (IsCutOff c x) (IsCutOff c (later x new faults)) (λ input d. still_cut c x new faults input (no_name x.taken_now new (FaultCounted x.write_faults_now faults) name) d) h.2,
 )
 answered_to c x new faults NoMemory l m name h = named x new faults NoMemory h l name
 answered_to c x new faults NotBuilt l m name h = (h.0, h.1, named x new faults NotBuilt h.2 l name)
@@ -60,9 +60,9 @@ answered_to c x new faults (Packed place) l m name h = (h.0, h.1, named x new fa
 
 pub answered : (command : Option Command) (x : Exchange) (new : Option (List ℕ)) (faults : ℕ) (status : Status)
     → x.write_faults ≤ x.write_faults_now → x.write_faults_now ≤ faults
-    → PutsName x.taken_now new (Rose x.write_faults_now faults) (line_for status) → CarriedOut command x status → Answered command (later x new faults) status
+    → PutsName x.taken_now new (FaultCounted x.write_faults_now faults) (line_for status) → CarriedOut command x status → Answered command (later x new faults) status
 answered (Some c) x new faults status l m name h = answered_to c x new faults status l m name h
-answered None x new faults status l m name h = (h.0, h.1, named x new faults Usage h.2 l (subst (λ s. PutsName x.taken_now new (Rose x.write_faults_now faults) (line_for s)) h.0 name))
+answered None x new faults status l m name h = (h.0, h.1, named x new faults Usage h.2 l (subst (λ s. PutsName x.taken_now new (FaultCounted x.write_faults_now faults) (line_for s)) h.0 name))
 
 -- the answer that a reply names
 complete_to : (c : Command) (x : Exchange) (status : Status) → AnsweredTo c x status → NoFault x → OfInput x.left (λ input. (status ≡ status_of (reply c input)) ⊎ (status ≡ NoMemory))

@@ -4,9 +4,9 @@ use Rattle.std.specs.List.{AllByRecursion, flat_map}
 use Rattle.std.proofs.lemmas.Grind.{flat_map-append}
 use Rattle.std.proofs.lemmas.List.Concat.{flat_map-cons}
 use Rattle.std.proofs.lemmas.List.{append-nil, take_all, take_more, take-append-drop}
-use Rattle.nv_base.specs.Streams.{PutFront, grown}
+use Rattle.nv_base.specs.Streams.{PutFront, appended}
 use Rattle.kernel_model.specs.Effects.{Objects}
-use Rattle.set_model.specs.Sets.{ObjectPart}
+use Rattle.set_model.specs.Sets.{ObjPart}
 use Rattle.report_text.specs.Lines.{object_text}
 use Rattle.report_text.specs.Report.{objects_text}
 use Rattle.sim_run.proofs.Fronts.{front_here, front_later, front_next, put_more}
@@ -20,24 +20,24 @@ module _ {A : Type 0} (text : A → List ℕ) where
   pub text_split : (xs : List A) (i : ℕ) → flat_map text xs ≡ flat_map text (take i xs) ++ flat_map text (drop i xs)
   text_split xs i = ap (flat_map text) (sym (take-append-drop i xs)) ∙ flat_map-append text (take i xs) (drop i xs)
 
-  pub next_text : (xs : List A) (i : ℕ) (d : A) (o p q : Option (List ℕ)) → i < length xs → p ≡ grown o (flat_map text (take i xs)) → q ≡ grown p (text (get_or xs i d)) → q ≡ grown o (flat_map text (take (i + 1) xs))
-  next_text xs i d o p q l e f = put_more o p q _ _ e f ∙ ap (grown o) (sym (text_more xs i d l))
+  pub next_text : (xs : List A) (i : ℕ) (d : A) (o p q : Option (List ℕ)) → i < length xs → p ≡ appended o (flat_map text (take i xs)) → q ≡ appended p (text (get_or xs i d)) → q ≡ appended o (flat_map text (take (i + 1) xs))
+  next_text xs i d o p q l e f = put_more o p q _ _ e f ∙ ap (appended o) (sym (text_more xs i d l))
 
-  pub cut_text : (xs : List A) (i : ℕ) (d : A) (o p q : Option (List ℕ)) → i < length xs → p ≡ grown o (flat_map text (take i xs)) → PutFront p q (text (get_or xs i d)) → PutFront o q (flat_map text xs)
+  pub cut_text : (xs : List A) (i : ℕ) (d : A) (o p q : Option (List ℕ)) → i < length xs → p ≡ appended o (flat_map text (take i xs)) → PutFront p q (text (get_or xs i d)) → PutFront o q (flat_map text xs)
   cut_text xs i d o p q l e f =
       front_later o p q (flat_map text (take i xs)) (text (get_or xs i d)) (flat_map text (drop (i + 1) xs)) (flat_map text xs)
       (text_split xs (i + 1) ∙ ap (λ t. t ++ flat_map text (drop (i + 1) xs)) (text_more xs i d l)) e f
 
-  pub last_text : (xs : List A) (i : ℕ) (o p : Option (List ℕ)) → length xs ≤ i → p ≡ grown o (flat_map text (take i xs)) → p ≡ grown o (flat_map text xs)
-  last_text xs i o p l e = e ∙ ap (λ x. grown o (flat_map text x)) (take_all i xs l)
+  pub last_text : (xs : List A) (i : ℕ) (o p : Option (List ℕ)) → length xs ≤ i → p ≡ appended o (flat_map text (take i xs)) → p ≡ appended o (flat_map text xs)
+  last_text xs i o p l e = e ∙ ap (λ x. appended o (flat_map text x)) (take_all i xs l)
 
 -- ---- objects
 
 -- the line of one of some objects
-abbrev pub object_line : List ObjectPart → Objects → ObjectPart → ℕ → List ℕ
+abbrev pub object_line : List ObjPart → Objects → ObjPart → ℕ → List ℕ
 object_line parts objects none o = object_text (get_or parts o none).name (get_or objects o [])
 
-more : (parts : List ObjectPart) (objects : Objects) (none : ObjectPart) (o : ℕ) → o < length parts → o < length objects
+more : (parts : List ObjPart) (objects : Objects) (none : ObjPart) (o : ℕ) → o < length parts → o < length objects
     → objects_text (take (suc o) parts) (take (suc o) objects) ≡ objects_text (take o parts) (take o objects) ++ object_line parts objects none o
 more [] objects none o l m = absurd (omega (arith, l))
 more (p ∷ parts) [] none o l m = absurd (omega (arith, m))
@@ -46,15 +46,15 @@ more (p ∷ parts) (w ∷ objects) none (suc o) l m =
     ap (λ t. object_text p.name w ++ t) (more parts objects none o (omega arith) (omega arith))
     ∙ sym (append_assoc (object_text p.name w) (objects_text (take o parts) (take o objects)) (object_line parts objects none o))
 
-pub objects_more : (parts : List ObjectPart) (objects : Objects) (none : ObjectPart) (o : ℕ) → o < length parts → length objects ≡ length parts
+pub objects_more : (parts : List ObjPart) (objects : Objects) (none : ObjPart) (o : ℕ) → o < length parts → length objects ≡ length parts
     → objects_text (take (o + 1) parts) (take (o + 1) objects) ≡ objects_text (take o parts) (take o objects) ++ object_line parts objects none o
 objects_more parts objects none o l e = let z : o + 1 ≡ suc o = add-one o in rw z (more parts objects none o l (omega arith))
 
-no_objects : (parts : List ObjectPart) → objects_text parts [] ≡ []
+no_objects : (parts : List ObjPart) → objects_text parts [] ≡ []
 no_objects [] = refl
 no_objects (p ∷ parts) = refl
 
-pub objects_split : (parts : List ObjectPart) (objects : Objects) (i : ℕ) → objects_text parts objects ≡ objects_text (take i parts) (take i objects) ++ objects_text (drop i parts) (drop i objects)
+pub objects_split : (parts : List ObjPart) (objects : Objects) (i : ℕ) → objects_text parts objects ≡ objects_text (take i parts) (take i objects) ++ objects_text (drop i parts) (drop i objects)
 objects_split parts objects zero = refl
 objects_split [] objects (suc i) = refl
 objects_split (p ∷ parts) [] (suc i) = sym (no_objects (drop i parts))
@@ -62,19 +62,19 @@ objects_split (p ∷ parts) (w ∷ objects) (suc i) =
     ap (λ t. object_text p.name w ++ t) (objects_split parts objects i)
     ∙ sym (append_assoc (object_text p.name w) (objects_text (take i parts) (take i objects)) (objects_text (drop i parts) (drop i objects)))
 
-pub next_object : (parts : List ObjectPart) (objects : Objects) (none : ObjectPart) (i : ℕ) (o p q : Option (List ℕ)) → i < length parts → length objects ≡ length parts
-    → p ≡ grown o (objects_text (take i parts) (take i objects)) → q ≡ grown p (object_line parts objects none i) → q ≡ grown o (objects_text (take (i + 1) parts) (take (i + 1) objects))
-next_object parts objects none i o p q l s e f = put_more o p q _ _ e f ∙ ap (grown o) (sym (objects_more parts objects none i l s))
+pub next_object : (parts : List ObjPart) (objects : Objects) (none : ObjPart) (i : ℕ) (o p q : Option (List ℕ)) → i < length parts → length objects ≡ length parts
+    → p ≡ appended o (objects_text (take i parts) (take i objects)) → q ≡ appended p (object_line parts objects none i) → q ≡ appended o (objects_text (take (i + 1) parts) (take (i + 1) objects))
+next_object parts objects none i o p q l s e f = put_more o p q _ _ e f ∙ ap (appended o) (sym (objects_more parts objects none i l s))
 
-pub cut_object : (parts : List ObjectPart) (objects : Objects) (none : ObjectPart) (i : ℕ) (o p q : Option (List ℕ)) → i < length parts → length objects ≡ length parts
-    → p ≡ grown o (objects_text (take i parts) (take i objects)) → PutFront p q (object_line parts objects none i) → PutFront o q (objects_text parts objects)
+pub cut_object : (parts : List ObjPart) (objects : Objects) (none : ObjPart) (i : ℕ) (o p q : Option (List ℕ)) → i < length parts → length objects ≡ length parts
+    → p ≡ appended o (objects_text (take i parts) (take i objects)) → PutFront p q (object_line parts objects none i) → PutFront o q (objects_text parts objects)
 cut_object parts objects none i o p q l s e f =
     front_later o p q (objects_text (take i parts) (take i objects)) (object_line parts objects none i) (objects_text (drop (i + 1) parts) (drop (i + 1) objects)) (objects_text parts objects)
     (objects_split parts objects (i + 1) ∙ ap (λ t. t ++ objects_text (drop (i + 1) parts) (drop (i + 1) objects)) (objects_more parts objects none i l s)) e f
 
-pub last_object : (parts : List ObjectPart) (objects : Objects) (i : ℕ) (o p : Option (List ℕ)) → length parts ≤ i → length objects ≡ length parts
-    → p ≡ grown o (objects_text (take i parts) (take i objects)) → p ≡ grown o (objects_text parts objects)
-last_object parts objects i o p l s e = e ∙ ap (λ x. grown o (objects_text x (take i objects))) (take_all i parts l) ∙ ap (λ x. grown o (objects_text parts x)) (take_all i objects (omega arith))
+pub last_object : (parts : List ObjPart) (objects : Objects) (i : ℕ) (o p : Option (List ℕ)) → length parts ≤ i → length objects ≡ length parts
+    → p ≡ appended o (objects_text (take i parts) (take i objects)) → p ≡ appended o (objects_text parts objects)
+last_object parts objects i o p l s e = e ∙ ap (λ x. appended o (objects_text x (take i objects))) (take_all i parts l) ∙ ap (λ x. appended o (objects_text parts x)) (take_all i objects (omega arith))
 
 pub of_mapped : {A B : Type 0} (f : B → List ℕ) (g : A → B) (xs : List A) → flat_map f (map g xs) ≡ flat_map (λ x. f (g x)) xs
 of_mapped f g [] = refl
@@ -90,14 +90,14 @@ at_place P (x ∷ xs) (suc i) d h l = at_place P xs i d h.1 (omega arith)
 pub cut_first : (o q : Option (List ℕ)) (a b c d : List ℕ) → PutFront o q a → PutFront o q (((a ++ b) ++ c) ++ d)
 cut_first o q a b c d h = front_here o q ((a ++ b) ++ c) d (front_here o q (a ++ b) c (front_here o q a b h))
 
-pub cut_second : (o p q : Option (List ℕ)) (a b c d : List ℕ) → p ≡ grown o a → PutFront p q b → PutFront o q (((a ++ b) ++ c) ++ d)
+pub cut_second : (o p q : Option (List ℕ)) (a b c d : List ℕ) → p ≡ appended o a → PutFront p q b → PutFront o q (((a ++ b) ++ c) ++ d)
 cut_second o p q a b c d e h = front_here o q ((a ++ b) ++ c) d (front_here o q (a ++ b) c (front_next o p q a b e h))
 
-pub cut_third : (o p q r : Option (List ℕ)) (a b c d : List ℕ) → p ≡ grown o a → q ≡ grown p b → PutFront q r c → PutFront o r (((a ++ b) ++ c) ++ d)
+pub cut_third : (o p q r : Option (List ℕ)) (a b c d : List ℕ) → p ≡ appended o a → q ≡ appended p b → PutFront q r c → PutFront o r (((a ++ b) ++ c) ++ d)
 cut_third o p q r a b c d e f h = front_here o r ((a ++ b) ++ c) d (front_next o q r (a ++ b) c (put_more o p q a b e f) h)
 
-pub cut_fourth : (o p q r t : Option (List ℕ)) (a b c d : List ℕ) → p ≡ grown o a → q ≡ grown p b → r ≡ grown q c → PutFront r t d → PutFront o t (((a ++ b) ++ c) ++ d)
+pub cut_fourth : (o p q r t : Option (List ℕ)) (a b c d : List ℕ) → p ≡ appended o a → q ≡ appended p b → r ≡ appended q c → PutFront r t d → PutFront o t (((a ++ b) ++ c) ++ d)
 cut_fourth o p q r t a b c d e f g h = front_next o r t ((a ++ b) ++ c) d (put_more o q r (a ++ b) c (put_more o p q a b e f) g) h
 
-pub all_four : (o p q r t : Option (List ℕ)) (a b c d : List ℕ) → p ≡ grown o a → q ≡ grown p b → r ≡ grown q c → t ≡ grown r d → t ≡ grown o (((a ++ b) ++ c) ++ d)
+pub all_four : (o p q r t : Option (List ℕ)) (a b c d : List ℕ) → p ≡ appended o a → q ≡ appended p b → r ≡ appended q c → t ≡ appended r d → t ≡ appended o (((a ++ b) ++ c) ++ d)
 all_four o p q r t a b c d e f g h = put_more o r t ((a ++ b) ++ c) d (put_more o q r (a ++ b) c (put_more o p q a b e f) g) h

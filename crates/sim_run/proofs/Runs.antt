@@ -4,7 +4,7 @@ use Rattle.std.specs.List.{AllByRecursion}
 use Rattle.std.specs.Prelude.{slice_get}
 use Rattle.std.proofs.lemmas.Grind.{flat_map-append}
 use Rattle.std.proofs.lemmas.List.{append-nil, take_all, take-append-drop}
-use Rattle.nv_base.specs.Streams.{PutFront, grown}
+use Rattle.nv_base.specs.Streams.{PutFront, appended}
 use Rattle.rv_core.specs.State.{MachineState}
 use Rattle.nv_base.specs.declared.lines.Line as base
 use Rattle.kernel_model.specs.Turns.{Line}
@@ -22,8 +22,8 @@ use Rattle.task_model.specs.TaskSteps.{task_steps}
 use Rattle.report_text.specs.Lines.{line_text}
 use Rattle.report_text.specs.Report.{end_part, lines_text}
 use Rattle.headline.specs.Run.{after, event_lines, first_state, report_text, state_read}
-use Rattle.kernel_core.specs.Kept.{IsKept, finishes}
-use Rattle.kernel_core.specs.Stands.{Leads, Stands, durable_of, left_in}
+use Rattle.kernel_core.specs.Invariant.{IsValid, finishes}
+use Rattle.kernel_core.specs.Represents.{Simulates, Represents, durable_of, left_in}
 use Rattle.kernel_core.specs.declared.kernel.Kernel.{Kernel}
 use Rattle.sim_run.specs.Runs.{Carries, first_lines_text, tail_of}
 use Rattle.sim_run.proofs.Fronts.{front_later, front_next, put_more}
@@ -37,16 +37,16 @@ each_is_step (Fail ∷ events) n f c l = absurd (omega (arith, f))
 
 -- an event leads to the next state, with this line
 record LeadsTo (set : TaskSet) (events : List Event) (j : Kernel) (n : ℕ) (l : base.Line) : Type 0 where
-  stands : Stands j (after set (take (n + 1) events))
+  stands : Represents j (after set (take (n + 1) events))
   lines : event_lines set (take (n + 1) events) ≡ event_lines set (take n events) ++ line_of l ∷ []
 
-leads_to : (set : TaskSet) (events : List Event) (k j : Kernel) (n : ℕ) (l : base.Line) → Carries set events k n → slice_get events n ≡ Some (CoreStep 0) → Leads k j l → LeadsTo set events j n l
-unfolding Leads
+leads_to : (set : TaskSet) (events : List Event) (k j : Kernel) (n : ℕ) (l : base.Line) → Carries set events k n → slice_get events n ≡ Some (CoreStep 0) → Simulates k j l → LeadsTo set events j n l
+unfolding Simulates
 leads_to set events k j n l c e h =
     let more = one_more (task_steps set) (sizes_of set) (formatted set) (first_state set) events n (CoreStep 0) e in
     let t = h (after set (take n events)) c.stands in
     record {
-      stands = subst (Stands j) (sym more.0) (subst (λ x. Stands j (event_step (task_steps x) (sizes_of x) (formatted x) (after set (take n events)) (CoreStep 0)).0) c.set_is t.0);
+      stands = subst (Represents j) (sym more.0) (subst (λ x. Represents j (event_step (task_steps x) (sizes_of x) (formatted x) (after set (take n events)) (CoreStep 0)).0) c.set_is t.0);
       lines =
           more.1
           ∙ ap (λ x. event_lines set (take n events) ++ x ∷ [])
@@ -54,24 +54,24 @@ leads_to set events k j n l c e h =
     }
 
 pub carries_on : (set : TaskSet) (events : List Event) (k j : Kernel) (n : ℕ) (l : base.Line)
-    → Carries set events k n → slice_get events n ≡ Some (CoreStep 0) → IsKept j → j.set ≡ k.set → finishes j ≤ finishes k + 1 → Leads k j l → Carries set events j (n + 1)
+    → Carries set events k n → slice_get events n ≡ Some (CoreStep 0) → IsValid j → j.set ≡ k.set → finishes j ≤ finishes k + 1 → Simulates k j l → Carries set events j (n + 1)
 carries_on set events k j n l c e kept same few h =
     let t = leads_to set events k j n l c e h in
     record { set_is = same ∙ c.set_is; kept = kept; stands = t.stands; few = omega (arith, few, c.few) }
 
 one_line_more : (set : TaskSet) (events : List Event) (k j : Kernel) (n : ℕ) (l : base.Line)
-    → Carries set events k n → slice_get events n ≡ Some (CoreStep 0) → Leads k j l
+    → Carries set events k n → slice_get events n ≡ Some (CoreStep 0) → Simulates k j l
     → first_lines_text set events (n + 1) ≡ first_lines_text set events n ++ line_text set (line_of l)
 one_line_more set events k j n l c e h =
     let t = leads_to set events k j n l c e h in
     ap (lines_text set) t.lines ∙ flat_map-append (line_text set) (event_lines set (take n events)) (line_of l ∷ []) ∙ ap (λ x. first_lines_text set events n ++ x) (append-nil (line_text set (line_of l)))
 
 pub line_put : (set : TaskSet) (events : List Event) (k j : Kernel) (n : ℕ) (l : base.Line) (o p q : Option (List ℕ)) (at : TaskSet)
-    → Carries set events k n → slice_get events n ≡ Some (CoreStep 0) → Leads k j l → at ≡ set
-    → p ≡ grown o (first_lines_text set events n) → q ≡ grown p (line_text at (line_of l)) → q ≡ grown o (first_lines_text set events (n + 1))
+    → Carries set events k n → slice_get events n ≡ Some (CoreStep 0) → Simulates k j l → at ≡ set
+    → p ≡ appended o (first_lines_text set events n) → q ≡ appended p (line_text at (line_of l)) → q ≡ appended o (first_lines_text set events (n + 1))
 line_put set events k j n l o p q at c e h s f g =
-    put_more o p q (first_lines_text set events n) (line_text set (line_of l)) f (subst (λ x. q ≡ grown p (line_text x (line_of l))) s g)
-    ∙ ap (grown o) (sym (one_line_more set events k j n l c e h))
+    put_more o p q (first_lines_text set events n) (line_text set (line_of l)) f (subst (λ x. q ≡ appended p (line_text x (line_of l))) s g)
+    ∙ ap (appended o) (sym (one_line_more set events k j n l c e h))
 
 -- the report is the lines of all events, and then what comes after them
 whole_report : (set : TaskSet) (events : List Event)
@@ -97,8 +97,8 @@ split_report set events n =
     )
 
 pub line_cut : (set : TaskSet) (events : List Event) (k j : Kernel) (n : ℕ) (l : base.Line) (o p q : Option (List ℕ)) (at : TaskSet)
-    → Carries set events k n → slice_get events n ≡ Some (CoreStep 0) → Leads k j l → at ≡ set
-    → p ≡ grown o (first_lines_text set events n) → PutFront p q (line_text at (line_of l)) → PutFront o q (report_text set events)
+    → Carries set events k n → slice_get events n ≡ Some (CoreStep 0) → Simulates k j l → at ≡ set
+    → p ≡ appended o (first_lines_text set events n) → PutFront p q (line_text at (line_of l)) → PutFront o q (report_text set events)
 line_cut set events k j n l o p q at c e h s f g =
     let rest = split_report set events (n + 1) in
     front_later o p q (first_lines_text set events n) (line_text set (line_of l)) rest.0 (report_text set events)
@@ -106,7 +106,7 @@ line_cut set events k j n l o p q at c e h s f g =
 
 -- at the end, the report is the lines so far and what comes after them
 ended : (set : TaskSet) (events : List Event) (k : Kernel) (n : ℕ) → length events ≤ n → (c : Carries set events k n)
-    → ((s : State MachineState) → Stands k s → left_in k s ≡ durable_of k) → ((s : State MachineState) → Stands k s → s.boots ≡ 0)
+    → ((s : State MachineState) → Represents k s → left_in k s ≡ durable_of k) → ((s : State MachineState) → Represents k s → s.boots ≡ 0)
     → report_text set events ≡ first_lines_text set events n ++ tail_of k (after set (take n events))
 ended set events k n l c left boots =
     let all : take n events ≡ events = take_all n events l in
@@ -119,13 +119,13 @@ ended set events k n l c left boots =
     ∙ ap (λ x. first_lines_text set events n ++ (lines_text x (found_lines (unprinted s)) ++ end_part x (durable_of k) 0)) (sym c.set_is)
 
 pub all_put : (set : TaskSet) (events : List Event) (k : Kernel) (n : ℕ) (o p q : Option (List ℕ)) → length events ≤ n → Carries set events k n
-    → ((s : State MachineState) → Stands k s → left_in k s ≡ durable_of k) → ((s : State MachineState) → Stands k s → s.boots ≡ 0)
-    → p ≡ grown o (first_lines_text set events n) → ((s : State MachineState) → Stands k s → q ≡ grown p (tail_of k s)) → q ≡ grown o (report_text set events)
+    → ((s : State MachineState) → Represents k s → left_in k s ≡ durable_of k) → ((s : State MachineState) → Represents k s → s.boots ≡ 0)
+    → p ≡ appended o (first_lines_text set events n) → ((s : State MachineState) → Represents k s → q ≡ appended p (tail_of k s)) → q ≡ appended o (report_text set events)
 all_put set events k n o p q l c left boots f g =
-    put_more o p q (first_lines_text set events n) (tail_of k (after set (take n events))) f (g (after set (take n events)) c.stands) ∙ ap (grown o) (sym (ended set events k n l c left boots))
+    put_more o p q (first_lines_text set events n) (tail_of k (after set (take n events))) f (g (after set (take n events)) c.stands) ∙ ap (appended o) (sym (ended set events k n l c left boots))
 
 pub tail_cut : (set : TaskSet) (events : List Event) (k : Kernel) (n : ℕ) (o p q : Option (List ℕ)) → length events ≤ n → Carries set events k n
-    → ((s : State MachineState) → Stands k s → left_in k s ≡ durable_of k) → ((s : State MachineState) → Stands k s → s.boots ≡ 0)
-    → p ≡ grown o (first_lines_text set events n) → ((s : State MachineState) → Stands k s → PutFront p q (tail_of k s)) → PutFront o q (report_text set events)
+    → ((s : State MachineState) → Represents k s → left_in k s ≡ durable_of k) → ((s : State MachineState) → Represents k s → s.boots ≡ 0)
+    → p ≡ appended o (first_lines_text set events n) → ((s : State MachineState) → Represents k s → PutFront p q (tail_of k s)) → PutFront o q (report_text set events)
 tail_cut set events k n o p q l c left boots f g =
     subst (PutFront o q) (sym (ended set events k n l c left boots)) (front_next o p q (first_lines_text set events n) (tail_of k (after set (take n events))) f (g (after set (take n events)) c.stands))

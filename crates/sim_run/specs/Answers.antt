@@ -1,6 +1,6 @@
 -- The answers of a call, each with its cause and with what was put. This project's own.
 use Rattle.std.specs.Prelude.{◌≡◌, ℕ, ◌+◌, ◌⊎◌, List, [], Option, Some, None}
-use Rattle.nv_base.specs.Streams.{AreGone, AtMostGone, PutFront, Rose, grown}
+use Rattle.nv_base.specs.Streams.{AreGone, AtMostGone, PutFront, FaultCounted, appended}
 use Rattle.sim_run.specs.Replies.{Puts, Refuses, reply, status_of, most_input, too_long}
 use Rattle.script.specs.Exits.{line_for}
 use Rattle.sim_run.specs.declared.command.Command.{Command}
@@ -32,10 +32,10 @@ exchange left read_faults taken write_faults source source_now sink sink_now = r
 }
 
 abbrev pub ReadFailed : Exchange → Type 0
-ReadFailed x = Rose x.read_faults x.read_faults_now
+ReadFailed x = FaultCounted x.read_faults x.read_faults_now
 
 abbrev pub WriteFailed : Exchange → Type 0
-WriteFailed x = Rose x.write_faults x.write_faults_now
+WriteFailed x = FaultCounted x.write_faults x.write_faults_now
 
 -- what holds of the input, where the source tells it
 abbrev pub OfInput : Option (List ℕ) → (List ℕ → Type 0) → Type 0
@@ -52,13 +52,13 @@ HasReadEnough x = HasReadAll x ⊎ AreGone x.left x.left_now (most_input + 1)
 
 -- the sink took the line that names the answer: whole, unless the sink failed
 abbrev pub PutsNamed : Exchange → Status → Type 0
-PutsNamed x status = (x.taken_now ≡ grown x.taken (line_for status)) ⊎ (WriteFailed x × PutFront x.taken x.taken_now (line_for status))
+PutsNamed x status = (x.taken_now ≡ appended x.taken (line_for status)) ⊎ (WriteFailed x × PutFront x.taken x.taken_now (line_for status))
 
 -- the command's text, put whole
 pub record IsDone (c : Command) (x : Exchange) (input : List ℕ) : Type 0 where
   pub text : List ℕ
   pub replies : reply c input ≡ Puts text
-  pub put : x.taken_now ≡ grown x.taken text
+  pub put : x.taken_now ≡ appended x.taken text
 
 -- a front of it
 pub record IsCutOff (c : Command) (x : Exchange) (input : List ℕ) : Type 0 where

@@ -1,6 +1,6 @@
 -- What a call has done before the line that names its answer, and that line.
 use Rattle.std.specs.Prelude.{◌≡◌, ℕ, ◌⊎◌, List, Option, Some, None}
-use Rattle.nv_base.specs.Streams.{AreGone, PutFront, grown}
+use Rattle.nv_base.specs.Streams.{AreGone, PutFront, appended}
 use Rattle.sim_run.specs.Replies.{Reply, Puts, Refuses, reply, too_long, most_input}
 use Rattle.sim_run.specs.Answers.{Exchange, HasReadAll, HasReadEnough, IsCutOff, IsDone, OfInput, ReadFailed, WriteFailed}
 use Rattle.std.specs.Prelude.{◌+◌}
@@ -10,7 +10,7 @@ use Rattle.script.specs.declared.status.Status.TheVariants.{Done, Usage, ReadFau
 
 -- whole, unless the sink failed
 abbrev pub PutsName : Option (List ℕ) → Option (List ℕ) → Type 0 → List ℕ → Type 0
-PutsName old new rose line = (new ≡ grown old line) ⊎ (rose × PutFront old new line)
+PutsName old new rose line = (new ≡ appended old line) ⊎ (rose × PutFront old new line)
 
 abbrev pub CarriedOutTo : Command → Exchange → Status → Type 0
 CarriedOutTo c x Done = HasReadAll x × OfInput x.left (IsDone c x)
@@ -33,7 +33,7 @@ Unread left now rose _ = ⊥
 
 -- what was put by way of a reply; rose: the sink's count of faults rose
 abbrev pub Replied : Reply → Type 0 → Option (List ℕ) → Option (List ℕ) → Status → Type 0
-Replied r rose old new Done = (text : List ℕ) × (r ≡ Puts text) × (new ≡ grown old text)
+Replied r rose old new Done = (text : List ℕ) × (r ≡ Puts text) × (new ≡ appended old text)
 Replied r rose old new Usage = ⊥
 Replied r rose old new ReadFault = ⊥
 Replied r rose old new WriteFault = rose × ((text : List ℕ) × (r ≡ Puts text) × PutFront old new text)

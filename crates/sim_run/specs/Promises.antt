@@ -1,6 +1,6 @@
 -- What the headline promises of the answer to a run. This project's own.
 use Rattle.std.specs.Prelude.{◌≡◌, ℕ, List, Option, Some, Ok}
-use Rattle.nv_base.specs.Streams.{grown}
+use Rattle.nv_base.specs.Streams.{appended}
 use Rattle.schedule_model.specs.Failures.{events_of}
 use Rattle.headline.specs.Headline.{Headline, report_text}
 use Rattle.script.specs.Parts.{Script}
@@ -23,7 +23,7 @@ pub record IsHeadlined (x : Exchange) (input : List ℕ) : Type 0 where
   pub reads : read input ≡ Ok script
   pub text : List ℕ
   pub promise : Headline script.set (events_of script.schedule) text
-  pub put : x.taken_now ≡ grown x.taken text
+  pub put : x.taken_now ≡ appended x.taken text
 
 -- `run` that is answered by Done
 abbrev pub KeepsHeadline : Option Command → Exchange → Status → Type 0

@@ -2,7 +2,7 @@
 use Rattle.std.specs.Prelude.{◌≡◌, ℕ, List, [], ◌∷◌, replicate}
 use Rattle.kernel_model.specs.Effects.{Exit, Trap}
 use Rattle.kernel_model.specs.Items.{Entry}
-use Rattle.kernel_model.specs.Replay.{Base}
+use Rattle.kernel_model.specs.Replay.{DeviceState}
 use Rattle.kernel_model.specs.Turns.{Line, Start, Finish, Found}
 use Rattle.kernel_model.specs.Events.{CoreStep, Event}
 use Rattle.kernel_model.specs.WorkedTasks.{shown}
@@ -24,14 +24,14 @@ steps n = replicate n (CoreStep 0)
 abbrev pub finish : Entry
 finish = record { number = 1; task = 1; point = 1; first = 2; outcome = Exit 0 }
 
-abbrev pub before : Base
+abbrev pub before : DeviceState
 before = record { objects = (5 ∷ []) ∷ []; tasks = record { id = 1; program = 0; arg = 7 } ∷ []; clock = 0; number = 0; next = 2 }
 
-abbrev pub behind : Base
+abbrev pub behind : DeviceState
 behind = record { objects = (12 ∷ []) ∷ []; tasks = []; clock = 1; number = 1; next = 2 }
 
 -- what a run of n steps prints, and the state it leaves
-pub record Runs (set : TaskSet) (n : ℕ) (lines : List Line) (state : Base) : Type 0 where
+pub record Runs (set : TaskSet) (n : ℕ) (lines : List Line) (state : DeviceState) : Type 0 where
   pub printed : shown (all_lines set (steps n)) ≡ lines
   pub left : state_read set (steps n) ≡ state
 

@@ -1,17 +1,17 @@
 -- What a run puts: the lines of its events, and then what is read back.
 use Rattle.std.specs.Prelude.{◌≡◌, ℕ, List, ◌++◌, Option, take}
 use Rattle.std.specs.List.{flat_map}
-use Rattle.nv_base.specs.Streams.{PutFront, grown}
+use Rattle.nv_base.specs.Streams.{PutFront, appended}
 use Rattle.rv_core.specs.State.{MachineState}
-use Rattle.kernel_model.specs.Effects.{words_of}
+use Rattle.kernel_model.specs.Effects.{object_words}
 use Rattle.kernel_model.specs.Events.{Event, State}
 use Rattle.kernel_model.specs.Report.{found_lines, unprinted}
 use Rattle.set_model.specs.Sets.{TaskSet, object_at}
 use Rattle.report_text.specs.Lines.{end_text, object_text, open_text}
 use Rattle.report_text.specs.Report.{end_part, lines_text, objects_text}
 use Rattle.headline.specs.Run.{after, event_lines, report_text}
-use Rattle.kernel_core.specs.Kept.{IsKept, finishes}
-use Rattle.kernel_core.specs.Stands.{Stands, durable_of}
+use Rattle.kernel_core.specs.Invariant.{IsValid, finishes}
+use Rattle.kernel_core.specs.Represents.{Represents, durable_of}
 use Rattle.kernel_core.specs.declared.kernel.Kernel.{Kernel}
 use Rattle.script.specs.declared.status.Status.{Status}
 use Rattle.script.specs.declared.status.Status.TheVariants.{Done, WriteFault, NoMemory}
@@ -23,7 +23,7 @@ first_lines_text set events n = lines_text set (event_lines set (take n events))
 
 -- the line of an object, with its durable words
 abbrev pub object_part : Kernel → ℕ → List ℕ
-object_part k o = object_text (object_at k.set o).name (words_of (durable_of k).objects o)
+object_part k o = object_text (object_at k.set o).name (object_words (durable_of k).objects o)
 
 -- the object lines of what is durable
 abbrev pub objects_part : Kernel → List ℕ
@@ -52,13 +52,13 @@ tail_of k s = found_part k s ++ end_part_of k
 -- the kernel stands for the state after the first n events
 pub record Carries (set : TaskSet) (events : List Event) (k : Kernel) (n : ℕ) : Type 0 where
   pub set_is : k.set ≡ set
-  pub kept : IsKept k
-  pub stands : Stands k (after set (take n events))
+  pub kept : IsValid k
+  pub stands : Represents k (after set (take n events))
   pub few : finishes k ≤ n
 
 -- what a run of these events puts; rose: the sink's count of faults rose
 abbrev pub RunAnswers : TaskSet → List Event → Type 0 → Option (List ℕ) → Option (List ℕ) → Status → Type 0
-RunAnswers set events rose old new Done = new ≡ grown old (report_text set events)
+RunAnswers set events rose old new Done = new ≡ appended old (report_text set events)
 RunAnswers set events rose old new WriteFault = rose × PutFront old new (report_text set events)
 RunAnswers set events rose old new NoMemory = new ≡ old
 RunAnswers set events rose old new _ = ⊥

@@ -2,7 +2,7 @@
 
 ghost use Rattle.std.specs.Prelude.{◌≡◌, ◌≤◌, IfOk, length, map, string_bytes};
 ghost use Rattle.std.specs.Str.Lines.{lines};
-ghost use Rattle.nv_base.specs.Streams.{Rose};
+ghost use Rattle.nv_base.specs.Streams.{FaultCounted};
 ghost use Rattle.rv_asm.specs.Assembly.{assembled};
 ghost use Rattle.sim_run.specs.Carried.{Replied};
 ghost use Rattle.sim_run.specs.Replies.{Puts, asm_reply, assembly_reply, bad_line, words_text};
@@ -54,7 +54,7 @@ fn text_of(alloc: Global, words: &[u32]) -> Result<String, NoMemory>
 
 /// Puts words, each on a line.
 fn put_words<K: Sink>(alloc: Global, words: &[u32], out: &mut K) -> Status
-    ensures replied { Replied (Puts (words_text words.now)) (Rose (K.faults out.old) (K.faults out.new)) (K.taken out.old) (K.taken out.new) result }
+    ensures replied { Replied (Puts (words_text words.now)) (FaultCounted (K.faults out.old) (K.faults out.new)) (K.taken out.old) (K.taken out.new) result }
     ensures never_falls { K.faults out.old ≤ K.faults out.new }
 {
     let Ok(text) = text_of(alloc, words) else {
@@ -66,7 +66,7 @@ fn put_words<K: Sink>(alloc: Global, words: &[u32], out: &mut K) -> Status
 /// Puts the words of lines none of which has a bad byte, or answers with the first faulty line.
 fn assemble<K: Sink>(alloc: Global, lines: &[&[u8]], out: &mut K) -> Status
     requires { length lines.now ≤ MAX_INPUT }
-    ensures replied { Replied (assembly_reply (assembled (map (λ line. line.now) lines.now))) (Rose (K.faults out.old) (K.faults out.new)) (K.taken out.old) (K.taken out.new) result }
+    ensures replied { Replied (assembly_reply (assembled (map (λ line. line.now) lines.now))) (FaultCounted (K.faults out.old) (K.faults out.new)) (K.taken out.old) (K.taken out.new) result }
     ensures never_falls { K.faults out.old ≤ K.faults out.new }
 {
     match assemble_lines(alloc, lines) {
@@ -79,7 +79,7 @@ fn assemble<K: Sink>(alloc: Global, lines: &[&[u8]], out: &mut K) -> Status
 /// allowed, before each fault of an instruction.
 pub(crate) fn asm<K: Sink>(alloc: Global, input: &[u8], out: &mut K) -> Status
     requires { length input.now ≤ MAX_INPUT }
-    ensures replied { Replied (asm_reply (lines input.now)) (Rose (K.faults out.old) (K.faults out.new)) (K.taken out.old) (K.taken out.new) result }
+    ensures replied { Replied (asm_reply (lines input.now)) (FaultCounted (K.faults out.old) (K.faults out.new)) (K.taken out.old) (K.taken out.new) result }
     ensures never_falls { K.faults out.old ≤ K.faults out.new }
 {
     let Ok(lines) = lines_of(alloc, input) else {

@@ -2,7 +2,7 @@
 
 ghost use Rattle.std.specs.Prelude.{◌≡◌, ◌≤◌, Some, length, map};
 ghost use Rattle.std.specs.Rc.{rc_str_bytes};
-ghost use Rattle.nv_base.specs.Streams.{Rose};
+ghost use Rattle.nv_base.specs.Streams.{FaultCounted};
 ghost use Rattle.sim_run.specs.Commands.{command_of};
 ghost use Rattle.sim_run.specs.Replies.{reply};
 ghost use Rattle.sim_run.specs.Answers.{Answered, HasReadFew, IsComplete, OfInput, TellsReadFault, exchange};
@@ -14,7 +14,7 @@ ghost use Rattle.sim_run.specs.Carried.{CarriedOut, Replied};
 use crate::assembly::asm;
 use crate::command::{Command, words_of};
 use crate::input::read_input;
-use crate::names::put_name;
+use crate::answer_line::put_name;
 use crate::packing::{dis, pack};
 use crate::run::run;
 use nv_base::limits::MAX_INPUT;
@@ -27,7 +27,7 @@ use std::rc::RcStr;
 #[tactic(auto, unfolding(crate::specs::Replies::reply))]
 fn answer<K: Sink>(alloc: Global, command: Command, input: &[u8], out: &mut K) -> Status
     requires { length input.now ≤ MAX_INPUT }
-    ensures replied { Replied (reply command input.now) (Rose (K.faults out.old) (K.faults out.new)) (K.taken out.old) (K.taken out.new) result }
+    ensures replied { Replied (reply command input.now) (FaultCounted (K.faults out.old) (K.faults out.new)) (K.taken out.old) (K.taken out.new) result }
     ensures headline { command ≡ Command.Run → result ≡ Status.Done → IsPromised input.now }
     ensures never_falls { K.faults out.old ≤ K.faults out.new }
 {

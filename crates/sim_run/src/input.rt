@@ -1,7 +1,7 @@
 //! The input of a command, read to its end.
 
 ghost use Rattle.std.specs.Prelude.{◌≡◌, ◌≤◌, ◌+◌, ◌⊎◌, length, Err, IfOk, IfErr};
-ghost use Rattle.nv_base.specs.Streams.{AreGone, AtMostGone, GaveAll, Rose};
+ghost use Rattle.nv_base.specs.Streams.{AreGone, AtMostGone, GaveAll, FaultCounted};
 ghost use Rattle.sim_run.specs.Replies.{too_long};
 ghost use Rattle.sim_run.specs.Carried.{Unread};
 
@@ -19,7 +19,7 @@ pub(crate) const MOST_INPUT: usize = MAX_INPUT as usize;
 pub(crate) fn read_input<S: Source>(alloc: Global, src: &mut S) -> Result<Vec<u8>, Status>
     ensures given { IfOk result (λ v. GaveAll (S.left src.old) (S.left src.new) v.items) }
     ensures within { IfOk result (λ v. length v.items ≤ MAX_INPUT) }
-    ensures unread { IfErr result (Unread (S.left src.old) (S.left src.new) (Rose (S.faults src.old) (S.faults src.new))) }
+    ensures unread { IfErr result (Unread (S.left src.old) (S.left src.new) (FaultCounted (S.faults src.old) (S.faults src.new))) }
     ensures few { AtMostGone (S.left src.old) (S.left src.new) MAX_INPUT
         ⊎ ((result ≡ Err (Status.Script too_long)) × AreGone (S.left src.old) (S.left src.new) (MAX_INPUT + 1)) }
     ensures told { (S.faults src.new ≡ S.faults src.old) ⊎ (result ≡ Err Status.ReadFault) }

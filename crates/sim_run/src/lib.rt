@@ -5,7 +5,7 @@ mod assembly;
 mod call;
 mod command;
 mod input;
-mod names;
+mod answer_line;
 mod packing;
 mod read_back;
 mod refusals;

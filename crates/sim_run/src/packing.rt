@@ -1,7 +1,7 @@
 //! The commands `dis` and `pack`: a packed set as a script, and a script as a packed set.
 
 ghost use Rattle.std.specs.Prelude.{◌≤◌};
-ghost use Rattle.nv_base.specs.Streams.{Rose};
+ghost use Rattle.nv_base.specs.Streams.{FaultCounted};
 ghost use Rattle.script.specs.Reading.{read};
 ghost use Rattle.script.specs.ScriptText.{script_text as text_of_set};
 ghost use Rattle.task_image.specs.Packed.{packed};
@@ -19,7 +19,7 @@ use task_set::TaskSet;
 
 /// Puts a set as a script.
 fn put_script<K: Sink>(alloc: Global, set: &TaskSet, out: &mut K) -> Status
-    ensures replied { Replied (Puts (text_of_set set.now)) (Rose (K.faults out.old) (K.faults out.new)) (K.taken out.old) (K.taken out.new) result }
+    ensures replied { Replied (Puts (text_of_set set.now)) (FaultCounted (K.faults out.old) (K.faults out.new)) (K.taken out.old) (K.taken out.new) result }
     ensures never_falls { K.faults out.old ≤ K.faults out.new }
 {
     let Ok(text) = script_text(alloc, set) else {
@@ -30,7 +30,7 @@ fn put_script<K: Sink>(alloc: Global, set: &TaskSet, out: &mut K) -> Status
 
 /// Puts a set as its packed bytes.
 fn put_packed<K: Sink>(alloc: Global, set: &TaskSet, out: &mut K) -> Status
-    ensures replied { Replied (Puts (packed set.now)) (Rose (K.faults out.old) (K.faults out.new)) (K.taken out.old) (K.taken out.new) result }
+    ensures replied { Replied (Puts (packed set.now)) (FaultCounted (K.faults out.old) (K.faults out.new)) (K.taken out.old) (K.taken out.new) result }
     ensures never_falls { K.faults out.old ≤ K.faults out.new }
 {
     let Ok(bytes) = write_set(alloc, set) else {
@@ -41,7 +41,7 @@ fn put_packed<K: Sink>(alloc: Global, set: &TaskSet, out: &mut K) -> Status
 
 /// Puts the packed set that an input is as a script, or answers with the first place that is refused.
 pub(crate) fn dis<K: Sink>(alloc: Global, input: &[u8], out: &mut K) -> Status
-    ensures replied { Replied (dis_reply (unpacked input.now)) (Rose (K.faults out.old) (K.faults out.new)) (K.taken out.old) (K.taken out.new) result }
+    ensures replied { Replied (dis_reply (unpacked input.now)) (FaultCounted (K.faults out.old) (K.faults out.new)) (K.taken out.old) (K.taken out.new) result }
     ensures never_falls { K.faults out.old ≤ K.faults out.new }
 {
     match read_set(alloc, input) {
@@ -52,7 +52,7 @@ pub(crate) fn dis<K: Sink>(alloc: Global, input: &[u8], out: &mut K) -> Status
 
 /// Puts the set of the script that an input is, packed, or answers with the first line that is refused.
 pub(crate) fn pack<K: Sink>(alloc: Global, input: &[u8], out: &mut K) -> Status
-    ensures replied { Replied (pack_reply (read input.now)) (Rose (K.faults out.old) (K.faults out.new)) (K.taken out.old) (K.taken out.new) result }
+    ensures replied { Replied (pack_reply (read input.now)) (FaultCounted (K.faults out.old) (K.faults out.new)) (K.taken out.old) (K.taken out.new) result }
     ensures never_falls { K.faults out.old ≤ K.faults out.new }
 {
     match read_script(alloc, input) {

@@ -2,12 +2,12 @@
 
 ghost use Rattle.std.specs.Prelude.{◌≡◌, ◌<◌, ◌≤◌, OnOk, OnErr, length, map};
 ghost use Rattle.std.specs.List.{AllByRecursion, flat_map};
-ghost use Rattle.nv_base.specs.Streams.{PutFront, Rose, grown};
+ghost use Rattle.nv_base.specs.Streams.{PutFront, FaultCounted, appended};
 ghost use Rattle.set_model.specs.Views.{line_of, task_of};
 ghost use Rattle.report_text.specs.Lines.{done_text, line_text, open_text};
 ghost use Rattle.report.specs.Named.{NamesObject};
-ghost use Rattle.kernel_core.specs.Kept.{IsKept};
-ghost use Rattle.kernel_core.specs.Stands.{Stands};
+ghost use Rattle.kernel_core.specs.Invariant.{IsValid};
+ghost use Rattle.kernel_core.specs.Represents.{Represents};
 ghost use Rattle.rv_core.specs.State.{MachineState};
 ghost use Rattle.kernel_model.specs.Events.{State};
 ghost use Rattle.sim_run.specs.Runs.{end_part_of, found_part, numbers_part, object_part, objects_part, open_part, tail_of};
@@ -25,9 +25,9 @@ fn put_text<K: Sink>(
     line: &Line,
 ) -> Result<(), WriteFault>
     requires { NamesObject set.now (line_of line.now) }
-    ensures all { OnOk result (K.taken out.new ≡ grown (K.taken out.old) (line_text set.now (line_of line.now))) }
+    ensures all { OnOk result (K.taken out.new ≡ appended (K.taken out.old) (line_text set.now (line_of line.now))) }
     ensures front { OnErr result (PutFront (K.taken out.old) (K.taken out.new) (line_text set.now (line_of line.now))) }
-    ensures fault { OnErr result (Rose (K.faults out.old) (K.faults out.new)) }
+    ensures fault { OnErr result (FaultCounted (K.faults out.old) (K.faults out.new)) }
     ensures never_falls { K.faults out.old ≤ K.faults out.new }
 {
     text.put_line(set, line);
@@ -43,9 +43,9 @@ pub(crate) fn put_line<K: Sink>(
     line: &Line,
 ) -> Result<(), WriteFault>
     requires { NamesObject set.now (line_of line.now) }
-    ensures all { OnOk result (K.taken out.new ≡ grown (K.taken out.old) (line_text set.now (line_of line.now))) }
+    ensures all { OnOk result (K.taken out.new ≡ appended (K.taken out.old) (line_text set.now (line_of line.now))) }
     ensures front { OnErr result (PutFront (K.taken out.old) (K.taken out.new) (line_text set.now (line_of line.now))) }
-    ensures fault { OnErr result (Rose (K.faults out.old) (K.faults out.new)) }
+    ensures fault { OnErr result (FaultCounted (K.faults out.old) (K.faults out.new)) }
     ensures never_falls { K.faults out.old ≤ K.faults out.new }
 {
     if let Line::Nothing = line {
@@ -61,11 +61,11 @@ fn put_object<K: Sink>(
     kernel: &Kernel,
     o: ObjId,
 ) -> Result<(), WriteFault>
-    requires kept { IsKept kernel.now }
+    requires kept { IsValid kernel.now }
     requires inside { o.0 < length kernel.now.set.objects }
-    ensures all { OnOk result (K.taken out.new ≡ grown (K.taken out.old) (object_part kernel.now o.0)) }
+    ensures all { OnOk result (K.taken out.new ≡ appended (K.taken out.old) (object_part kernel.now o.0)) }
     ensures front { OnErr result (PutFront (K.taken out.old) (K.taken out.new) (object_part kernel.now o.0)) }
-    ensures fault { OnErr result (Rose (K.faults out.old) (K.faults out.new)) }
+    ensures fault { OnErr result (FaultCounted (K.faults out.old) (K.faults out.new)) }
     ensures never_falls { K.faults out.old ≤ K.faults out.new }
 {
     text.put_object(kernel.set(), o, kernel.object(o));
@@ -74,10 +74,10 @@ fn put_object<K: Sink>(
 
 /// Puts a line for each object, with its words.
 fn put_objects<K: Sink>(out: &mut K, text: &mut LineBuf, kernel: &Kernel) -> Result<(), WriteFault>
-    requires { IsKept kernel.now }
-    ensures all { OnOk result (K.taken out.new ≡ grown (K.taken out.old) (objects_part kernel.now)) }
+    requires { IsValid kernel.now }
+    ensures all { OnOk result (K.taken out.new ≡ appended (K.taken out.old) (objects_part kernel.now)) }
     ensures front { OnErr result (PutFront (K.taken out.old) (K.taken out.new) (objects_part kernel.now)) }
-    ensures fault { OnErr result (Rose (K.faults out.old) (K.faults out.new)) }
+    ensures fault { OnErr result (FaultCounted (K.faults out.old) (K.faults out.new)) }
     ensures never_falls { K.faults out.old ≤ K.faults out.new }
 {
     for o in 0..kernel.set().objects() {
@@ -96,9 +96,9 @@ fn put_open_task<K: Sink>(
     task: TaskRec,
 ) -> Result<(), WriteFault>
     requires { task.program.0 < length set.now.programs }
-    ensures all { OnOk result (K.taken out.new ≡ grown (K.taken out.old) (open_text set.now (task_of task))) }
+    ensures all { OnOk result (K.taken out.new ≡ appended (K.taken out.old) (open_text set.now (task_of task))) }
     ensures front { OnErr result (PutFront (K.taken out.old) (K.taken out.new) (open_text set.now (task_of task))) }
-    ensures fault { OnErr result (Rose (K.faults out.old) (K.faults out.new)) }
+    ensures fault { OnErr result (FaultCounted (K.faults out.old) (K.faults out.new)) }
     ensures never_falls { K.faults out.old ≤ K.faults out.new }
 {
     text.put_open(set, task);
@@ -113,9 +113,9 @@ fn put_open_tasks<K: Sink>(
     tasks: &[TaskRec],
 ) -> Result<(), WriteFault>
     requires { AllByRecursion (λ t. t.program.0 < length set.now.programs) tasks.now }
-    ensures all { OnOk result (K.taken out.new ≡ grown (K.taken out.old) (flat_map (open_text set.now) (map task_of tasks.now))) }
+    ensures all { OnOk result (K.taken out.new ≡ appended (K.taken out.old) (flat_map (open_text set.now) (map task_of tasks.now))) }
     ensures front { OnErr result (PutFront (K.taken out.old) (K.taken out.new) (flat_map (open_text set.now) (map task_of tasks.now))) }
-    ensures fault { OnErr result (Rose (K.faults out.old) (K.faults out.new)) }
+    ensures fault { OnErr result (FaultCounted (K.faults out.old) (K.faults out.new)) }
     ensures never_falls { K.faults out.old ≤ K.faults out.new }
 {
     for task in tasks {
@@ -128,10 +128,10 @@ fn put_open_tasks<K: Sink>(
 
 /// Puts a line for each task that is still open.
 fn put_open<K: Sink>(out: &mut K, text: &mut LineBuf, kernel: &Kernel) -> Result<(), WriteFault>
-    requires { IsKept kernel.now }
-    ensures all { OnOk result (K.taken out.new ≡ grown (K.taken out.old) (open_part kernel.now)) }
+    requires { IsValid kernel.now }
+    ensures all { OnOk result (K.taken out.new ≡ appended (K.taken out.old) (open_part kernel.now)) }
     ensures front { OnErr result (PutFront (K.taken out.old) (K.taken out.new) (open_part kernel.now)) }
-    ensures fault { OnErr result (Rose (K.faults out.old) (K.faults out.new)) }
+    ensures fault { OnErr result (FaultCounted (K.faults out.old) (K.faults out.new)) }
     ensures never_falls { K.faults out.old ≤ K.faults out.new }
 {
     let Ok(()) = put_open_tasks(out, text, kernel.set(), kernel.open_tasks()) else {
@@ -142,9 +142,9 @@ fn put_open<K: Sink>(out: &mut K, text: &mut LineBuf, kernel: &Kernel) -> Result
 
 /// Puts the numbers of the state that is read back.
 fn put_numbers<K: Sink>(out: &mut K, text: &mut LineBuf, kernel: &Kernel) -> Result<(), WriteFault>
-    ensures all { OnOk result (K.taken out.new ≡ grown (K.taken out.old) (numbers_part kernel.now)) }
+    ensures all { OnOk result (K.taken out.new ≡ appended (K.taken out.old) (numbers_part kernel.now)) }
     ensures front { OnErr result (PutFront (K.taken out.old) (K.taken out.new) (numbers_part kernel.now)) }
-    ensures fault { OnErr result (Rose (K.faults out.old) (K.faults out.new)) }
+    ensures fault { OnErr result (FaultCounted (K.faults out.old) (K.faults out.new)) }
     ensures never_falls { K.faults out.old ≤ K.faults out.new }
 {
     text.put_end(kernel.clock(), kernel.number(), kernel.next(), 0);
@@ -153,9 +153,9 @@ fn put_numbers<K: Sink>(out: &mut K, text: &mut LineBuf, kernel: &Kernel) -> Res
 
 /// Puts the last line.
 fn put_done<K: Sink>(out: &mut K, text: &mut LineBuf) -> Result<(), WriteFault>
-    ensures all { OnOk result (K.taken out.new ≡ grown (K.taken out.old) done_text) }
+    ensures all { OnOk result (K.taken out.new ≡ appended (K.taken out.old) done_text) }
     ensures front { OnErr result (PutFront (K.taken out.old) (K.taken out.new) done_text) }
-    ensures fault { OnErr result (Rose (K.faults out.old) (K.faults out.new)) }
+    ensures fault { OnErr result (FaultCounted (K.faults out.old) (K.faults out.new)) }
     ensures never_falls { K.faults out.old ≤ K.faults out.new }
 {
     text.put_done();
@@ -164,10 +164,10 @@ fn put_done<K: Sink>(out: &mut K, text: &mut LineBuf) -> Result<(), WriteFault>
 
 /// Puts the state that is read back: its numbers, the objects, the open tasks and the last line.
 fn put_end_part<K: Sink>(out: &mut K, text: &mut LineBuf, kernel: &Kernel) -> Result<(), WriteFault>
-    requires { IsKept kernel.now }
-    ensures all { OnOk result (K.taken out.new ≡ grown (K.taken out.old) (end_part_of kernel.now)) }
+    requires { IsValid kernel.now }
+    ensures all { OnOk result (K.taken out.new ≡ appended (K.taken out.old) (end_part_of kernel.now)) }
     ensures front { OnErr result (PutFront (K.taken out.old) (K.taken out.new) (end_part_of kernel.now)) }
-    ensures fault { OnErr result (Rose (K.faults out.old) (K.faults out.new)) }
+    ensures fault { OnErr result (FaultCounted (K.faults out.old) (K.faults out.new)) }
     ensures never_falls { K.faults out.old ≤ K.faults out.new }
 {
     let Ok(()) = put_numbers(out, text, kernel) else {
@@ -187,9 +187,9 @@ fn put_end_part<K: Sink>(out: &mut K, text: &mut LineBuf, kernel: &Kernel) -> Re
 
 /// Puts the line of a finish that is durable and that no line has told, where there is one.
 fn put_found<K: Sink>(out: &mut K, text: &mut LineBuf, kernel: &Kernel) -> Result<(), WriteFault>
-    ensures all { OnOk result ((s : State MachineState) → Stands kernel.now s → K.taken out.new ≡ grown (K.taken out.old) (found_part kernel.now s)) }
-    ensures front { OnErr result ((s : State MachineState) → Stands kernel.now s → PutFront (K.taken out.old) (K.taken out.new) (found_part kernel.now s)) }
-    ensures fault { OnErr result (Rose (K.faults out.old) (K.faults out.new)) }
+    ensures all { OnOk result ((s : State MachineState) → Represents kernel.now s → K.taken out.new ≡ appended (K.taken out.old) (found_part kernel.now s)) }
+    ensures front { OnErr result ((s : State MachineState) → Represents kernel.now s → PutFront (K.taken out.old) (K.taken out.new) (found_part kernel.now s)) }
+    ensures fault { OnErr result (FaultCounted (K.faults out.old) (K.faults out.new)) }
     ensures never_falls { K.faults out.old ≤ K.faults out.new }
 {
     match kernel.close_line() {
@@ -204,10 +204,10 @@ pub(crate) fn put_tail<K: Sink>(
     text: &mut LineBuf,
     kernel: &Kernel,
 ) -> Result<(), WriteFault>
-    requires { IsKept kernel.now }
-    ensures all { OnOk result ((s : State MachineState) → Stands kernel.now s → K.taken out.new ≡ grown (K.taken out.old) (tail_of kernel.now s)) }
-    ensures front { OnErr result ((s : State MachineState) → Stands kernel.now s → PutFront (K.taken out.old) (K.taken out.new) (tail_of kernel.now s)) }
-    ensures fault { OnErr result (Rose (K.faults out.old) (K.faults out.new)) }
+    requires { IsValid kernel.now }
+    ensures all { OnOk result ((s : State MachineState) → Represents kernel.now s → K.taken out.new ≡ appended (K.taken out.old) (tail_of kernel.now s)) }
+    ensures front { OnErr result ((s : State MachineState) → Represents kernel.now s → PutFront (K.taken out.old) (K.taken out.new) (tail_of kernel.now s)) }
+    ensures fault { OnErr result (FaultCounted (K.faults out.old) (K.faults out.new)) }
     ensures never_falls { K.faults out.old ≤ K.faults out.new }
 {
     let Ok(()) = put_found(out, text, kernel) else {

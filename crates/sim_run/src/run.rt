@@ -1,7 +1,7 @@
 //! A run of a script: its events, one after another, and then what is read back.
 
 ghost use Rattle.std.specs.Prelude.{◌≡◌, ◌≤◌, Ok};
-ghost use Rattle.nv_base.specs.Streams.{Rose};
+ghost use Rattle.nv_base.specs.Streams.{FaultCounted};
 ghost use Rattle.schedule_model.specs.Failures.{events_of};
 ghost use Rattle.schedule_model.specs.Parts.{failure_count};
 ghost use Rattle.headline.specs.Headline.{Headline, report_text};
@@ -37,7 +37,7 @@ fn put_events<K: Sink>(
     requires begins { Carries kernel.set (events_of schedule.now) kernel 0 }
     requires same_cores { schedule.now.cores ≡ 1 }
     requires powered { failure_count (events_of schedule.now) ≡ 0 }
-    ensures answers { RunAnswers kernel.set (events_of schedule.now) (Rose (K.faults out.old) (K.faults out.new)) (K.taken out.old) (K.taken out.new) result }
+    ensures answers { RunAnswers kernel.set (events_of schedule.now) (FaultCounted (K.faults out.old) (K.faults out.new)) (K.taken out.old) (K.taken out.new) result }
     ensures never_falls { K.faults out.old ≤ K.faults out.new }
 {
     // what the kernel keeps is what is durable, and events are few
@@ -67,7 +67,7 @@ pub(crate) fn run_events<K: Sink>(
     requires one_core { set.cores ≡ 1 }
     requires same_cores { schedule.now.cores ≡ 1 }
     requires powered { failure_count (events_of schedule.now) ≡ 0 }
-    ensures answers { RunAnswers set (events_of schedule.now) (Rose (K.faults out.old) (K.faults out.new)) (K.taken out.old) (K.taken out.new) result }
+    ensures answers { RunAnswers set (events_of schedule.now) (FaultCounted (K.faults out.old) (K.faults out.new)) (K.taken out.old) (K.taken out.new) result }
     ensures never_falls { K.faults out.old ≤ K.faults out.new }
 {
     let Ok(text) = LineBuf::new(alloc) else {
@@ -83,7 +83,7 @@ pub(crate) fn run_events<K: Sink>(
 /// format than 1, or it has more than one core or a failure of power.
 fn run_script<K: Sink>(alloc: Global, script: Script, out: &mut K) -> Status
     requires { script.schedule.cores ≡ script.set.cores }
-    ensures replied { Replied (run_reply (Ok (script_of script))) (Rose (K.faults out.old) (K.faults out.new)) (K.taken out.old) (K.taken out.new) result }
+    ensures replied { Replied (run_reply (Ok (script_of script))) (FaultCounted (K.faults out.old) (K.faults out.new)) (K.taken out.old) (K.taken out.new) result }
     ensures headline { Headline script.set (events_of script.schedule) (report_text script.set (events_of script.schedule)) }
     ensures never_falls { K.faults out.old ≤ K.faults out.new }
 {
@@ -99,7 +99,7 @@ fn run_script<K: Sink>(alloc: Global, script: Script, out: &mut K) -> Status
 
 /// Runs the script that an input is, or answers with the first line that is refused.
 pub(crate) fn run<K: Sink>(alloc: Global, input: &[u8], out: &mut K) -> Status
-    ensures replied { Replied (run_reply (read input.now)) (Rose (K.faults out.old) (K.faults out.new)) (K.taken out.old) (K.taken out.new) result }
+    ensures replied { Replied (run_reply (read input.now)) (FaultCounted (K.faults out.old) (K.faults out.new)) (K.taken out.old) (K.taken out.new) result }
     ensures headline { result ≡ Status.Done → IsPromised input.now }
     ensures never_falls { K.faults out.old ≤ K.faults out.new }
 {

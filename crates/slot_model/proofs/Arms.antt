@@ -3,9 +3,9 @@ use Rattle.std.proofs.Common.{◌≡◌, ℕ, ◌-◌, ◌<◌, ◌≤◌, true,
 use Rattle.std.specs.List.{AllByRecursion}
 use Rattle.kernel_model.specs.Sizes.{Sizes}
 use Rattle.kernel_model.specs.Effects.{Run, Write}
-use Rattle.kernel_model.specs.Runs.{Steps}
-use Rattle.kernel_model.specs.Items.{Item}
-use Rattle.kernel_model.specs.Replay.{Base}
+use Rattle.kernel_model.specs.Runs.{TaskMachine}
+use Rattle.kernel_model.specs.Items.{FinishRecord}
+use Rattle.kernel_model.specs.Replay.{DeviceState}
 use Rattle.kernel_model.specs.Versions.{Version, chosen, versions}
 use Rattle.kernel_model.specs.Chain.{IsChain}
 use Rattle.kernel_model.proofs.ChainLaws.{chosen_exists}
@@ -26,7 +26,7 @@ use Rattle.slot_model.proofs.Writing.{commit_writes-all, no_target}
 use Rattle.slot_model.proofs.Targets.{target_in}
 
 -- a step of a core that turns from c to d
-pub turn_stands : {M : Type 0} → (steps : Steps M) (sizes : Sizes) (base : Base) (floor : ℕ) (s : State M) (kept : Kept) (image : Image) (n : ℕ) (c d : Core M) → IsLawful steps sizes base s → StandsFor sizes base floor s kept image → s.power ≡ On → get_or s.cores n Idle ≡ c →
+pub turn_stands : {M : Type 0} → (steps : TaskMachine M) (sizes : Sizes) (base : DeviceState) (floor : ℕ) (s : State M) (kept : Kept) (image : Image) (n : ℕ) (c d : Core M) → IsLawful steps sizes base s → StandsFor sizes base floor s kept image → s.power ≡ On → get_or s.cores n Idle ≡ c →
     (core_turn steps sizes base s.history (all_but n s.cores) n c).core ≡ d →
     StandsFor sizes base floor (event_step steps sizes base s (CoreStep n)).0 (kept_turn sizes base s.history (all_but n s.cores) n c d kept) (image_turn sizes base s.history kept.plan c image)
 turn_stands {M} steps sizes base floor s kept image n c d h f on at turn =
@@ -41,13 +41,13 @@ turn_stands {M} steps sizes base floor s kept image n c d h f on at turn =
     of_image = ap (λ p. image_turn sizes base s.history kept.plan (acting_on p (get_or s.cores n Idle)) image) on ∙ ap (λ (x : Core M). image_turn sizes base s.history kept.plan x image) at
 
 -- a turn of a boot
-pub boot_stands : {M : Type 0} → (steps : Steps M) (sizes : Sizes) (base : Base) (floor : ℕ) (s : State M) (kept : Kept) (image : Image) (n left : ℕ) → IsLawful steps sizes base s → StandsFor sizes base floor s kept image → s.power ≡ Boot left →
+pub boot_stands : {M : Type 0} → (steps : TaskMachine M) (sizes : Sizes) (base : DeviceState) (floor : ℕ) (s : State M) (kept : Kept) (image : Image) (n left : ℕ) → IsLawful steps sizes base s → StandsFor sizes base floor s kept image → s.power ≡ Boot left →
     StandsFor sizes base floor (event_step steps sizes base s (CoreStep n)).0 kept image
 boot_stands {M} steps sizes base floor s kept image n left h f off =
     subst₂ (StandsFor sizes base floor (event_step steps sizes base s (CoreStep n)).0) (ap (λ p. kept_step steps sizes base s n p kept) off) (ap (λ p. image_turn sizes base s.history kept.plan (acting_on p (get_or s.cores n Idle)) image) off)
     (event_stands steps sizes base floor s kept image (CoreStep n) h f)
 
-calm_kept : {M : Type 0} → (sizes : Sizes) (base : Base) (history : List Item) (others : List (Core M)) (n : ℕ) (c d : Core M) (kept : Kept) → is_calm c d ≡ true → kept_turn sizes base history others n c d kept ≡ kept
+calm_kept : {M : Type 0} → (sizes : Sizes) (base : DeviceState) (history : List FinishRecord) (others : List (Core M)) (n : ℕ) (c d : Core M) (kept : Kept) → is_calm c d ≡ true → kept_turn sizes base history others n c d kept ≡ kept
 calm_kept sizes base history others n Idle d kept e = refl
 calm_kept sizes base history others n (Running a) Idle kept e = refl
 calm_kept sizes base history others n (Running a) (Running b) kept e = refl
@@ -62,7 +62,7 @@ calm_kept sizes base history others n (Ready a outcome) (Ready b o) kept e = ref
 calm_kept sizes base history others n (Ready a outcome) (Committing i left) kept e = absurd (cc e)
 calm_kept sizes base history others n (Committing i left) d kept e = absurd (cc e)
 
-calm_image : {M : Type 0} → (sizes : Sizes) (base : Base) (history : List Item) (plan : ℕ → ℕ) (c d : Core M) (image : Image) → is_calm c d ≡ true → image_turn sizes base history plan c image ≡ image
+calm_image : {M : Type 0} → (sizes : Sizes) (base : DeviceState) (history : List FinishRecord) (plan : ℕ → ℕ) (c d : Core M) (image : Image) → is_calm c d ≡ true → image_turn sizes base history plan c image ≡ image
 calm_image sizes base history plan Idle d image e = refl
 calm_image sizes base history plan (Running a) d image e = refl
 calm_image sizes base history plan (Copying a copied) d image e = refl
@@ -70,22 +70,22 @@ calm_image sizes base history plan (Ready a outcome) d image e = refl
 calm_image sizes base history plan (Committing i left) d image e = absurd (cc e)
 
 -- a calm turn
-pub calm_stands : {M : Type 0} → (steps : Steps M) (sizes : Sizes) (base : Base) (floor : ℕ) (s : State M) (kept : Kept) (image : Image) (n : ℕ) (c d : Core M) → IsLawful steps sizes base s → StandsFor sizes base floor s kept image → s.power ≡ On → get_or s.cores n Idle ≡ c →
+pub calm_stands : {M : Type 0} → (steps : TaskMachine M) (sizes : Sizes) (base : DeviceState) (floor : ℕ) (s : State M) (kept : Kept) (image : Image) (n : ℕ) (c d : Core M) → IsLawful steps sizes base s → StandsFor sizes base floor s kept image → s.power ≡ On → get_or s.cores n Idle ≡ c →
     (core_turn steps sizes base s.history (all_but n s.cores) n c).core ≡ d → is_calm c d ≡ true → StandsFor sizes base floor (event_step steps sizes base s (CoreStep n)).0 kept image
 calm_stands {M} steps sizes base floor s kept image n c d h f on at turn calm =
     subst₂ (StandsFor sizes base floor (event_step steps sizes base s (CoreStep n)).0) (calm_kept sizes base s.history (all_but n s.cores) n c d kept calm) (calm_image sizes base s.history kept.plan c d image calm)
     (turn_stands steps sizes base floor s kept image n c d h f on at turn)
 
 -- a commit under way
-pub under_way : {M : Type 0} → (sizes : Sizes) (base : Base) (floor : ℕ) (s : State M) (kept : Kept) (image : Image) (n : ℕ) (i : Item) (left : ℕ) → StandsFor sizes base floor s kept image → get_or s.cores n Idle ≡ Committing i left → IsUnderWay sizes base s.history s.cores kept image i left
+pub under_way : {M : Type 0} → (sizes : Sizes) (base : DeviceState) (floor : ℕ) (s : State M) (kept : Kept) (image : Image) (n : ℕ) (i : FinishRecord) (left : ℕ) → StandsFor sizes base floor s kept image → get_or s.cores n Idle ≡ Committing i left → IsUnderWay sizes base s.history s.cores kept image i left
 under_way sizes base floor s kept image n i left f at = subst (IsServed sizes base s.history s.cores kept image n) at (f.stands.served n)
 
 -- the last writes of a commit are none of its objects' words
-pub late_write : (sizes : Sizes) (base : Base) (history : List Item) (i : Item) (left : ℕ) → left ≤ late_writes sizes base history i → target sizes (commit_writes sizes base history i - left) i.run.writes ≡ None
+pub late_write : (sizes : Sizes) (base : DeviceState) (history : List FinishRecord) (i : FinishRecord) (left : ℕ) → left ≤ late_writes sizes base history i → target sizes (commit_writes sizes base history i - left) i.run.writes ≡ None
 late_write sizes base history i left l = no_target sizes (commit_writes sizes base history i - left) i.run.writes (let k = commit_writes-all sizes base history i in omega (arith, k, l))
 
 -- a commit writes only to spare slots
-pub free_writes : {M : Type 0} → (sizes : Sizes) (base : Base) (floor : ℕ) (history : List Item) (cores : List (Core M)) (kept : Kept) (image : Image) → Stands sizes base floor history cores kept image → (ws : List Write) → AllByRecursion (IsWrite sizes) ws →
+pub free_writes : {M : Type 0} → (sizes : Sizes) (base : DeviceState) (floor : ℕ) (history : List FinishRecord) (cores : List (Core M)) (kept : Kept) (image : Image) → Stands sizes base floor history cores kept image → (ws : List Write) → AllByRecursion (IsWrite sizes) ws →
     AllByRecursion (λ w. IsSpare (sizes.slots w.object) (is_needed base history w.object cores) (kept.chains w.object) (kept.plan w.object)) ws → AllByRecursion (IsFree sizes base history cores kept) ws
 free_writes {M} sizes base floor history cores kept image f ws r k = go ws r k
   where
@@ -104,12 +104,12 @@ free_writes {M} sizes base floor history cores kept image f ws r k = go ws r k
     go [] r k = tt
     go (w ∷ ws) r k = (record { object = r.0.object; spare = k.0; other = apart w.object r.0.object (kept.chains w.object) refl k.0 }, go ws r.1 k.1)
 
-pub taken_free : {M : Type 0} → (steps : Steps M) (sizes : Sizes) (base : Base) (floor : ℕ) (s : State M) (kept : Kept) (image : Image) (n : ℕ) (i : Item) (left : ℕ) → IsLawful steps sizes base s → StandsFor sizes base floor s kept image → get_or s.cores n Idle ≡ Committing i left →
+pub taken_free : {M : Type 0} → (steps : TaskMachine M) (sizes : Sizes) (base : DeviceState) (floor : ℕ) (s : State M) (kept : Kept) (image : Image) (n : ℕ) (i : FinishRecord) (left : ℕ) → IsLawful steps sizes base s → StandsFor sizes base floor s kept image → get_or s.cores n Idle ≡ Committing i left →
     AllByRecursion (IsFree sizes base s.history s.cores kept) i.run.writes
 taken_free steps sizes base floor s kept image n i left h f at = free_writes sizes base floor s.history s.cores kept image f.stands i.run.writes (runs_of steps sizes base s h.set_up h.sound n i left at).writes (under_way sizes base floor s kept image n i left f at).spare
 
 -- and each of its words to a place there
-pub free_target : {M : Type 0} → (sizes : Sizes) (base : Base) (history : List Item) (cores : List (Core M)) (kept : Kept) (made : ℕ) (run : Run) (t : Target) → IsRun sizes run →
+pub free_target : {M : Type 0} → (sizes : Sizes) (base : DeviceState) (history : List FinishRecord) (cores : List (Core M)) (kept : Kept) (made : ℕ) (run : Run) (t : Target) → IsRun sizes run →
     AllByRecursion (λ w. IsSpare (sizes.slots w.object) (is_needed base history w.object cores) (kept.chains w.object) (kept.plan w.object)) run.writes → target sizes made run.writes ≡ Some t → IsTarget sizes kept run.writes t
 free_target {M} sizes base history cores kept made run t fit k e = target_in sizes kept made run.writes t fit.in_order fit.writes (slots run.writes k) e
   where
@@ -117,6 +117,6 @@ free_target {M} sizes base history cores kept made run t fit k e = target_in siz
     slots [] k = tt
     slots (w ∷ ws) k = (k.0.place, slots ws k.1)
 
-pub target_free : {M : Type 0} → (steps : Steps M) (sizes : Sizes) (base : Base) (floor : ℕ) (s : State M) (kept : Kept) (image : Image) (n : ℕ) (i : Item) (left made : ℕ) (t : Target) → IsLawful steps sizes base s → StandsFor sizes base floor s kept image → get_or s.cores n Idle ≡ Committing i left →
+pub target_free : {M : Type 0} → (steps : TaskMachine M) (sizes : Sizes) (base : DeviceState) (floor : ℕ) (s : State M) (kept : Kept) (image : Image) (n : ℕ) (i : FinishRecord) (left made : ℕ) (t : Target) → IsLawful steps sizes base s → StandsFor sizes base floor s kept image → get_or s.cores n Idle ≡ Committing i left →
     target sizes made i.run.writes ≡ Some t → IsTarget sizes kept i.run.writes t
 target_free steps sizes base floor s kept image n i left made t h f at e = free_target sizes base s.history s.cores kept made i.run t (runs_of steps sizes base s h.set_up h.sound n i left at) (under_way sizes base floor s kept image n i left f at).spare e

@@ -3,7 +3,7 @@ use Rattle.std.proofs.Common.{◌≡◌, ℕ, ◌<◌, inl, inr, Bool, true, fal
 use Rattle.std.specs.Prelude.{is_none}
 use Rattle.std.specs.List.{AllByRecursion}
 use Rattle.std.proofs.lemmas.Bool.{eqb-true, eqb-false, ne_eqb, or_right}
-use Rattle.kernel_model.specs.Items.{Item}
+use Rattle.kernel_model.specs.Items.{FinishRecord}
 use Rattle.kernel_model.specs.Versions.{Version, chosen, older}
 use Rattle.kernel_model.specs.Chain.{IsChain, IsPart, floored, with_version}
 use Rattle.kernel_model.proofs.ChainLaws.{chain-less}
@@ -151,7 +151,7 @@ spare_unneeded n m k hs less spare = both_held (λ h. must_stand m h ≡ true �
         go false q = q
 
 -- what stands, where a version joins in a spare slot
-pub standing_with : (slots floor : ℕ) (n m : Version → Bool) (words_at : ℕ → List ℕ) (vs later : List Version) (chain : List Held) (i : Item) (w : Option (List ℕ)) (k : ℕ) → IsSeen floor n → IsSeen floor m → HasNewest vs →
+pub standing_with : (slots floor : ℕ) (n m : Version → Bool) (words_at : ℕ → List ℕ) (vs later : List Version) (chain : List Held) (i : FinishRecord) (w : Option (List ℕ)) (k : ℕ) → IsSeen floor n → IsSeen floor m → HasNewest vs →
     AllByRecursion (λ v. m v ≡ true → n v ≡ true) (older vs) → IsChain floor m (with_version i w (versions_in chain)) later → ((words : List ℕ) → w ≡ Some words → IsSpare slots n chain k × (words_at k ≡ words)) →
     AreStanding slots floor n words_at vs chain → AreStanding slots floor m words_at later (with_held i w k chain)
 standing_with slots floor n m words_at vs later chain i None k fn fm new less c given s = record {

@@ -5,12 +5,12 @@ use Rattle.std.specs.List.{AllByRecursion}
 use Rattle.std.proofs.lemmas.Bool.{ltb-true, ltb-false}
 use Rattle.kernel_model.specs.Sizes.{Sizes}
 use Rattle.kernel_model.specs.Effects.{Programs, Write}
-use Rattle.kernel_model.specs.Items.{Item}
-use Rattle.kernel_model.specs.Replay.{Base}
+use Rattle.kernel_model.specs.Items.{FinishRecord}
+use Rattle.kernel_model.specs.Replay.{DeviceState}
 use Rattle.kernel_model.specs.Cores.{Idle, all_but}
 use Rattle.kernel_model.specs.Events.{State, durable_commit}
 use Rattle.kernel_model.specs.Fit.{IsWrite}
-use Rattle.kernel_model.specs.Live.{Live, Mark, core_of, cores_of}
+use Rattle.kernel_model.specs.Live.{CallState, Mark, core_of, cores_of}
 use Rattle.kernel_model.specs.LiveSound.{IsLiveState}
 use Rattle.kernel_model.proofs.CoreLaws.{durable_commit-idle}
 use Rattle.slot_model.specs.Slots.{Image}
@@ -86,7 +86,7 @@ target_listed sizes (w ∷ ws) made r = go (target_listed sizes ws (made - sizes
         rest ∙ ap (λ n. slice_get (targets ws) (made - n)) (sym long) ∙ sym (get_back (targets_from w.object 0 w.words) (targets ws) made (omega (arith, long, l)))
 
 -- the views of other callers
-pub callers_views : (base : Base) (history : List Item) (pins : ℕ → ℕ) (views : ℕ → Option View) (marks : List (Option Mark)) (n : ℕ) → ((k : ℕ) → views k ≡ mark_view base history (get_or marks k None)) →
+pub callers_views : (base : DeviceState) (history : List FinishRecord) (pins : ℕ → ℕ) (views : ℕ → Option View) (marks : List (Option Mark)) (n : ℕ) → ((k : ℕ) → views k ≡ mark_view base history (get_or marks k None)) →
     others_views views n 0 (length marks) ≡ views_of base history pins 0 (cores_of (set marks n None))
 callers_views base history pins views marks n h =
     ap (others_views views n 0) (sym (cores_length marks)) ∙ views_all base history pins views (cores_of marks) n (λ k. h k ∙ at k (get_or marks k None) ∙ ap (view_of base history (pins k)) (sym (core_of_mark marks k)))
@@ -97,7 +97,7 @@ callers_views base history pins views marks n h =
     at k (Some m) = refl
 
 -- the free slot for a caller, by tables
-pub caller_free : (whole : Programs) (sizes : Sizes) (base : Base) (s : Live) (kept : Kept) (image : Image) (t : Tables) (n o : ℕ) → IsLiveState whole base s → LiveStands sizes base s kept image → AreTables sizes base base.clock s.history kept t → o < sizes.objects →
+pub caller_free : (whole : Programs) (sizes : Sizes) (base : DeviceState) (s : CallState) (kept : Kept) (image : Image) (t : Tables) (n o : ℕ) → IsLiveState whole base s → LiveStands sizes base s kept image → AreTables sizes base base.clock s.history kept t → o < sizes.objects →
     free_place (sizes.slots o) o (views_of base s.history kept.pins 0 (cores_of (set s.marks n None))) (t.places o) ≡ free_slot sizes base s.history (all_but n (cores_of s.marks)) kept o
 caller_free whole sizes base s kept image t n o h f p l =
     ap (λ ps. free_place (sizes.slots o) o (views_of base s.history kept.pins 0 (cores_of (set s.marks n None))) ps) (p.places o l)

@@ -3,16 +3,16 @@ use Rattle.std.proofs.Common.{◌≡◌, ℕ, List, [], ◌∷◌, get_or, Optio
 use Rattle.std.specs.List.{AllByRecursion}
 use Rattle.kernel_model.specs.Sizes.{Sizes}
 use Rattle.kernel_model.specs.Effects.{Programs}
-use Rattle.kernel_model.specs.Runs.{Steps, whole_run}
-use Rattle.kernel_model.specs.Items.{Item}
-use Rattle.kernel_model.specs.Replay.{Base}
+use Rattle.kernel_model.specs.Runs.{TaskMachine, whole_run}
+use Rattle.kernel_model.specs.Items.{FinishRecord}
+use Rattle.kernel_model.specs.Replay.{DeviceState}
 use Rattle.kernel_model.specs.Versions.{Read, read_words}
 use Rattle.kernel_model.specs.Cores.{Committing, Copying, Core, Idle, Ready, Running}
 use Rattle.kernel_model.specs.Events.{Event, State, event_step, with_finish}
 use Rattle.kernel_model.specs.History.{IsHistory, IsNumbered}
 use Rattle.kernel_model.specs.Sound.{IsSoundCore}
 use Rattle.kernel_model.specs.Chain.{joining}
-use Rattle.kernel_model.specs.Live.{Live, Mark}
+use Rattle.kernel_model.specs.Live.{CallState, Mark}
 use Rattle.kernel_model.specs.LiveSound.{IsMarkedIf}
 use Rattle.kernel_model.proofs.ChainLaws.{history-joined}
 use Rattle.kernel_model.proofs.Growth.{reads_kept}
@@ -23,14 +23,14 @@ use Rattle.slot_model.specs.Tabled.{reads_of}
 use Rattle.slot_model.specs.Standing.{IsLawful}
 use Rattle.slot_model.specs.LiveStanding.{IsLiveLawful, LiveCommits}
 
-same_reads : (base : Base) (history : List Item) (reads : List Read) → AllByRecursion (λ r. read_words base history r ≡ read_words base history r) reads
+same_reads : (base : DeviceState) (history : List FinishRecord) (reads : List Read) → AllByRecursion (λ r. read_words base history r ≡ read_words base history r) reads
 same_reads base history [] = tt
 same_reads base history (r ∷ reads) = (refl, same_reads base history reads)
 
 -- of each core, through an event
-pub copies_stay : {M : Type 0} → (steps : Steps M) (sizes : Sizes) (base : Base) (s : State M) (e : Event) (k : ℕ) → IsLawful steps sizes base s →
+pub copies_stay : {M : Type 0} → (steps : TaskMachine M) (sizes : Sizes) (base : DeviceState) (s : State M) (e : Event) (k : ℕ) → IsLawful steps sizes base s →
     AllByRecursion (λ r. read_words base (event_step steps sizes base s e).0.history r ≡ read_words base s.history r) (reads_of (get_or s.cores k Idle))
-copies_stay {M} steps sizes base s e k h = subst (λ (g : List Item). AllByRecursion (λ r. read_words base g r ≡ read_words base s.history r) (reads_of (get_or s.cores k Idle))) (sym same) (go (joining s e) later)
+copies_stay {M} steps sizes base s e k h = subst (λ (g : List FinishRecord). AllByRecursion (λ r. read_words base g r ≡ read_words base s.history r) (reads_of (get_or s.cores k Idle))) (sym same) (go (joining s e) later)
   where
     same : (event_step steps sizes base s e).0.history ≡ with_finish (joining s e) s.history
     same = history-joined steps sizes base s e
@@ -38,18 +38,18 @@ copies_stay {M} steps sizes base s e k h = subst (λ (g : List Item). AllByRecur
     later : IsHistory (whole_run steps) base (with_finish (joining s e) s.history)
     later = subst (IsHistory (whole_run steps) base) same (next_sound steps sizes base h.set_up s h.sound h.ids e).history
 
-    by : (i : Item) → IsNumbered base (i ∷ s.history) → (c : Core M) → IsSoundCore steps sizes base s.history c → AllByRecursion (λ r. read_words base (i ∷ s.history) r ≡ read_words base s.history r) (reads_of c)
+    by : (i : FinishRecord) → IsNumbered base (i ∷ s.history) → (c : Core M) → IsSoundCore steps sizes base s.history c → AllByRecursion (λ r. read_words base (i ∷ s.history) r ≡ read_words base s.history r) (reads_of c)
     by i n Idle x = tt
     by i n (Running a) x = (reads_kept base i s.history n a.reads x.2.are_found).1
     by i n (Copying a copied) x = (reads_kept base i s.history n a.reads x.3.are_found).1
     by i n (Ready a outcome) x = (reads_kept base i s.history n a.reads x.are_found).1
     by i n (Committing j left) x = tt
 
-    go : (j : Option Item) → IsHistory (whole_run steps) base (with_finish j s.history) → AllByRecursion (λ r. read_words base (with_finish j s.history) r ≡ read_words base s.history r) (reads_of (get_or s.cores k Idle))
+    go : (j : Option FinishRecord) → IsHistory (whole_run steps) base (with_finish j s.history) → AllByRecursion (λ r. read_words base (with_finish j s.history) r ≡ read_words base s.history r) (reads_of (get_or s.cores k Idle))
     go None g = same_reads base s.history (reads_of (get_or s.cores k Idle))
     go (Some i) g = by i g.numbered (get_or s.cores k Idle) (h.sound.cores k)
 
 -- and of each caller, through a finish
-pub mark_copies : (whole : Programs) (sizes : Sizes) (base : Base) (s : Live) (kept : Kept) (image : Image) (n k : ℕ) (i : Item) (left : ℕ) (m : Mark) → IsLiveLawful whole sizes base s → LiveCommits whole sizes base s n i left kept image → get_or s.marks k None ≡ Some m →
+pub mark_copies : (whole : Programs) (sizes : Sizes) (base : DeviceState) (s : CallState) (kept : Kept) (image : Image) (n k : ℕ) (i : FinishRecord) (left : ℕ) (m : Mark) → IsLiveLawful whole sizes base s → LiveCommits whole sizes base s n i left kept image → get_or s.marks k None ≡ Some m →
     AllByRecursion (λ r. read_words base (i ∷ s.history) r ≡ read_words base s.history r) m.reads
 mark_copies whole sizes base s kept image n k i left m h c own = let x = subst (IsMarkedIf whole base s.history) own (h.live.marks k) in (reads_kept base i s.history c.joins.numbered m.reads x.attempt.are_found).1

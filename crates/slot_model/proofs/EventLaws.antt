@@ -3,8 +3,8 @@ use Rattle.std.proofs.Common.{◌≡◌, ℕ, zero, suc, Bool, true, false, cond
 use Rattle.std.specs.Prelude.{is_none}
 use Rattle.std.specs.List.{AllByRecursion}
 use Rattle.kernel_model.specs.Sizes.{Sizes}
-use Rattle.kernel_model.specs.Runs.{Steps}
-use Rattle.kernel_model.specs.Replay.{Base, clock_of}
+use Rattle.kernel_model.specs.Runs.{TaskMachine}
+use Rattle.kernel_model.specs.Replay.{DeviceState, clock_of}
 use Rattle.kernel_model.specs.Versions.{Version, older, versions}
 use Rattle.kernel_model.specs.Cores.{Committing, Core, Idle, finished_by}
 use Rattle.kernel_model.specs.Turns.{Nothing}
@@ -34,13 +34,13 @@ use Rattle.slot_model.proofs.Steps.{AreRuns, turned}
 use Rattle.slot_model.proofs.Turning.{IsAble}
 
 -- the run of each commit is that of a task of the set
-pub runs_of : {M : Type 0} → (steps : Steps M) (sizes : Sizes) (base : Base) (s : State M) → IsSetUp steps sizes base → IsSound steps sizes base s → AreRuns sizes s.cores
+pub runs_of : {M : Type 0} → (steps : TaskMachine M) (sizes : Sizes) (base : DeviceState) (s : State M) → IsSetUp steps sizes base → IsSound steps sizes base s → AreRuns sizes s.cores
 runs_of {M} steps sizes base s set_up h k i left at =
     let c : IsSoundCore {M = M} steps sizes base s.history (Committing i left) = subst (IsSoundCore steps sizes base s.history) at (h.cores k) in
     (history-runs steps sizes set_up.machine base (base-sized sizes base set_up.based) (i ∷ s.history) c.0.replays).0
 
 -- older versions have ended
-pub ended_of : {M : Type 0} → (steps : Steps M) (sizes : Sizes) (base : Base) (s : State M) → IsSound steps sizes base s → (o : ℕ) → HaveEnded (versions base o s.history)
+pub ended_of : {M : Type 0} → (steps : TaskMachine M) (sizes : Sizes) (base : DeviceState) (s : State M) → IsSound steps sizes base s → (o : ℕ) → HaveEnded (versions base o s.history)
 ended_of steps sizes base s h o = go (older (versions base o s.history)) (older-ended base o s.history (lawful_of base s.history h.history.numbered h.history.ordered))
   where
     at : (e : Option ℕ) → EndsBy (clock_of base s.history) e → is_none e ≡ false
@@ -52,7 +52,7 @@ ended_of steps sizes base s h o = go (older (versions base o s.history)) (older-
     go (v ∷ vs) k = (at v.end k.0, go vs k.1)
 
 -- what is known of the cores
-pub able_of : {M : Type 0} → (steps : Steps M) (sizes : Sizes) (base : Base) (floor : ℕ) (s : State M) (kept : Kept) (image : Image) → IsLawful steps sizes base s → StandsFor sizes base floor s kept image → IsAble sizes base floor s.history s.cores kept image
+pub able_of : {M : Type 0} → (steps : TaskMachine M) (sizes : Sizes) (base : DeviceState) (floor : ℕ) (s : State M) (kept : Kept) (image : Image) → IsLawful steps sizes base s → StandsFor sizes base floor s kept image → IsAble sizes base floor s.history s.cores kept image
 able_of steps sizes base floor s kept image h f = record {
   stands = f.stands;
   runs = runs_of steps sizes base s h.set_up h.sound;
@@ -61,7 +61,7 @@ able_of steps sizes base floor s kept image h f = record {
 }
 
 -- what an event leads to
-pub next_of : {M : Type 0} → (steps : Steps M) (sizes : Sizes) (base : Base) (floor : ℕ) (s : State M) → IsLawful steps sizes base s → IsFloor base floor s → (e : Event) →
+pub next_of : {M : Type 0} → (steps : TaskMachine M) (sizes : Sizes) (base : DeviceState) (floor : ℕ) (s : State M) → IsLawful steps sizes base s → IsFloor base floor s → (e : Event) →
     IsNext base floor s.history s.cores (joining s e) (event_step steps sizes base s e).0.history (event_step steps sizes base s e).0.cores
 next_of steps sizes base floor s h f e = record {
   less = never_needed_again steps sizes base s h.sound e;
@@ -70,7 +70,7 @@ next_of steps sizes base floor s h f e = record {
 }
 
 -- a finish that a failure finds has given its versions
-pub found_given : {M : Type 0} → (steps : Steps M) (sizes : Sizes) (base : Base) (floor : ℕ) (s : State M) (kept : Kept) (image : Image) → IsLawful steps sizes base s → StandsFor sizes base floor s kept image → IsGiven sizes base s.history s.cores kept image (durable_commit s.cores)
+pub found_given : {M : Type 0} → (steps : TaskMachine M) (sizes : Sizes) (base : DeviceState) (floor : ℕ) (s : State M) (kept : Kept) (image : Image) → IsLawful steps sizes base s → StandsFor sizes base floor s kept image → IsGiven sizes base s.history s.cores kept image (durable_commit s.cores)
 found_given {M} steps sizes base floor s kept image h f i e =
     let k = durable_commit-found s.cores i e in
     let at : get_or s.cores k.0 Idle ≡ Committing i 0 = (finishes (get_or s.cores k.0 Idle) i k.1).1 in
@@ -78,7 +78,7 @@ found_given {M} steps sizes base floor s kept image h f i e =
     written_given sizes base s.history s.cores kept image f.stands.sized i 0 (runs_of steps sizes base s h.set_up h.sound k.0 i 0 at) (omega arith) under i refl
 
 -- after a failure the newest versions stand
-failed : {M : Type 0} → (steps : Steps M) (sizes : Sizes) (base : Base) (floor : ℕ) (s : State M) (kept : Kept) (image : Image) → IsLawful steps sizes base s → StandsFor sizes base floor s kept image →
+failed : {M : Type 0} → (steps : TaskMachine M) (sizes : Sizes) (base : DeviceState) (floor : ℕ) (s : State M) (kept : Kept) (image : Image) → IsLawful steps sizes base s → StandsFor sizes base floor s kept image →
     StandsFor sizes base (floor_after base floor s Fail) (event_step steps sizes base s Fail).0 (kept_after steps sizes base s Fail kept) image
 failed {M} steps sizes base floor s kept image h f = record {
   since = floor_of_idle base t idle;
@@ -98,7 +98,7 @@ failed {M} steps sizes base floor s kept image h f = record {
     idle = get_or-idle s.cores
 
 -- each event
-pub event_stands : {M : Type 0} → (steps : Steps M) (sizes : Sizes) (base : Base) (floor : ℕ) (s : State M) (kept : Kept) (image : Image) (e : Event) → IsLawful steps sizes base s → StandsFor sizes base floor s kept image →
+pub event_stands : {M : Type 0} → (steps : TaskMachine M) (sizes : Sizes) (base : DeviceState) (floor : ℕ) (s : State M) (kept : Kept) (image : Image) (e : Event) → IsLawful steps sizes base s → StandsFor sizes base floor s kept image →
     StandsFor sizes base (floor_after base floor s e) (event_step steps sizes base s e).0 (kept_after steps sizes base s e kept) (image_after sizes base s e kept image)
 event_stands steps sizes base floor s kept image Fail h f = failed steps sizes base floor s kept image h f
 event_stands {M} steps sizes base floor s kept image (CoreStep n) h f =

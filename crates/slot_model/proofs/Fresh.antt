@@ -2,9 +2,9 @@
 use Rattle.std.proofs.Common.{◌≡◌, ℕ, ◌+◌, ◌-◌, max, Bool, List, [], ◌∷◌, get_or, length, Option, Some, None, refl, sym, ap, ◌∙◌, subst, arith}
 use Rattle.kernel_model.specs.Sizes.{Sizes}
 use Rattle.kernel_model.specs.Effects.{written}
-use Rattle.kernel_model.specs.Runs.{Steps}
-use Rattle.kernel_model.specs.Items.{Item}
-use Rattle.kernel_model.specs.Replay.{Base, clock_of}
+use Rattle.kernel_model.specs.Runs.{TaskMachine}
+use Rattle.kernel_model.specs.Items.{FinishRecord}
+use Rattle.kernel_model.specs.Replay.{DeviceState, clock_of}
 use Rattle.kernel_model.specs.Versions.{Version, chosen, versions}
 use Rattle.kernel_model.specs.OpenTasks.{open_tasks}
 use Rattle.kernel_model.specs.Cores.{Idle}
@@ -27,7 +27,7 @@ use Rattle.slot_model.proofs.Nexts.{newest_of}
 use Rattle.slot_model.proofs.Tables.{install_places}
 
 -- while all cores are idle
-pub fresh_stands : {M : Type 0} → (sizes : Sizes) (base : Base) (floor : ℕ) (s : State M) (kept : Kept) (image : Image) → ((k : ℕ) → get_or s.cores k Idle ≡ Idle) → StandsFor sizes base floor s kept image →
+pub fresh_stands : {M : Type 0} → (sizes : Sizes) (base : DeviceState) (floor : ℕ) (s : State M) (kept : Kept) (image : Image) → ((k : ℕ) → get_or s.cores k Idle ≡ Idle) → StandsFor sizes base floor s kept image →
     StandsFor sizes base (clock_of base s.history) s (afresh (clock_of base s.history) kept) image
 fresh_stands {M} sizes base floor s kept image idle f = record {
   since = floor_of_idle base s idle;
@@ -40,15 +40,15 @@ fresh_stands {M} sizes base floor s kept image idle f = record {
 }
 
 -- during a boot all cores are idle
-pub boot_idle : {M : Type 0} → (steps : Steps M) (sizes : Sizes) (base : Base) (s : State M) (left : ℕ) → IsLawful steps sizes base s → s.power ≡ Boot left → (k : ℕ) → get_or s.cores k Idle ≡ Idle
+pub boot_idle : {M : Type 0} → (steps : TaskMachine M) (sizes : Sizes) (base : DeviceState) (s : State M) (left : ℕ) → IsLawful steps sizes base s → s.power ≡ Boot left → (k : ℕ) → get_or s.cores k Idle ≡ Idle
 boot_idle steps sizes base s left h off = subst (λ p. IsQuiet p s.cores) off h.sound.quiet
 
 -- the tables begin with the newest versions
-pub tables_begin : {M : Type 0} → (sizes : Sizes) (base : Base) (floor : ℕ) (s : State M) (kept : Kept) (image : Image) → ((k : ℕ) → get_or s.cores k Idle ≡ Idle) → StandsFor sizes base floor s kept image →
+pub tables_begin : {M : Type 0} → (sizes : Sizes) (base : DeviceState) (floor : ℕ) (s : State M) (kept : Kept) (image : Image) → ((k : ℕ) → get_or s.cores k Idle ≡ Idle) → StandsFor sizes base floor s kept image →
     AreTables sizes base (clock_of base s.history) s.history (afresh (clock_of base s.history) kept) (fresh_tables (named_slot s kept) (state_left base (listed s)))
 tables_begin {M} sizes base floor s kept image idle f =
-    subst (λ (g : List Item). AreTables sizes base (clock_of base s.history) s.history (afresh (clock_of base s.history) kept) (fresh_tables (named_slot s kept) (state_left base g))) (sym (ap (λ j. with_finish j s.history) none)) (record {
-      places = λ o l. ap (λ (j : Option Item). let p : Place = record { slot = newest_slot ((with_finished j kept).chains o); begin = clock_of base s.history; end = None } in p ∷ []) none
+    subst (λ (g : List FinishRecord). AreTables sizes base (clock_of base s.history) s.history (afresh (clock_of base s.history) kept) (fresh_tables (named_slot s kept) (state_left base g))) (sym (ap (λ j. with_finish j s.history) none)) (record {
+      places = λ o l. ap (λ (j : Option FinishRecord). let p : Place = record { slot = newest_slot ((with_finished j kept).chains o); begin = clock_of base s.history; end = None } in p ∷ []) none
           ∙ at (is_needed base s.history o s.cores) (kept.chains o) (versions base o s.history) (chosen_exists base o s.history None None tt).0 (chosen_exists base o s.history None None tt).1 (newest_of base o s.history) (f.stands.objects o l).chained;
       bounds = λ o l. sym (bound_at_clock base s.history o);
       clock = refl;
@@ -70,7 +70,7 @@ tables_begin {M} sizes base floor s kept image idle f =
         ap (λ (t : Option ℕ). let p : Place = record { slot = h.slot; begin = clock_of base s.history; end = t } in p ∷ []) (sym ended)
 
 -- the tables after a finish
-pub tables_join : (sizes : Sizes) (base : Base) (floor : ℕ) (i : Item) (history : List Item) (kept : Kept) (t : Tables) → length (open_tasks base (i ∷ history)) ≡ length (open_tasks base history) - 1 + length i.run.spawns →
+pub tables_join : (sizes : Sizes) (base : DeviceState) (floor : ℕ) (i : FinishRecord) (history : List FinishRecord) (kept : Kept) (t : Tables) → length (open_tasks base (i ∷ history)) ≡ length (open_tasks base history) - 1 + length i.run.spawns →
     AreTables sizes base floor history kept t → AreTables sizes base floor (i ∷ history) (with_finished (Some i) kept) (tables_with i kept.plan t)
 tables_join sizes base floor i history kept t count p = record {
   places = λ o l. at o (written i.run.writes o) (p.places o l);

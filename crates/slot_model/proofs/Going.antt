@@ -2,9 +2,9 @@
 use Rattle.std.proofs.Common.{◌≡◌, ℕ, zero, suc, ◌+◌, ◌<◌, ◌≤◌, true, false, cond, eqb, List, [], ◌∷◌, get_or, set, length, Option, Some, None, refl, sym, ap, ◌∙◌, subst, arith, eq-eqb, ne_eqb, leb-false, get_or-set_other}
 use Rattle.kernel_model.specs.Sizes.{Sizes}
 use Rattle.kernel_model.specs.Effects.{Objects, Programs}
-use Rattle.kernel_model.specs.Runs.{Steps, whole_run}
-use Rattle.kernel_model.specs.Items.{Item}
-use Rattle.kernel_model.specs.Replay.{Base}
+use Rattle.kernel_model.specs.Runs.{TaskMachine, whole_run}
+use Rattle.kernel_model.specs.Items.{FinishRecord}
+use Rattle.kernel_model.specs.Replay.{DeviceState}
 use Rattle.kernel_model.specs.Versions.{Read, Version, chosen, versions}
 use Rattle.kernel_model.specs.Intervals.{Interval, is_empty, read_interval}
 use Rattle.kernel_model.specs.Room.{interval_of}
@@ -15,7 +15,7 @@ use Rattle.kernel_model.specs.Fit.{AreSized, HasIds, IsBase, IsRun, IsSetUp}
 use Rattle.kernel_model.specs.History.{AreFound, EndsAfter, IsHistory, RestOnReads}
 use Rattle.kernel_model.specs.Sound.{IsSound, IsSoundCore}
 use Rattle.kernel_model.specs.Chain.{cut, joining}
-use Rattle.kernel_model.specs.Live.{Live, Mark, core_of}
+use Rattle.kernel_model.specs.Live.{CallState, Mark, core_of}
 use Rattle.kernel_model.specs.LiveSound.{IsLiveState, IsMarkedIf}
 use Rattle.kernel_model.proofs.ChainLaws.{chosen_exists}
 use Rattle.kernel_model.proofs.CutLaws.{read_finds}
@@ -35,7 +35,7 @@ use Rattle.slot_model.proofs.Reading.{read_at, tables_finish}
 use Rattle.slot_model.proofs.Tables.{cut_readers}
 
 -- the chains after a turn
-turn_chains : {M : Type 0} → (sizes : Sizes) (base : Base) (history : List Item) (others : List (Core M)) (n : ℕ) (c d : Core M) (kept : Kept) → (kept_turn sizes base history others n c d kept).chains ≡ (with_finished (finished_by c) kept).chains
+turn_chains : {M : Type 0} → (sizes : Sizes) (base : DeviceState) (history : List FinishRecord) (others : List (Core M)) (n : ℕ) (c d : Core M) (kept : Kept) → (kept_turn sizes base history others n c d kept).chains ≡ (with_finished (finished_by c) kept).chains
 turn_chains sizes base history others n Idle d kept = refl
 turn_chains sizes base history others n (Running a) d kept = calm_chains sizes base history others n (Running a) d kept refl
 turn_chains sizes base history others n (Copying a copied) d kept = refl
@@ -44,11 +44,11 @@ turn_chains sizes base history others n (Committing i zero) d kept = refl
 turn_chains sizes base history others n (Committing i (suc left)) d kept = refl
 
 -- the tables of the same chains
-same_chains : (sizes : Sizes) (base : Base) (floor : ℕ) (history : List Item) (kept then : Kept) (t : Tables) → then.chains ≡ kept.chains → AreTables sizes base floor history kept t → AreTables sizes base floor history then t
+same_chains : (sizes : Sizes) (base : DeviceState) (floor : ℕ) (history : List FinishRecord) (kept then : Kept) (t : Tables) → then.chains ≡ kept.chains → AreTables sizes base floor history kept t → AreTables sizes base floor history then t
 same_chains sizes base floor history kept then t e p = record { places = λ o l. p.places o l ∙ ap (λ (f : ℕ → List Held). places_of (f o)) (sym e); bounds = p.bounds; clock = p.clock; number = p.number; next = p.next; pending = p.pending }
 
 -- an event but a failure
-pub tables_on : {M : Type 0} → (steps : Steps M) (sizes : Sizes) (base : Base) (floor : ℕ) (s : State M) (kept : Kept) (t : Tables) (n : ℕ) → IsLawful steps sizes base s → AreTables sizes base floor s.history kept t →
+pub tables_on : {M : Type 0} → (steps : TaskMachine M) (sizes : Sizes) (base : DeviceState) (floor : ℕ) (s : State M) (kept : Kept) (t : Tables) (n : ℕ) → IsLawful steps sizes base s → AreTables sizes base floor s.history kept t →
     AreTables sizes base floor (event_step steps sizes base s (CoreStep n)).0.history (kept_after steps sizes base s (CoreStep n) kept) (tables_joined (joining s (CoreStep n)) kept.plan t)
 tables_on {M} steps sizes base floor s kept t n h p = go s.power
   where
@@ -73,7 +73,7 @@ tables_on {M} steps sizes base floor s kept t n h p = go s.power
     go (Boot left) = elim (eqb n 0) as (λ b. AreTables sizes base floor (cond b (boot_turn s left) (s, Nothing)).0.history kept t) [ true ↦ boot left | false ↦ p ]
 
 -- what a finish that joins makes of what is kept of an attempt
-cut_core : {M : Type 0} → (steps : Steps M) (sizes : Sizes) (base : Base) (i : Item) (history : List Item) → IsHistory (whole_run steps) base (i ∷ history) → (slot : ℕ) (c : Core M) → IsSoundCore steps sizes base history c → view_of base (i ∷ history) slot c ≡ cut_view (Some i) (reads_of c) (view_of base history slot c)
+cut_core : {M : Type 0} → (steps : TaskMachine M) (sizes : Sizes) (base : DeviceState) (i : FinishRecord) (history : List FinishRecord) → IsHistory (whole_run steps) base (i ∷ history) → (slot : ℕ) (c : Core M) → IsSoundCore steps sizes base history c → view_of base (i ∷ history) slot c ≡ cut_view (Some i) (reads_of c) (view_of base history slot c)
 cut_core {M} steps sizes base i history h slot c s = go c s
   where
     cuts : (start : ℕ) (reads : List Read) → AreFound base history reads → read_interval base (i ∷ history) start reads ≡ cut i.point (is_written_read i reads) (read_interval base history start reads)
@@ -87,7 +87,7 @@ cut_core {M} steps sizes base i history h slot c s = go c s
     go (Committing j left) s = refl
 
 -- what is kept of the others, after a step of core n
-pub others_on : {M : Type 0} → (steps : Steps M) (sizes : Sizes) (base : Base) (s : State M) (kept : Kept) (n k : ℕ) → IsLawful steps sizes base s → (k ≡ n → ⊥) →
+pub others_on : {M : Type 0} → (steps : TaskMachine M) (sizes : Sizes) (base : DeviceState) (s : State M) (kept : Kept) (n k : ℕ) → IsLawful steps sizes base s → (k ≡ n → ⊥) →
     (let t : State M = (event_step steps sizes base s (CoreStep n)).0 in
     view_of base t.history ((kept_after steps sizes base s (CoreStep n) kept).pins k) (get_or t.cores k Idle) ≡ cut_view (joining s (CoreStep n)) (reads_of (get_or s.cores k Idle)) (view_of base s.history (kept.pins k) (get_or s.cores k Idle)))
 others_on {M} steps sizes base s kept n k h ne = go s.power
@@ -98,7 +98,7 @@ others_on {M} steps sizes base s kept n k h ne = go s.power
     other : Core M
     other = get_or s.cores k Idle
 
-    Goal : List Item → ℕ → Core M → Option Item → Type 0
+    Goal : List FinishRecord → ℕ → Core M → Option FinishRecord → Type 0
     Goal later slot c j = view_of base later slot c ≡ cut_view j (reads_of other) (view_of base s.history (kept.pins k) other)
 
     pins : (c d : Core M) → (kept_turn sizes base s.history (all_but n s.cores) n c d kept).pins k ≡ kept.pins k
@@ -143,7 +143,7 @@ others_on {M} steps sizes base s kept n k h ne = go s.power
     go (Boot left) = elim (eqb n 0) as (λ b. Goal (cond b (boot_turn s left) (s, Nothing)).0.history (kept.pins k) (get_or (cond b (boot_turn s left) (s, Nothing)).0.cores k Idle) None) [ true ↦ boot left | false ↦ refl ]
 
 -- the views of the others, core by core
-pub views_numbered : {M : Type 0} → (base : Base) (history : List Item) (pins : ℕ → ℕ) (views : ℕ → Option View) (cores : List (Core M)) (n k : ℕ) → ((j : ℕ) → views (k + j) ≡ view_of base history (pins (k + j)) (get_or cores j Idle)) →
+pub views_numbered : {M : Type 0} → (base : DeviceState) (history : List FinishRecord) (pins : ℕ → ℕ) (views : ℕ → Option View) (cores : List (Core M)) (n k : ℕ) → ((j : ℕ) → views (k + j) ≡ view_of base history (pins (k + j)) (get_or cores j Idle)) →
     others_views views (k + n) k (length cores) ≡ views_of base history pins k (set cores n Idle)
 views_numbered base history pins views [] n k h = refl
 views_numbered {M} base history pins views (c ∷ cores) zero k h =
@@ -166,14 +166,14 @@ views_numbered {M} base history pins views (c ∷ cores) (suc n) k h =
     ∙ ap (with_view (view_of base history (pins k) c)) (ap (λ x. others_views views x (suc k) (length cores)) y
     ∙ views_numbered base history pins views cores n (suc k) (λ j. let e : k + suc j ≡ suc k + j = omega arith in subst (λ x. views x ≡ view_of base history (pins x) (get_or cores j Idle)) e (h (suc j))))
 
-pub views_all : {M : Type 0} → (base : Base) (history : List Item) (pins : ℕ → ℕ) (views : ℕ → Option View) (cores : List (Core M)) (n : ℕ) → ((k : ℕ) → views k ≡ view_of base history (pins k) (get_or cores k Idle)) →
+pub views_all : {M : Type 0} → (base : DeviceState) (history : List FinishRecord) (pins : ℕ → ℕ) (views : ℕ → Option View) (cores : List (Core M)) (n : ℕ) → ((k : ℕ) → views k ≡ view_of base history (pins k) (get_or cores k Idle)) →
     others_views views n 0 (length cores) ≡ views_of base history pins 0 (set cores n Idle)
 views_all base history pins views cores n h =
     let z : 0 + n ≡ n = omega arith in
     subst (λ m. others_views views m 0 (length cores) ≡ views_of base history pins 0 (set cores n Idle)) z (views_numbered base history pins views cores n 0 (λ j. let e : j ≡ 0 + j = omega arith in subst (λ m. views m ≡ view_of base history (pins m) (get_or cores j Idle)) e (h j)))
 
 -- an outside read of a running core finds a version, and its place
-pub read_found : {M : Type 0} → (steps : Steps M) (sizes : Sizes) (base : Base) (floor : ℕ) (s : State M) (kept : Kept) (image : Image) (t : Tables) (n o : ℕ) (a : Attempt M) → IsLawful steps sizes base s → StandsFor sizes base floor s kept image → AreTables sizes base floor s.history kept t →
+pub read_found : {M : Type 0} → (steps : TaskMachine M) (sizes : Sizes) (base : DeviceState) (floor : ℕ) (s : State M) (kept : Kept) (image : Image) (t : Tables) (n o : ℕ) (a : Attempt M) → IsLawful steps sizes base s → StandsFor sizes base floor s kept image → AreTables sizes base floor s.history kept t →
     get_or s.cores n Idle ≡ Running a → is_empty (read_interval base s.history a.start a.reads) ≡ false → o < sizes.objects →
     (v : Version) × (chosen (read_interval base s.history a.start a.reads).hi (versions base o s.history) ≡ Some v) × IsRead sizes base s.history a.start a.reads o (t.places o) image v
 read_found {M} steps sizes base floor s kept image t n o a h f p at ne l =
@@ -182,7 +182,7 @@ read_found {M} steps sizes base floor s kept image t n o a h f p at ne l =
     (v.0, v.1, read_at sizes base floor s.history s.cores kept image h.sound.history.numbered f.stands t p n o a.start a.reads v.0 (ap (interval_of base s.history) at) ne l v.1)
 
 -- so does a caller's fetch
-pub fetch_found : (whole : Programs) (sizes : Sizes) (base : Base) (s : Live) (kept : Kept) (image : Image) (t : Tables) (n o : ℕ) (m : Mark) → IsLiveState whole base s → LiveStands sizes base s kept image → AreTables sizes base base.clock s.history kept t → get_or s.marks n None ≡ Some m →
+pub fetch_found : (whole : Programs) (sizes : Sizes) (base : DeviceState) (s : CallState) (kept : Kept) (image : Image) (t : Tables) (n o : ℕ) (m : Mark) → IsLiveState whole base s → LiveStands sizes base s kept image → AreTables sizes base base.clock s.history kept t → get_or s.marks n None ≡ Some m →
     is_empty (read_interval base s.history m.start m.reads) ≡ false → o < sizes.objects →
     (v : Version) × (chosen (read_interval base s.history m.start m.reads).hi (versions base o s.history) ≡ Some v) × IsRead sizes base s.history m.start m.reads o (t.places o) image v
 fetch_found whole sizes base s kept image t n o m h f p own ne l =
@@ -197,20 +197,20 @@ fetch_found whole sizes base s kept image t n o m h f p own ne l =
     after (Some hi) e = omega (arith, from, leb-false hi (read_interval base s.history m.start m.reads).lo e)
 
 -- what must be true of a state, where there are ids
-pub lawful_from : {M : Type 0} → (steps : Steps M) (sizes : Sizes) (base : Base) (s : State M) → IsSetUp steps sizes base → IsSound steps sizes base s → HasIds base (length s.history) → IsLawful steps sizes base s
+pub lawful_from : {M : Type 0} → (steps : TaskMachine M) (sizes : Sizes) (base : DeviceState) (s : State M) → IsSetUp steps sizes base → IsSound steps sizes base s → HasIds base (length s.history) → IsLawful steps sizes base s
 lawful_from steps sizes base s set_up h l = record { set_up = set_up; sound = h; ids = sound-ids steps sizes base set_up s.history h.history l }
 
 -- and of the next
-pub lawful_next : {M : Type 0} → (steps : Steps M) (sizes : Sizes) (base : Base) (s : State M) (e : Event) → IsLawful steps sizes base s → HasIds base (length s.history + 1) → IsLawful steps sizes base (event_step steps sizes base s e).0
+pub lawful_next : {M : Type 0} → (steps : TaskMachine M) (sizes : Sizes) (base : DeviceState) (s : State M) (e : Event) → IsLawful steps sizes base s → HasIds base (length s.history + 1) → IsLawful steps sizes base (event_step steps sizes base s e).0
 lawful_next steps sizes base s e h l =
     lawful_from steps sizes base (event_step steps sizes base s e).0 h.set_up (next_sound steps sizes base h.set_up s h.sound h.ids e) (let k = history-step steps sizes base s e in omega (arith, l, k))
 
 -- and between calls
-pub live_lawful : (whole : Programs) (sizes : Sizes) (base : Base) (s : Live) → RestOnReads whole → ((program arg : ℕ) (objects : Objects) → AreSized sizes objects → IsRun sizes (whole program arg objects)) → IsBase sizes base → IsLiveState whole base s → HasIds base (length s.history) → IsLiveLawful whole sizes base s
+pub live_lawful : (whole : Programs) (sizes : Sizes) (base : DeviceState) (s : CallState) → RestOnReads whole → ((program arg : ℕ) (objects : Objects) → AreSized sizes objects → IsRun sizes (whole program arg objects)) → IsBase sizes base → IsLiveState whole base s → HasIds base (length s.history) → IsLiveLawful whole sizes base s
 live_lawful whole sizes base s rests fit based h l = record { rests = rests; fit = fit; based = based; live = h; ids = let k = next_id-bound sizes base s.history (joined_runs whole sizes base s.history based fit h.history) in omega (arith, l, k) }
 
 -- a caller's interval after a finish
-pub mark_cut : (whole : Programs) (sizes : Sizes) (base : Base) (s : Live) (kept : Kept) (image : Image) (n k : ℕ) (i : Item) (left : ℕ) (m : Mark) → IsLiveLawful whole sizes base s → LiveCommits whole sizes base s n i left kept image → get_or s.marks k None ≡ Some m →
+pub mark_cut : (whole : Programs) (sizes : Sizes) (base : DeviceState) (s : CallState) (kept : Kept) (image : Image) (n k : ℕ) (i : FinishRecord) (left : ℕ) (m : Mark) → IsLiveLawful whole sizes base s → LiveCommits whole sizes base s n i left kept image → get_or s.marks k None ≡ Some m →
     read_interval base (i ∷ s.history) m.start m.reads ≡ cut i.point (is_written_read i m.reads) (read_interval base s.history m.start m.reads)
 mark_cut whole sizes base s kept image n k i left m h c own =
     let x = subst (IsMarkedIf whole base s.history) own (h.live.marks k) in

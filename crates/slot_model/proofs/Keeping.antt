@@ -2,9 +2,9 @@
 use Rattle.std.proofs.Common.{[], ◌≡◌, ℕ, ◌<◌, cond, List, ◌∷◌, get_or, take, Option, Some, None, refl, sym, ap, ap₂, ◌∙◌, subst, eq-eqb, ne_eqb, ⊎_elim}
 use Rattle.std.proofs.lemmas.Bool.{cases_eq}
 use Rattle.kernel_model.specs.Sizes.{Sizes}
-use Rattle.kernel_model.specs.Runs.{Steps}
-use Rattle.kernel_model.specs.Items.{Item}
-use Rattle.kernel_model.specs.Replay.{Base, clock_of}
+use Rattle.kernel_model.specs.Runs.{TaskMachine}
+use Rattle.kernel_model.specs.Items.{FinishRecord}
+use Rattle.kernel_model.specs.Replay.{DeviceState, clock_of}
 use Rattle.kernel_model.specs.Versions.{Read, Version}
 use Rattle.kernel_model.specs.Intervals.{Interval, read_interval}
 use Rattle.kernel_model.specs.Cores.{Attempt, Copying, Idle}
@@ -12,7 +12,7 @@ use Rattle.kernel_model.specs.Events.{Boot, CoreStep, State, event_step, Power, 
 use Rattle.kernel_model.specs.Durable.{listed, state_left}
 use Rattle.kernel_model.specs.Execution.{Execution, start_of, state_at}
 use Rattle.kernel_model.specs.Chain.{joining}
-use Rattle.kernel_model.specs.Effects.{words_of}
+use Rattle.kernel_model.specs.Effects.{object_words}
 use Rattle.kernel_model.proofs.CoreLaws.{get_or-replicate_idle}
 use Rattle.slot_model.specs.Slots.{Image, IsSized}
 use Rattle.slot_model.proofs.Reading.{tables_first}
@@ -27,7 +27,7 @@ use Rattle.slot_model.proofs.Named.{named_holds}
 use Rattle.slot_model.proofs.RunStands.{run_lawful, run_stands, first_stands}
 
 -- a step of core n
-pub tabled_step : {M : Type 0} → (steps : Steps M) (sizes : Sizes) (base : Base) (floor : ℕ) (s : State M) (kept : Kept) (image : Image) (t : Tables) (before after : ℕ → Option View) (n : ℕ) → IsLawful steps sizes base s → IsTabled sizes base floor s kept image t before →
+pub tabled_step : {M : Type 0} → (steps : TaskMachine M) (sizes : Sizes) (base : DeviceState) (floor : ℕ) (s : State M) (kept : Kept) (image : Image) (t : Tables) (before after : ℕ → Option View) (n : ℕ) → IsLawful steps sizes base s → IsTabled sizes base floor s kept image t before →
     (let u : State M = (event_step steps sizes base s (CoreStep n)).0 in
     let then : Kept = kept_after steps sizes base s (CoreStep n) kept in
     after n ≡ view_of base u.history (then.pins n) (get_or u.cores n Idle) → ((k : ℕ) → (k ≡ n → ⊥) → after k ≡ cut_view (joining s (CoreStep n)) (reads_of (get_or s.cores k Idle)) (before k)) →
@@ -45,7 +45,7 @@ tabled_step {M} steps sizes base floor s kept image t before after n h f own oth
     same k e = subst (λ j. after j ≡ view_of base u.history ((kept_after steps sizes base s (CoreStep n) kept).pins j) (get_or u.cores j Idle)) (sym e) own
 
 -- while a boot lasts
-pub tabled_boot : {M : Type 0} → (steps : Steps M) (sizes : Sizes) (base : Base) (floor : ℕ) (s : State M) (kept : Kept) (image : Image) (left : ℕ) (views : ℕ → Option View) → IsLawful steps sizes base s → StandsFor sizes base floor s kept image → s.power ≡ Boot left → ((k : ℕ) → views k ≡ None) →
+pub tabled_boot : {M : Type 0} → (steps : TaskMachine M) (sizes : Sizes) (base : DeviceState) (floor : ℕ) (s : State M) (kept : Kept) (image : Image) (left : ℕ) (views : ℕ → Option View) → IsLawful steps sizes base s → StandsFor sizes base floor s kept image → s.power ≡ Boot left → ((k : ℕ) → views k ≡ None) →
     IsTabled sizes base (clock_of base s.history) s (afresh (clock_of base s.history) kept) image (fresh_tables (named_slot s kept) (state_left base (listed s))) views
 tabled_boot {M} steps sizes base floor s kept image left views h f off none = record {
   stands = fresh_stands sizes base floor s kept image idle f;
@@ -57,7 +57,7 @@ tabled_boot {M} steps sizes base floor s kept image left views h f off none = re
     idle = boot_idle steps sizes base s left h off
 
 -- the view of an attempt once it has opened a read
-pub read_view : {M : Type 0} → (sizes : Sizes) (base : Base) (history : List Item) (start o : ℕ) (reads : List Read) (places : List Place) (image : Image) (v : Version) (b : Attempt M) (copied : ℕ) → b.start ≡ start → b.reads ≡ record { object = o; writer = v.writer } ∷ reads →
+pub read_view : {M : Type 0} → (sizes : Sizes) (base : DeviceState) (history : List FinishRecord) (start o : ℕ) (reads : List Read) (places : List Place) (image : Image) (v : Version) (b : Attempt M) (copied : ℕ) → b.start ≡ start → b.reads ≡ record { object = o; writer = v.writer } ∷ reads →
     (r : IsRead sizes base history start reads o places image v) → view_of base history r.place.slot (Copying b copied) ≡ Some (record { interval = with_place r.place (read_interval base history start reads); copying = Some (record { object = o; slot = r.place.slot }) })
 read_view {M} sizes base history start o reads places image v b copied e f r =
     ap₂ (λ (i : Interval) (p : Option Pin). Some (let w : View = record { interval = i; copying = p } in w)) (ap₂ (read_interval base history) e f ∙ r.interval) (ap (pin_of r.place.slot) f)
@@ -74,7 +74,7 @@ run_named x n first f o l =
     named_holds x.steps x.sizes x.base b.floor (state_at x n) b.kept b.image (run_lawful x n) (run_stands x n first f) o l
 
 -- at first
-pub tabled_first : (M : Type 0) (sizes : Sizes) (base : Base) (cores : ℕ) (power : Power) (boots : ℕ) (named : ℕ → ℕ) (image : Image) (views : ℕ → Option View) → IsSized sizes image → ((o : ℕ) → o < sizes.objects → (named o < sizes.slots o) × (image o (named o) ≡ words_of base.objects o)) → ((k : ℕ) → views k ≡ None) →
+pub tabled_first : (M : Type 0) (sizes : Sizes) (base : DeviceState) (cores : ℕ) (power : Power) (boots : ℕ) (named : ℕ → ℕ) (image : Image) (views : ℕ → Option View) → IsSized sizes image → ((o : ℕ) → o < sizes.objects → (named o < sizes.slots o) × (image o (named o) ≡ object_words base.objects o)) → ((k : ℕ) → views k ≡ None) →
     IsTabled {M = M} sizes base base.clock (opened cores power boots) (first_kept base named) image (fresh_tables named base) views
 tabled_first M sizes base cores power boots named image views sized h none = record {
   stands = first_stands M sizes base cores power boots named image sized h;

@@ -3,9 +3,9 @@ use Rattle.std.proofs.Common.{◌≡◌, ℕ, zero, suc, ◌+◌, ◌-◌, ◌<�
 use Rattle.std.specs.Prelude.{unwrap_or}
 use Rattle.std.specs.List.{AllByRecursion}
 use Rattle.kernel_model.specs.Sizes.{Sizes}
-use Rattle.kernel_model.specs.Effects.{Programs, Run, words_of, written}
-use Rattle.kernel_model.specs.Items.{Item}
-use Rattle.kernel_model.specs.Replay.{Base, TaskRec, after_history, clock_of, tables_of}
+use Rattle.kernel_model.specs.Effects.{Programs, Run, object_words, written}
+use Rattle.kernel_model.specs.Items.{FinishRecord}
+use Rattle.kernel_model.specs.Replay.{DeviceState, TaskRec, after_history, clock_of, tables_of}
 use Rattle.kernel_model.specs.Versions.{Read, Version, chosen, version_read, versions}
 use Rattle.kernel_model.specs.Intervals.{Interval, finish_interval, is_empty, read_interval, within}
 use Rattle.kernel_model.specs.OpenTasks.{open_tasks}
@@ -17,12 +17,12 @@ use Rattle.kernel_model.specs.Events.{with_finish}
 use Rattle.kernel_model.specs.Durable.{state_left}
 use Rattle.kernel_model.specs.History.{AreFound, IsAttempt, IsHistory}
 use Rattle.kernel_model.specs.Chain.{cut}
-use Rattle.kernel_model.specs.Live.{Answer, IsStale, Limit, Live, Mark, Receipt, added_by, attempt_of, begin_answer, begin_call, core_of, cores_of, fetch_answer, fetch_call, finish_answer, finish_call, lost, marked}
+use Rattle.kernel_model.specs.Live.{Answer, IsStale, Limit, CallState, Mark, Receipt, added_by, attempt_of, begin_answer, begin_call, core_of, cores_of, fetch_answer, fetch_call, finish_answer, finish_call, lost, marked}
 use Rattle.kernel_model.specs.LiveSound.{IsLiveState, IsMarkedIf}
 use Rattle.kernel_model.proofs.ChainLaws.{AreFrom, chosen_exists}
 use Rattle.kernel_model.proofs.CoreLaws.{IsAfter, as_before, core_at, no_core, turned_now}
 use Rattle.kernel_model.proofs.Growth.{task_under-open}
-use Rattle.kernel_model.proofs.Insertion.{words_of-put}
+use Rattle.kernel_model.proofs.Insertion.{object_words-put}
 use Rattle.kernel_model.proofs.LiveNeeded.{base_chain}
 use Rattle.kernel_model.proofs.NeededLaws.{IsOld, at_needed}
 use Rattle.kernel_model.proofs.OpenLaws.{length-open_tasks, open_order}
@@ -30,7 +30,7 @@ use Rattle.kernel_model.proofs.Ordered.{lawful_of}
 use Rattle.kernel_model.proofs.RoomLaws.{interval-shrinks, meet-wider, starts_after, within-shrinks}
 use Rattle.kernel_model.proofs.Soundness.{still_open}
 use Rattle.kernel_model.proofs.Theorem.{clock_base, history_added}
-use Rattle.kernel_model.proofs.VersionLaws.{length-after_history, words_of-put_written}
+use Rattle.kernel_model.proofs.VersionLaws.{length-after_history, object_words-put_written}
 use Rattle.slot_model.specs.Slots.{Image, IsSized}
 use Rattle.slot_model.specs.Kept.{Kept, newest_slot, with_held}
 use Rattle.slot_model.specs.Places.{planned}
@@ -54,7 +54,7 @@ abbrev pub Caller : Type 0
 Caller = Core (Unit {0})
 
 -- a caller's mark changes
-mark_turn : (whole : Programs) (sizes : Sizes) (base : Base) (s : Live) (kept : Kept) (image : Image) → IsLiveState whole base s → LiveStands sizes base s kept image → (n : ℕ) (m : Option Mark) → ((i : Interval) → interval_of base s.history (core_of m) ≡ Some i → base.clock ≤ i.lo) →
+mark_turn : (whole : Programs) (sizes : Sizes) (base : DeviceState) (s : CallState) (kept : Kept) (image : Image) → IsLiveState whole base s → LiveStands sizes base s kept image → (n : ℕ) (m : Option Mark) → ((i : Interval) → interval_of base s.history (core_of m) ≡ Some i → base.clock ≤ i.lo) →
     ((o : ℕ) (v : Version) → IsOld base o s.history v → is_needed_by base s.history o v (core_of m) ≡ true → is_needed base s.history o (cores_of s.marks) v ≡ true) → Stands sizes base base.clock s.history (cores_of (set s.marks n m)) kept image
 mark_turn whole sizes base s kept image h f n m starts own =
     subst (λ (cs : List Caller). Stands sizes base base.clock s.history cs kept image) (cores_set s.marks n m)
@@ -65,11 +65,11 @@ mark_turn whole sizes base s kept image h f n m starts own =
     served (Some m) = tt
 
 -- a caller gives its task back
-mark_gone : (whole : Programs) (sizes : Sizes) (base : Base) (s : Live) (kept : Kept) (image : Image) → IsLiveState whole base s → LiveStands sizes base s kept image → (n : ℕ) → Stands sizes base base.clock s.history (cores_of (set s.marks n None)) kept image
+mark_gone : (whole : Programs) (sizes : Sizes) (base : DeviceState) (s : CallState) (kept : Kept) (image : Image) → IsLiveState whole base s → LiveStands sizes base s kept image → (n : ℕ) → Stands sizes base base.clock s.history (cores_of (set s.marks n None)) kept image
 mark_gone whole sizes base s kept image h f n = mark_turn whole sizes base s kept image h f n None (λ i e. absurd (cc e)) (λ o v old e. absurd (cc e))
 
 -- a begin
-pub begin_stands : (whole : Programs) (sizes : Sizes) (base : Base) (s : Live) (kept : Kept) (image : Image) (n : ℕ) → IsLiveState whole base s → LiveStands sizes base s kept image → LiveStands sizes base (begin_call base s n s.loss).0 kept image
+pub begin_stands : (whole : Programs) (sizes : Sizes) (base : DeviceState) (s : CallState) (kept : Kept) (image : Image) (n : ℕ) → IsLiveState whole base s → LiveStands sizes base s kept image → LiveStands sizes base (begin_call base s n s.loss).0 kept image
 begin_stands whole sizes base s kept image n h f = by s.loss
   where
     at : (t : Option TaskRec) → LiveStands sizes base (begin_answer base s n t).0 kept image
@@ -84,7 +84,7 @@ begin_stands whole sizes base s kept image n h f = by s.loss
     by None = elim (leb s.limit (length s.history)) as (λ b. LiveStands sizes base (cond b (s, Limit) (begin_answer base s n (next_task (cores_of s.marks) (open_tasks base s.history)))).0 kept image) [ true ↦ f | false ↦ at (next_task (cores_of s.marks) (open_tasks base s.history)) ]
 
 -- a fetch
-pub fetch_stands : (whole : Programs) (sizes : Sizes) (base : Base) (s : Live) (kept : Kept) (image : Image) (n : ℕ) (m : Mark) (p : ℕ) (device : Option ℕ) → IsLiveState whole base s → get_or s.marks n None ≡ Some m → LiveStands sizes base s kept image →
+pub fetch_stands : (whole : Programs) (sizes : Sizes) (base : DeviceState) (s : CallState) (kept : Kept) (image : Image) (n : ℕ) (m : Mark) (p : ℕ) (device : Option ℕ) → IsLiveState whole base s → get_or s.marks n None ≡ Some m → LiveStands sizes base s kept image →
     LiveStands sizes base (fetch_call base s n m p s.loss device).0 kept image
 fetch_stands whole sizes base s kept image n m p device h own f = by s.loss
   where
@@ -120,7 +120,7 @@ fetch_stands whole sizes base s kept image n m p device h own f = by s.loss
     by None = elim (is_empty i) as (λ b. LiveStands sizes base (cond b (marked s n None, IsStale i.lo (unwrap_or i.hi 0)) (fetch_answer s n m p (chosen i.hi (versions base p s.history)) device)).0 kept image) [ true ↦ gone | false ↦ at (chosen i.hi (versions base p s.history)) device ]
 
 -- a finish that adds nothing
-pub refused_stands : (whole : Programs) (sizes : Sizes) (base : Base) (s : Live) (kept : Kept) (image : Image) (n : ℕ) (m : Mark) (run : Run) (device : Option ℕ) → IsLiveState whole base s → LiveStands sizes base s kept image → added_by (finish_call sizes base s n m run s.loss device).1 ≡ None →
+pub refused_stands : (whole : Programs) (sizes : Sizes) (base : DeviceState) (s : CallState) (kept : Kept) (image : Image) (n : ℕ) (m : Mark) (run : Run) (device : Option ℕ) → IsLiveState whole base s → LiveStands sizes base s kept image → added_by (finish_call sizes base s n m run s.loss device).1 ≡ None →
     LiveStands sizes base (finish_call sizes base s n m run s.loss device).0 kept image
 refused_stands whole sizes base s kept image n m run device h f = by s.loss
   where
@@ -139,7 +139,7 @@ refused_stands whole sizes base s kept image n m run device h f = by s.loss
     by None e = at (verdict sizes base s.history (cores_of (all_but n s.marks)) (attempt_of m) run) device e
 
 -- what a grant says
-granted_item : (sizes : Sizes) (base : Base) (s : Live) (others : List Caller) (m : Mark) (run : Run) (i : Item) → verdict sizes base s.history others (attempt_of m) run ≡ Granted i →
+granted_item : (sizes : Sizes) (base : DeviceState) (s : CallState) (others : List Caller) (m : Mark) (run : Run) (i : FinishRecord) → verdict sizes base s.history others (attempt_of m) run ≡ Granted i →
     (is_empty (finish_interval base s.history m.start m.reads run) ≡ false) × (without_room sizes base s.history others run.writes ≡ None) × (finish_of base s.history m.task m.start m.reads run ≡ i)
 granted_item sizes base s others m run i e = go (is_empty j) (without_room sizes base s.history others run.writes) refl refl e
   where
@@ -164,7 +164,7 @@ none_commits marks k e = at (get_or marks k None) (ap commits (sym (core_of_mark
     at (Some m) e = cc e
 
 -- a grant begins a commit
-pub grant_stands : (whole : Programs) (sizes : Sizes) (base : Base) (s : Live) (kept : Kept) (image : Image) (n : ℕ) (m : Mark) (run : Run) (i : Item) → IsLiveLawful whole sizes base s → LiveStands sizes base s kept image → get_or s.marks n None ≡ Some m →
+pub grant_stands : (whole : Programs) (sizes : Sizes) (base : DeviceState) (s : CallState) (kept : Kept) (image : Image) (n : ℕ) (m : Mark) (run : Run) (i : FinishRecord) → IsLiveLawful whole sizes base s → LiveStands sizes base s kept image → get_or s.marks n None ≡ Some m →
     IsAttempt whole base s.history m.task m.start m.reads (λ x. run) → verdict sizes base s.history (cores_of (all_but n s.marks)) (attempt_of m) run ≡ Granted i →
     LiveCommits whole sizes base s n i (commit_writes sizes base s.history i) (planned sizes base s.history (all_but n (cores_of s.marks)) kept) image
 grant_stands whole sizes base s kept image n m run i h f own a e = record {
@@ -172,8 +172,8 @@ grant_stands whole sizes base s kept image n m run i h f own a e = record {
   joins = joins;
   was_open = (
     a.spawn,
-    task_under-open base s.history h.live.history.numbered h.ids i.task ∙ subst (λ (t : ℕ). (after_history s.history (tables_of base)).tasks t ≡ Some a.spawn) (ap (λ (x : Item). x.task) g.2)
-        (subst (λ (x : List Item). (after_history x (tables_of base)).tasks m.task ≡ Some a.spawn) (sym a.split) (still_open m.task a.spawn (tables_of base) a.newer a.older a.not_since a.was_open)),
+    task_under-open base s.history h.live.history.numbered h.ids i.task ∙ subst (λ (t : ℕ). (after_history s.history (tables_of base)).tasks t ≡ Some a.spawn) (ap (λ (x : FinishRecord). x.task) g.2)
+        (subst (λ (x : List FinishRecord). (after_history x (tables_of base)).tasks m.task ≡ Some a.spawn) (sym a.split) (still_open m.task a.spawn (tables_of base) a.newer a.older a.not_since a.was_open)),
   );
   stands = planning sizes base base.clock s.history (cores_of s.marks) kept image (live_able whole sizes base s kept image h.live f) n i (λ k ne c. none_commits s.marks k c) (joined_run whole sizes base i s.history h.based h.fit joins) room
       (next_turn whole base base.clock s.history (cores_of s.marks) n (Committing i (commit_writes sizes base s.history i)) h.live.history f.starts (λ j x. absurd (cc x)) (λ o v old x. absurd (cc x)));
@@ -183,18 +183,18 @@ grant_stands whole sizes base s kept image n m run i h f own a e = record {
     g = granted_item sizes base s (cores_of (all_but n s.marks)) m run i e
 
     joins : IsHistory whole base (i ∷ s.history)
-    joins = subst (λ (x : Item). IsHistory whole base (x ∷ s.history)) g.2 (history_added whole h.rests base h.based.old s.history h.live.history m.task m.start m.reads run a g.0)
+    joins = subst (λ (x : FinishRecord). IsHistory whole base (x ∷ s.history)) g.2 (history_added whole h.rests base h.based.old s.history h.live.history m.task m.start m.reads run a g.0)
 
     room : without_room sizes base s.history (all_but n (cores_of s.marks)) i.run.writes ≡ None
     room =
-        ap (λ (cs : List Caller). without_room sizes base s.history cs i.run.writes) (cores_but s.marks n) ∙ ap (λ (x : Item). without_room sizes base s.history (cores_of (all_but n s.marks)) x.run.writes) (sym g.2) ∙ g.1
+        ap (λ (cs : List Caller). without_room sizes base s.history cs i.run.writes) (cores_but s.marks n) ∙ ap (λ (x : FinishRecord). without_room sizes base s.history (cores_of (all_but n s.marks)) x.run.writes) (sym g.2) ∙ g.1
 
 -- the core of a commit
-commit_core : (s : Live) (n : ℕ) (i : Item) (left : ℕ) → n < length s.marks → get_or (committing s n i left) n Idle ≡ Committing i left
+commit_core : (s : CallState) (n : ℕ) (i : FinishRecord) (left : ℕ) → n < length s.marks → get_or (committing s n i left) n Idle ≡ Committing i left
 commit_core s n i left l = get_or-set_same (cores_of s.marks) n (Committing i left) Idle (let k = cores_length s.marks in omega (arith, l, k))
 
 -- a write of it
-pub live_write : (whole : Programs) (sizes : Sizes) (base : Base) (s : Live) (kept : Kept) (image : Image) (n : ℕ) (i : Item) (left : ℕ) → IsLiveLawful whole sizes base s → LiveCommits whole sizes base s n i (suc left) kept image →
+pub live_write : (whole : Programs) (sizes : Sizes) (base : DeviceState) (s : CallState) (kept : Kept) (image : Image) (n : ℕ) (i : FinishRecord) (left : ℕ) → IsLiveLawful whole sizes base s → LiveCommits whole sizes base s n i (suc left) kept image →
     LiveCommits whole sizes base s n i left kept (after_write kept.plan (target sizes (commit_writes sizes base s.history i - suc left) i.run.writes) image)
 live_write whole sizes base s kept image n i left h c = record {
   caller = c.caller;
@@ -206,18 +206,18 @@ live_write whole sizes base s kept image n i left h c = record {
 }
 
 -- a loss within it
-pub loss_stands : (whole : Programs) (sizes : Sizes) (base : Base) (s : Live) (kept : Kept) (image : Image) (n : ℕ) (i : Item) (left losses : ℕ) → IsLiveLawful whole sizes base s → LiveCommits whole sizes base s n i left kept image → LiveStands sizes base (lost s n losses).0 kept image
+pub loss_stands : (whole : Programs) (sizes : Sizes) (base : DeviceState) (s : CallState) (kept : Kept) (image : Image) (n : ℕ) (i : FinishRecord) (left losses : ℕ) → IsLiveLawful whole sizes base s → LiveCommits whole sizes base s n i left kept image → LiveStands sizes base (lost s n losses).0 kept image
 loss_stands whole sizes base s kept image n i left losses h c =
     subst (λ (cs : List Caller). Stands sizes base base.clock s.history cs kept image) (set-set (cores_of s.marks) n (Committing i left) Idle ∙ cores_set s.marks n None)
     (calm sizes base base.clock s.history (committing s n i left) kept image (commit_able whole sizes base s n i left kept image h.live (joined_run whole sizes base i s.history h.based h.fit c.joins) c.stands) n Idle
     (next_turn whole base base.clock s.history (committing s n i left) n Idle h.live.history c.stands.starts (λ j x. absurd (cc x)) (λ o v old x. absurd (cc x))) tt)
 
 -- its end
-pub receipt_stands : (whole : Programs) (sizes : Sizes) (base : Base) (s : Live) (kept : Kept) (image : Image) (n : ℕ) (m : Mark) (run : Run) (i : Item) (device : Option ℕ) → IsLiveLawful whole sizes base s → LiveCommits whole sizes base s n i 0 kept image →
+pub receipt_stands : (whole : Programs) (sizes : Sizes) (base : DeviceState) (s : CallState) (kept : Kept) (image : Image) (n : ℕ) (m : Mark) (run : Run) (i : FinishRecord) (device : Option ℕ) → IsLiveLawful whole sizes base s → LiveCommits whole sizes base s n i 0 kept image →
     (finish_call sizes base s n m run s.loss device).1 ≡ Receipt i → LiveStands sizes base (finish_call sizes base s n m run s.loss device).0 (with_finished (Some i) kept) image
 receipt_stands whole sizes base s kept image n m run i device h c = by s.loss
   where
-    t : Live
+    t : CallState
     t = record s { history = i ∷ s.history; marks = set s.marks n None }
 
     cores : List Caller
@@ -268,7 +268,7 @@ receipt_stands whole sizes base s kept image n m run i device h c = by s.loss
 
     at : (v : Verdict) (device : Option ℕ) → (finish_answer s n v device).1 ≡ Receipt i → LiveStands sizes base (finish_answer s n v device).0 (with_finished (Some i) kept) image
     at (Granted j) (Some losses) e = absurd (cc e)
-    at (Granted j) None e = let same : j ≡ i = cc e in subst (λ (x : Item). LiveStands sizes base (record s { history = x ∷ s.history; marks = set s.marks n None }) (with_finished (Some i) kept) image) (sym same) joined
+    at (Granted j) None e = let same : j ≡ i = cc e in subst (λ (x : FinishRecord). LiveStands sizes base (record s { history = x ∷ s.history; marks = set s.marks n None }) (with_finished (Some i) kept) image) (sym same) joined
     at (Empty lo hi) device e = absurd (cc e)
     at (Slots o) device e = absurd (cc e)
     at (Records pending spawns) device e = absurd (cc e)
@@ -278,16 +278,16 @@ receipt_stands whole sizes base s kept image n m run i device h c = by s.loss
     by None e = at (verdict sizes base s.history (cores_of (all_but n s.marks)) (attempt_of m) run) device e
 
 -- the newest slots have what the history leaves
-pub live_named : (whole : Programs) (sizes : Sizes) (base : Base) (s : Live) (kept : Kept) (image : Image) (cores : List Caller) → IsLiveLawful whole sizes base s → Stands sizes base base.clock s.history cores kept image → (o : ℕ) → o < sizes.objects →
-    (newest_slot (kept.chains o) < sizes.slots o) × (image o (newest_slot (kept.chains o)) ≡ words_of (state_left base s.history).objects o)
+pub live_named : (whole : Programs) (sizes : Sizes) (base : DeviceState) (s : CallState) (kept : Kept) (image : Image) (cores : List Caller) → IsLiveLawful whole sizes base s → Stands sizes base base.clock s.history cores kept image → (o : ℕ) → o < sizes.objects →
+    (newest_slot (kept.chains o) < sizes.slots o) × (image o (newest_slot (kept.chains o)) ≡ object_words (state_left base s.history).objects o)
 live_named whole sizes base s kept image cores h f o l =
     let v = chosen_exists base o s.history None None tt in
     let k = newest_stands (sizes.slots o) base.clock (is_needed base s.history o cores) (image o) (versions base o s.history) v.0 (kept.chains o) (newest_of base o s.history) v.1 (f.objects o l) in
     (k.0, k.1 ∙ newest_words base o (let n = h.based.objects in omega (arith, n, l)) s.history v.0 v.1)
 
 -- the slots of a commit that has written all object words have what it leaves
-pub live_commit_named : (whole : Programs) (sizes : Sizes) (base : Base) (s : Live) (kept : Kept) (image : Image) (n : ℕ) (i : Item) (left : ℕ) → IsLiveLawful whole sizes base s → LiveCommits whole sizes base s n i left kept image → left ≤ late_writes sizes base s.history i → (o : ℕ) → o < sizes.objects →
-    (let slot : ℕ = newest_slot ((with_finished (Some i) kept).chains o) in (slot < sizes.slots o) × (image o slot ≡ words_of (state_left base (i ∷ s.history)).objects o))
+pub live_commit_named : (whole : Programs) (sizes : Sizes) (base : DeviceState) (s : CallState) (kept : Kept) (image : Image) (n : ℕ) (i : FinishRecord) (left : ℕ) → IsLiveLawful whole sizes base s → LiveCommits whole sizes base s n i left kept image → left ≤ late_writes sizes base s.history i → (o : ℕ) → o < sizes.objects →
+    (let slot : ℕ = newest_slot ((with_finished (Some i) kept).chains o) in (slot < sizes.slots o) × (image o slot ≡ object_words (state_left base (i ∷ s.history)).objects o))
 live_commit_named whole sizes base s kept image n i left h c few o l = go (written i.run.writes o) refl
   where
     long : o < length (after_history s.history (tables_of base)).objects
@@ -296,20 +296,20 @@ live_commit_named whole sizes base s kept image n i left h c few o l = go (writt
     under : IsUnderWay sizes base s.history (committing s n i left) kept image i left
     under = subst (IsServed sizes base s.history (committing s n i left) kept image n) (commit_core s n i left c.caller) (c.stands.served n)
 
-    go : (w : Option (List ℕ)) → written i.run.writes o ≡ w → (newest_slot (with_held i w (kept.plan o) (kept.chains o)) < sizes.slots o) × (image o (newest_slot (with_held i w (kept.plan o) (kept.chains o))) ≡ words_of (after_history (i ∷ s.history) (tables_of base)).objects o)
-    go None e = let top = live_named whole sizes base s kept image (committing s n i left) h c.stands o l in (top.0, top.1 ∙ sym (words_of-put 0 i.run.writes (after_history s.history (tables_of base)).objects o (rw zero-add e)))
+    go : (w : Option (List ℕ)) → written i.run.writes o ≡ w → (newest_slot (with_held i w (kept.plan o) (kept.chains o)) < sizes.slots o) × (image o (newest_slot (with_held i w (kept.plan o) (kept.chains o))) ≡ object_words (after_history (i ∷ s.history) (tables_of base)).objects o)
+    go None e = let top = live_named whole sizes base s kept image (committing s n i left) h c.stands o l in (top.0, top.1 ∙ sym (object_words-put 0 i.run.writes (after_history s.history (tables_of base)).objects o (rw zero-add e)))
     go (Some words) e =
         let k = written_given sizes base s.history (committing s n i left) kept image c.stands.sized i left (joined_run whole sizes base i s.history h.based h.fit c.joins) few under i refl o words e in
-        (k.0.place, k.1 ∙ sym (words_of-put_written 0 i.run.writes (after_history s.history (tables_of base)).objects o words long (rw zero-add e)))
+        (k.0.place, k.1 ∙ sym (object_words-put_written 0 i.run.writes (after_history s.history (tables_of base)).objects o words long (rw zero-add e)))
 
 -- a read, by tables
-pub live_read : (whole : Programs) (sizes : Sizes) (base : Base) (s : Live) (kept : Kept) (image : Image) (t : Tables) (n o : ℕ) (m : Mark) (v : Version) → IsLiveState whole base s → LiveStands sizes base s kept image → AreTables sizes base base.clock s.history kept t → get_or s.marks n None ≡ Some m →
+pub live_read : (whole : Programs) (sizes : Sizes) (base : DeviceState) (s : CallState) (kept : Kept) (image : Image) (t : Tables) (n o : ℕ) (m : Mark) (v : Version) → IsLiveState whole base s → LiveStands sizes base s kept image → AreTables sizes base base.clock s.history kept t → get_or s.marks n None ≡ Some m →
     is_empty (read_interval base s.history m.start m.reads) ≡ false → o < sizes.objects → chosen (read_interval base s.history m.start m.reads).hi (versions base o s.history) ≡ Some v → IsRead sizes base s.history m.start m.reads o (t.places o) image v
 live_read whole sizes base s kept image t n o m v h f p own ne l e =
     read_at sizes base base.clock s.history (cores_of s.marks) kept image h.history.numbered f t p n o m.start m.reads v (ap (interval_of base s.history) (core_of_mark s.marks n ∙ ap core_of own)) ne l e
 
 -- the verdict, by tables
-pub live_verdict : (whole : Programs) (sizes : Sizes) (base : Base) (s : Live) (kept : Kept) (image : Image) (t : Tables) (n : ℕ) (m : Mark) (run : Run) → IsLiveState whole base s → LiveStands sizes base s kept image → AreTables sizes base base.clock s.history kept t → get_or s.marks n None ≡ Some m →
+pub live_verdict : (whole : Programs) (sizes : Sizes) (base : DeviceState) (s : CallState) (kept : Kept) (image : Image) (t : Tables) (n : ℕ) (m : Mark) (run : Run) → IsLiveState whole base s → LiveStands sizes base s kept image → AreTables sizes base base.clock s.history kept t → get_or s.marks n None ≡ Some m →
     AllByRecursion (λ w. w.object < sizes.objects) run.writes →
     table_verdict sizes t (views_of base s.history kept.pins 0 (cores_of (set s.marks n None))) m.task (read_interval base s.history m.start m.reads) run ≡ verdict sizes base s.history (cores_of (all_but n s.marks)) (attempt_of m) run
 live_verdict whole sizes base s kept image t n m run h f p own r =
@@ -321,18 +321,18 @@ live_verdict whole sizes base s kept image t n m run h f p own r =
     start = let x = subst (IsMarkedIf whole base s.history) own (h.marks n) in let e = x.attempt.start_is in let l = clock_base base x.attempt.older in omega (arith, e, l)
 
 -- the tables after a finish
-pub live_tables : (whole : Programs) (sizes : Sizes) (base : Base) (s : Live) (kept : Kept) (image : Image) (t : Tables) (n : ℕ) (i : Item) (left : ℕ) → IsLiveLawful whole sizes base s → LiveCommits whole sizes base s n i left kept image → AreTables sizes base base.clock s.history kept t →
+pub live_tables : (whole : Programs) (sizes : Sizes) (base : DeviceState) (s : CallState) (kept : Kept) (image : Image) (t : Tables) (n : ℕ) (i : FinishRecord) (left : ℕ) → IsLiveLawful whole sizes base s → LiveCommits whole sizes base s n i left kept image → AreTables sizes base base.clock s.history kept t →
     AreTables sizes base base.clock (i ∷ s.history) (with_finished (Some i) kept) (tables_with i kept.plan t)
 live_tables whole sizes base s kept image t n i left h c p =
     tables_join sizes base base.clock i s.history kept t (length-open_tasks base i s.history (open_order base h.based.old h.based.in_order s.history h.live.history.numbered) c.was_open.0 c.was_open.1) p
 
 -- the intervals after a finish
-pub live_cuts : (whole : Programs) (sizes : Sizes) (base : Base) (s : Live) (kept : Kept) (image : Image) (n : ℕ) (i : Item) (left start : ℕ) (reads : List Read) → LiveCommits whole sizes base s n i left kept image → AreFound base s.history reads →
+pub live_cuts : (whole : Programs) (sizes : Sizes) (base : DeviceState) (s : CallState) (kept : Kept) (image : Image) (n : ℕ) (i : FinishRecord) (left start : ℕ) (reads : List Read) → LiveCommits whole sizes base s n i left kept image → AreFound base s.history reads →
     read_interval base (i ∷ s.history) start reads ≡ cut i.point (is_written_read i reads) (read_interval base s.history start reads)
 live_cuts whole sizes base s kept image n i left start reads c k = cut_readers base i s.history (lawful_of base (i ∷ s.history) c.joins.numbered c.joins.ordered) c.joins.numbered start reads k
 
 -- before the first call
-pub live_first : (sizes : Sizes) (base : Base) (callers limit : ℕ) (named : ℕ → ℕ) (image : Image) → IsSized sizes image → ((o : ℕ) → o < sizes.objects → (named o < sizes.slots o) × (image o (named o) ≡ words_of base.objects o)) →
+pub live_first : (sizes : Sizes) (base : DeviceState) (callers limit : ℕ) (named : ℕ → ℕ) (image : Image) → IsSized sizes image → ((o : ℕ) → o < sizes.objects → (named o < sizes.slots o) × (image o (named o) ≡ object_words base.objects o)) →
     LiveStands sizes base (record { history = []; marks = replicate callers None; loss = None; limit = limit }) (first_kept base named) image
 live_first sizes base callers limit named image sized h = record {
   starts = λ k i e. absurd (let g = idle k in cc (g, e));
@@ -350,7 +350,7 @@ live_first sizes base callers limit named image sized h = record {
     idle k = core_of_mark (replicate callers None) k ∙ ap core_of (none callers k)
 
 -- where a commit may write
-pub live_free : (whole : Programs) (sizes : Sizes) (base : Base) (s : Live) (kept : Kept) (image : Image) (n : ℕ) (i : Item) (left : ℕ) → IsLiveLawful whole sizes base s → LiveCommits whole sizes base s n i left kept image →
+pub live_free : (whole : Programs) (sizes : Sizes) (base : DeviceState) (s : CallState) (kept : Kept) (image : Image) (n : ℕ) (i : FinishRecord) (left : ℕ) → IsLiveLawful whole sizes base s → LiveCommits whole sizes base s n i left kept image →
     AllByRecursion (IsFree sizes base s.history (committing s n i left) kept) i.run.writes × ((made : ℕ) (t : Target) → target sizes made i.run.writes ≡ Some t → IsTarget sizes kept i.run.writes t)
 live_free whole sizes base s kept image n i left h c = (
   free_writes sizes base base.clock s.history (committing s n i left) kept image c.stands i.run.writes (joined_run whole sizes base i s.history h.based h.fit c.joins).writes under.spare,
@@ -361,16 +361,16 @@ live_free whole sizes base s kept image n i left h c = (
     under = subst (IsServed sizes base s.history (committing s n i left) kept image n) (commit_core s n i left c.caller) (c.stands.served n)
 
 -- a write beside its objects' words
-pub live_late : (whole : Programs) (sizes : Sizes) (base : Base) (s : Live) (kept : Kept) (image : Image) (n : ℕ) (i : Item) (left : ℕ) → IsLiveLawful whole sizes base s → suc left ≤ late_writes sizes base s.history i → LiveCommits whole sizes base s n i (suc left) kept image → LiveCommits whole sizes base s n i left kept image
+pub live_late : (whole : Programs) (sizes : Sizes) (base : DeviceState) (s : CallState) (kept : Kept) (image : Image) (n : ℕ) (i : FinishRecord) (left : ℕ) → IsLiveLawful whole sizes base s → suc left ≤ late_writes sizes base s.history i → LiveCommits whole sizes base s n i (suc left) kept image → LiveCommits whole sizes base s n i left kept image
 live_late whole sizes base s kept image n i left h l c =
     subst (λ (x : Image). LiveCommits whole sizes base s n i left kept x) (ap (λ t. after_write kept.plan t image) (late_write sizes base s.history i (suc left) l)) (live_write whole sizes base s kept image n i left h c)
 
 -- what a finish leaves of the history and of the marks
-pub finish_leaves : (sizes : Sizes) (base : Base) (s : Live) (n : ℕ) (m : Mark) (run : Run) (device : Option ℕ) →
-    (let a : Live × Answer = finish_call sizes base s n m run s.loss device in (a.0.history ≡ with_finish (added_by a.1) s.history) × (a.0.marks ≡ set s.marks n None))
+pub finish_leaves : (sizes : Sizes) (base : DeviceState) (s : CallState) (n : ℕ) (m : Mark) (run : Run) (device : Option ℕ) →
+    (let a : CallState × Answer = finish_call sizes base s n m run s.loss device in (a.0.history ≡ with_finish (added_by a.1) s.history) × (a.0.marks ≡ set s.marks n None))
 finish_leaves sizes base s n m run device = by s.loss
   where
-    Says : Live × Answer → Type 0
+    Says : CallState × Answer → Type 0
     Says a = (a.0.history ≡ with_finish (added_by a.1) s.history) × (a.0.marks ≡ set s.marks n None)
 
     at : (v : Verdict) (device : Option ℕ) → Says (finish_answer s n v device)

@@ -4,15 +4,15 @@ use Rattle.std.specs.Prelude.{is_none}
 use Rattle.std.specs.List.{AllByRecursion}
 use Rattle.kernel_model.specs.Sizes.{Sizes}
 use Rattle.kernel_model.specs.Effects.{Objects, Programs}
-use Rattle.kernel_model.specs.Items.{Item}
-use Rattle.kernel_model.specs.Replay.{Base, clock_of}
+use Rattle.kernel_model.specs.Items.{FinishRecord}
+use Rattle.kernel_model.specs.Replay.{DeviceState, clock_of}
 use Rattle.kernel_model.specs.Versions.{Version, older, versions}
 use Rattle.kernel_model.specs.Intervals.{Interval, read_interval}
 use Rattle.kernel_model.specs.Cores.{Committing, Core, Idle, all_but, commits}
 use Rattle.kernel_model.specs.Room.{interval_of, is_needed, is_needed_by}
 use Rattle.kernel_model.specs.History.{IsHistory}
 use Rattle.kernel_model.specs.Fit.{AreSized, IsBase, IsRun}
-use Rattle.kernel_model.specs.Live.{Live, Mark, core_of, cores_of}
+use Rattle.kernel_model.specs.Live.{CallState, Mark, core_of, cores_of}
 use Rattle.kernel_model.specs.LiveSound.{IsLiveState, IsMarkedIf}
 use Rattle.kernel_model.proofs.ChainLaws.{AreFrom, chain-joined, chain-less}
 use Rattle.kernel_model.proofs.CoreLaws.{IsAfter, as_before, core_at, no_core, turned_now}
@@ -56,7 +56,7 @@ mark_present (x ∷ marks) zero m e = omega arith
 mark_present (x ∷ marks) (suc n) m e = let l = mark_present marks n m e in omega (arith, l)
 
 -- one core turns: what is needed then
-needed_turn : {M : Type 0} → (base : Base) (g h : List Item) (o : ℕ) (v : Version) (cores : List (Core M)) (n : ℕ) (d : Core M) → (is_needed_by base g o v d ≡ true → is_needed base h o cores v ≡ true) →
+needed_turn : {M : Type 0} → (base : DeviceState) (g h : List FinishRecord) (o : ℕ) (v : Version) (cores : List (Core M)) (n : ℕ) (d : Core M) → (is_needed_by base g o v d ≡ true → is_needed base h o cores v ≡ true) →
     ((k : ℕ) → (k ≡ n → ⊥) → is_needed_by base g o v (get_or cores k Idle) ≡ true → is_needed_by base h o v (get_or cores k Idle) ≡ true) → is_needed base g o (set cores n d) v ≡ true → is_needed base h o cores v ≡ true
 needed_turn {M} base g h o v cores n d own others e = at k.0 (get_or (set cores n d) k.0 Idle) (core_at cores n d k.0) k.1
   where
@@ -72,10 +72,10 @@ each_version : (P R : Version → Type 0) → ((v : Version) → P v → R v) �
 each_version P R f [] h = tt
 each_version P R f (v ∷ vs) h = (f v h.0, each_version P R f vs h.1)
 
-olds : (whole : Programs) (base : Base) (history : List Item) → IsHistory whole base history → (o : ℕ) → AllByRecursion (IsOld base o history) (older (versions base o history))
+olds : (whole : Programs) (base : DeviceState) (history : List FinishRecord) → IsHistory whole base history → (o : ℕ) → AllByRecursion (IsOld base o history) (older (versions base o history))
 olds whole base history h o = older-old base o history (lawful_of base history h.numbered h.ordered) h.numbered
 
-pub history_ended : (whole : Programs) (base : Base) (history : List Item) → IsHistory whole base history → (o : ℕ) → HaveEnded (versions base o history)
+pub history_ended : (whole : Programs) (base : DeviceState) (history : List FinishRecord) → IsHistory whole base history → (o : ℕ) → HaveEnded (versions base o history)
 history_ended whole base history h o = each_version (λ v. EndsBy (clock_of base history) v.end) (λ v. is_none v.end ≡ false) (λ v k. at v.end k) (older (versions base o history)) (older-ended base o history (lawful_of base history h.numbered h.ordered))
   where
     at : (e : Option ℕ) → EndsBy (clock_of base history) e → is_none e ≡ false
@@ -83,7 +83,7 @@ history_ended whole base history h o = each_version (λ v. EndsBy (clock_of base
     at (Some e) h = refl
 
 -- where no finish joins
-pub next_turn : {M : Type 0} → (whole : Programs) (base : Base) (floor : ℕ) (history : List Item) (cores : List (Core M)) (n : ℕ) (d : Core M) → IsHistory whole base history → AreFrom base history floor cores → ((i : Interval) → interval_of base history d ≡ Some i → floor ≤ i.lo) →
+pub next_turn : {M : Type 0} → (whole : Programs) (base : DeviceState) (floor : ℕ) (history : List FinishRecord) (cores : List (Core M)) (n : ℕ) (d : Core M) → IsHistory whole base history → AreFrom base history floor cores → ((i : Interval) → interval_of base history d ≡ Some i → floor ≤ i.lo) →
     ((o : ℕ) (v : Version) → IsOld base o history v → is_needed_by base history o v d ≡ true → is_needed base history o cores v ≡ true) → IsNext base floor history cores None history (set cores n d)
 next_turn {M} whole base floor history cores n d h from starts own = record { less = less; chains = λ o chain c. chain-less floor (is_needed base history o cores) (is_needed base history o (set cores n d)) chain (versions base o history) (less o) c; starts = λ k i e. at k i (get_or (set cores n d) k Idle) (core_at cores n d k) e }
   where
@@ -96,12 +96,12 @@ next_turn {M} whole base floor history cores n d h from starts own = record { le
     at k i x (no_core f) e = absurd (cc (f, e))
 
 -- where one does
-pub next_join : {M : Type 0} → (whole : Programs) (base : Base) (i : Item) (history : List Item) (cores : List (Core M)) (n : ℕ) → IsHistory whole base history → IsHistory whole base (i ∷ history) →
+pub next_join : {M : Type 0} → (whole : Programs) (base : DeviceState) (i : FinishRecord) (history : List FinishRecord) (cores : List (Core M)) (n : ℕ) → IsHistory whole base history → IsHistory whole base (i ∷ history) →
     ((k : ℕ) → (k ≡ n → ⊥) → (o : ℕ) (v : Version) → is_needed_by base (i ∷ history) o v (get_or cores k Idle) ≡ true → is_needed_by base history o v (get_or cores k Idle) ≡ true) → AreFrom base (i ∷ history) base.clock (set cores n Idle) →
     IsNext base base.clock history cores (Some i) (i ∷ history) (set cores n Idle)
 next_join {M} whole base i history cores n h g others from = record {
   less = less;
-  chains = λ o chain c. chain-joined (is_needed base (i ∷ history) o (set cores n Idle)) base.clock base o (Some i) history (λ j e. let same : i ≡ j = cc e in subst (λ (x : Item). base.clock ≤ x.point) same g.timely.0) chain
+  chains = λ o chain c. chain-joined (is_needed base (i ∷ history) o (set cores n Idle)) base.clock base o (Some i) history (λ j e. let same : i ≡ j = cc e in subst (λ (x : FinishRecord). base.clock ≤ x.point) same g.timely.0) chain
       (chain-less base.clock (is_needed base history o cores) (is_needed base (i ∷ history) o (set cores n Idle)) chain (versions base o history) (less o) c);
   starts = from;
 }
@@ -110,7 +110,7 @@ next_join {M} whole base i history cores n h g others from = record {
     less o = each_version (IsOld base o history) (λ v. is_needed base (i ∷ history) o (set cores n Idle) v ≡ true → is_needed base history o cores v ≡ true) (λ v old e. needed_turn base (i ∷ history) history o v cores n Idle (λ f. absurd (cc f)) (λ k ne f. others k ne o v f) e) (older (versions base o history)) (olds whole base history h o)
 
 -- each caller's interval begins at the base's clock or later
-pub live_starts : (whole : Programs) (base : Base) (s : Live) → IsLiveState whole base s → AreFrom base s.history base.clock (cores_of s.marks)
+pub live_starts : (whole : Programs) (base : DeviceState) (s : CallState) → IsLiveState whole base s → AreFrom base s.history base.clock (cores_of s.marks)
 live_starts whole base s h k i e = at (get_or s.marks k None) (h.marks k) (ap (interval_of base s.history) (sym (core_of_mark s.marks k)) ∙ e)
   where
     at : (m : Option Mark) → IsMarkedIf whole base s.history m → interval_of base s.history (core_of m) ≡ Some i → base.clock ≤ i.lo
@@ -131,7 +131,7 @@ none_commits marks k e = at (get_or marks k None) (ap commits (sym (core_of_mark
     at (Some m) e = cc e
 
 -- what is known between calls
-pub live_able : (whole : Programs) (sizes : Sizes) (base : Base) (s : Live) (kept : Kept) (image : Image) → IsLiveState whole base s → Stands sizes base base.clock s.history (cores_of s.marks) kept image → IsAble sizes base base.clock s.history (cores_of s.marks) kept image
+pub live_able : (whole : Programs) (sizes : Sizes) (base : DeviceState) (s : CallState) (kept : Kept) (image : Image) → IsLiveState whole base s → Stands sizes base base.clock s.history (cores_of s.marks) kept image → IsAble sizes base base.clock s.history (cores_of s.marks) kept image
 live_able whole sizes base s kept image h f = record {
   stands = f;
   runs = λ k i left e. absurd (none_commits s.marks k (ap commits e));
@@ -140,7 +140,7 @@ live_able whole sizes base s kept image h f = record {
 }
 
 -- and within a finish
-pub commit_able : (whole : Programs) (sizes : Sizes) (base : Base) (s : Live) (n : ℕ) (i : Item) (left : ℕ) (kept : Kept) (image : Image) → IsLiveState whole base s → IsRun sizes i.run → Stands sizes base base.clock s.history (set (cores_of s.marks) n (Committing i left)) kept image →
+pub commit_able : (whole : Programs) (sizes : Sizes) (base : DeviceState) (s : CallState) (n : ℕ) (i : FinishRecord) (left : ℕ) (kept : Kept) (image : Image) → IsLiveState whole base s → IsRun sizes i.run → Stands sizes base base.clock s.history (set (cores_of s.marks) n (Committing i left)) kept image →
     IsAble sizes base base.clock s.history (set (cores_of s.marks) n (Committing i left)) kept image
 commit_able whole sizes base s n i left kept image h run f = record {
   stands = f;
@@ -149,8 +149,8 @@ commit_able whole sizes base s n i left kept image h run f = record {
   ended = history_ended whole base s.history h.history;
 }
   where
-    at : (k : ℕ) (j : Item) (more : ℕ) (x : Core (Unit {0})) → IsAfter (cores_of s.marks) n (Committing i left) k x → x ≡ Committing j more → IsRun sizes j.run
-    at k j more x (turned_now a f) e = let same : Committing i left ≡ Committing j more = sym f ∙ e in let item : i ≡ j = cc same in subst (λ (y : Item). IsRun sizes y.run) item run
+    at : (k : ℕ) (j : FinishRecord) (more : ℕ) (x : Core (Unit {0})) → IsAfter (cores_of s.marks) n (Committing i left) k x → x ≡ Committing j more → IsRun sizes j.run
+    at k j more x (turned_now a f) e = let same : Committing i left ≡ Committing j more = sym f ∙ e in let item : i ≡ j = cc same in subst (λ (y : FinishRecord). IsRun sizes y.run) item run
     at k j more x (as_before ne f) e = absurd (none_commits s.marks k (ap commits (sym f ∙ e)))
     at k j more x (no_core f) e = absurd (cc (f, e))
 
@@ -160,8 +160,8 @@ commit_able whole sizes base s n i left kept image h run f = record {
     only k x (no_core f) e = absurd (let y : false ≡ true = ap commits (sym f) ∙ e in cc y)
 
 -- the run of a finish is fit
-pub joined_runs : (whole : Programs) (sizes : Sizes) (base : Base) (history : List Item) → IsBase sizes base → ((program arg : ℕ) (objects : Objects) → AreSized sizes objects → IsRun sizes (whole program arg objects)) → IsHistory whole base history → AllByRecursion (λ i. IsRun sizes i.run) history
+pub joined_runs : (whole : Programs) (sizes : Sizes) (base : DeviceState) (history : List FinishRecord) → IsBase sizes base → ((program arg : ℕ) (objects : Objects) → AreSized sizes objects → IsRun sizes (whole program arg objects)) → IsHistory whole base history → AllByRecursion (λ i. IsRun sizes i.run) history
 joined_runs whole sizes base history based fit h = fit-runs whole sizes fit base (base-sized sizes base based) history h.replays
 
-pub joined_run : (whole : Programs) (sizes : Sizes) (base : Base) (i : Item) (history : List Item) → IsBase sizes base → ((program arg : ℕ) (objects : Objects) → AreSized sizes objects → IsRun sizes (whole program arg objects)) → IsHistory whole base (i ∷ history) → IsRun sizes i.run
+pub joined_run : (whole : Programs) (sizes : Sizes) (base : DeviceState) (i : FinishRecord) (history : List FinishRecord) → IsBase sizes base → ((program arg : ℕ) (objects : Objects) → AreSized sizes objects → IsRun sizes (whole program arg objects)) → IsHistory whole base (i ∷ history) → IsRun sizes i.run
 joined_run whole sizes base i history based fit h = (joined_runs whole sizes base (i ∷ history) based fit h).0

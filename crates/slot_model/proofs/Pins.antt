@@ -3,7 +3,7 @@ use Rattle.std.proofs.Common.{⊎_elim, ◌≡◌, ℕ, Bool, true, false, cond,
 use Rattle.std.specs.Prelude.{◌&&◌}
 use Rattle.std.specs.List.{AllByRecursion}
 use Rattle.std.proofs.lemmas.Bool.{eqb-true, eq-eqb, or_right, or_cases}
-use Rattle.kernel_model.specs.Items.{Item}
+use Rattle.kernel_model.specs.Items.{FinishRecord}
 use Rattle.kernel_model.specs.Versions.{Version, chosen}
 use Rattle.slot_model.specs.Kept.{Held, chosen_held, is_there, versions_in, with_held, without_slot}
 
@@ -40,7 +40,7 @@ there_stays k slot writer (h ∷ hs) ne e = go (there_stays k slot writer hs ne)
     go rest false f e = ⊎_elim (λ g. rw g refl) (λ g. or_right (eqb h.slot slot && eqb h.version.writer writer) (is_there slot writer (without_slot k hs)) (rest g)) (or_cases (eqb h.slot slot && eqb h.version.writer writer) (is_there slot writer hs) e)
 
 -- also when a version joins in a spare slot
-pub there_joined : (slot writer : ℕ) (i : Item) (w : Option (List ℕ)) (k : ℕ) (chain : List Held) → ((words : List ℕ) → w ≡ Some words → slot ≡ k → ⊥) → is_there slot writer chain ≡ true → is_there slot writer (with_held i w k chain) ≡ true
+pub there_joined : (slot writer : ℕ) (i : FinishRecord) (w : Option (List ℕ)) (k : ℕ) (chain : List Held) → ((words : List ℕ) → w ≡ Some words → slot ≡ k → ⊥) → is_there slot writer chain ≡ true → is_there slot writer (with_held i w k chain) ≡ true
 there_joined slot writer i None k chain ne e = e
 there_joined slot writer i (Some words) k [] ne e = absurd (cc e)
 there_joined slot writer i (Some words) k (h ∷ hs) ne e =

@@ -3,9 +3,9 @@ use Rattle.std.proofs.Common.{◌≡◌, ℕ, ◌<◌, Bool, true, false, cond, 
 use Rattle.std.specs.Prelude.{option_map}
 use Rattle.std.specs.List.{AllByRecursion}
 use Rattle.kernel_model.specs.Sizes.{Sizes}
-use Rattle.kernel_model.specs.Runs.{Steps}
-use Rattle.kernel_model.specs.Items.{Item}
-use Rattle.kernel_model.specs.Replay.{Base}
+use Rattle.kernel_model.specs.Runs.{TaskMachine}
+use Rattle.kernel_model.specs.Items.{FinishRecord}
+use Rattle.kernel_model.specs.Replay.{DeviceState}
 use Rattle.kernel_model.specs.Versions.{Read, Version, chosen, find_version, versions}
 use Rattle.kernel_model.specs.Intervals.{Interval, is_empty, read_interval, within}
 use Rattle.kernel_model.specs.Cores.{Committing, Core, Idle}
@@ -48,7 +48,7 @@ chosen_found (Some hi) (x ∷ vs) v f e = go (chosen_found (Some hi) vs v f.1) (
         ap (λ b. cond b (Some x) (find_version v.writer vs)) (ne_eqb x.writer v.writer (λ g. absurd (omega (arith, low, g)))) ∙ rest e
 
 -- an outside read, by tables
-pub read_at : {M : Type 0} → (sizes : Sizes) (base : Base) (floor : ℕ) (history : List Item) (cores : List (Core M)) (kept : Kept) (image : Image) → IsNumbered base history → Stands sizes base floor history cores kept image → (t : Tables) → AreTables sizes base floor history kept t →
+pub read_at : {M : Type 0} → (sizes : Sizes) (base : DeviceState) (floor : ℕ) (history : List FinishRecord) (cores : List (Core M)) (kept : Kept) (image : Image) → IsNumbered base history → Stands sizes base floor history cores kept image → (t : Tables) → AreTables sizes base floor history kept t →
     (n o start : ℕ) (reads : List Read) (v : Version) → interval_of base history (get_or cores n Idle) ≡ Some (read_interval base history start reads) → is_empty (read_interval base history start reads) ≡ false → o < sizes.objects →
     chosen (read_interval base history start reads).hi (versions base o history) ≡ Some v → IsRead sizes base history start reads o (t.places o) image v
 read_at {M} sizes base floor history cores kept image num s t p n o start reads v at ne l e = record {
@@ -66,12 +66,12 @@ read_at {M} sizes base floor history cores kept image num s t p n o start reads 
     c = chosen_stands sizes base floor history cores kept image num s n o i v at ne l e
 
 -- a finish that joins
-pub tables_finish : {M : Type 0} → (steps : Steps M) (sizes : Sizes) (base : Base) (floor : ℕ) (s : State M) (kept : Kept) (t : Tables) (n left : ℕ) (i : Item) → IsLawful steps sizes base s → get_or s.cores n Idle ≡ Committing i left → AreTables sizes base floor s.history kept t →
+pub tables_finish : {M : Type 0} → (steps : TaskMachine M) (sizes : Sizes) (base : DeviceState) (floor : ℕ) (s : State M) (kept : Kept) (t : Tables) (n left : ℕ) (i : FinishRecord) → IsLawful steps sizes base s → get_or s.cores n Idle ≡ Committing i left → AreTables sizes base floor s.history kept t →
     AreTables sizes base floor (i ∷ s.history) (with_finished (Some i) kept) (tables_with i kept.plan t)
 tables_finish {M} steps sizes base floor s kept t n left i h at p =
     let c : IsSoundCore {M = M} steps sizes base s.history (Committing i left) = subst (IsSoundCore steps sizes base s.history) at (h.sound.cores n) in
     tables_join sizes base floor i s.history kept t (length-open_tasks base i s.history (open_order base h.set_up.based.old h.set_up.based.in_order s.history h.sound.history.numbered) c.2.0 c.2.1) p
 
 -- at first
-pub tables_first : (sizes : Sizes) (base : Base) (named : ℕ → ℕ) → AreTables sizes base base.clock [] (first_kept base named) (fresh_tables named base)
+pub tables_first : (sizes : Sizes) (base : DeviceState) (named : ℕ → ℕ) → AreTables sizes base base.clock [] (first_kept base named) (fresh_tables named base)
 tables_first sizes base named = record { places = λ o l. refl; bounds = λ o l. sym (bound_at_clock base [] o); clock = refl; number = omega arith; next = refl; pending = refl }

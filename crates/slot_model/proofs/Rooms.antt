@@ -5,8 +5,8 @@ use Rattle.std.specs.List.{AllByRecursion}
 use Rattle.std.proofs.lemmas.Bool.{eq-eqb, le-leb, lt-leb, or_parts}
 use Rattle.kernel_model.specs.Sizes.{Sizes}
 use Rattle.kernel_model.specs.Effects.{Write}
-use Rattle.kernel_model.specs.Items.{Item}
-use Rattle.kernel_model.specs.Replay.{Base}
+use Rattle.kernel_model.specs.Items.{FinishRecord}
+use Rattle.kernel_model.specs.Replay.{DeviceState}
 use Rattle.kernel_model.specs.Versions.{Version, chosen, older}
 use Rattle.kernel_model.specs.Cores.{Core}
 use Rattle.kernel_model.specs.Room.{count_needed, has_room, is_needed, without_room}
@@ -55,7 +55,7 @@ musts_distinct must (h ∷ hs) a = go (musts_distinct must hs a.1) (must h)
     go rest false = rest
 
 -- as many as are needed
-musts_count : {M : Type 0} → (base : Base) (history : List Item) (o : ℕ) (others : List (Core M)) (hs : List Held) → AllByRecursion (λ h. is_none h.version.end ≡ false) hs →
+musts_count : {M : Type 0} → (base : DeviceState) (history : List FinishRecord) (o : ℕ) (others : List (Core M)) (hs : List Held) → AllByRecursion (λ h. is_none h.version.end ≡ false) hs →
     length (musts (must_stand (is_needed base history o others)) hs) ≡ count_needed base history o others (versions_in hs)
 musts_count base history o others [] n = refl
 musts_count {M} base history o others (h ∷ hs) n = rw n.0 (go (musts_count base history o others hs n.1) (is_needed base history o others h.version))
@@ -66,7 +66,7 @@ musts_count {M} base history o others (h ∷ hs) n = rw n.0 (go (musts_count bas
     go rest false = rest
 
 -- a part counts as all do, where what is gone is not needed
-part_count : {M : Type 0} → (base : Base) (history : List Item) (floor o : ℕ) (others : List (Core M)) → IsSeen floor (is_needed base history o others) → (needed : Version → Bool) → ((v : Version) → needed v ≡ false → is_needed base history o others v ≡ false) →
+part_count : {M : Type 0} → (base : DeviceState) (history : List FinishRecord) (floor o : ℕ) (others : List (Core M)) → IsSeen floor (is_needed base history o others) → (needed : Version → Bool) → ((v : Version) → needed v ≡ false → is_needed base history o others v ≡ false) →
     (part vs : List Version) → IsPart floor needed part vs → count_needed base history o others part ≡ count_needed base history o others vs
 part_count base history floor o others seen needed n part [] p = rw p refl
 part_count {M} base history floor o others seen needed n part (v ∷ vs) (inl p) =
@@ -81,7 +81,7 @@ abbrev pub HaveEnded : List Version → Type 0
 HaveEnded vs = AllByRecursion (λ v. is_none v.end ≡ false) (older vs)
 
 -- a slot is free where there is room
-pub free_is_room : {M : Type 0} → (base : Base) (history : List Item) (floor o slots : ℕ) (needed : Version → Bool) (words_at : ℕ → List ℕ) (others : List (Core M)) → IsSeen floor (is_needed base history o others) → ((v : Version) → needed v ≡ false → is_needed base history o others v ≡ false) →
+pub free_is_room : {M : Type 0} → (base : DeviceState) (history : List FinishRecord) (floor o slots : ℕ) (needed : Version → Bool) (words_at : ℕ → List ℕ) (others : List (Core M)) → IsSeen floor (is_needed base history o others) → ((v : Version) → needed v ≡ false → is_needed base history o others v ≡ false) →
     (vs : List Version) (v : Version) → chosen None vs ≡ Some v → HasNewest vs → HaveEnded vs → (chain : List Held) → AreStanding slots floor needed words_at vs chain →
     is_some (free_from 0 slots (is_taken (must_stand (is_needed base history o others)) chain)) ≡ leb (1 + count_needed base history o others (older vs) + 1) slots
 free_is_room base history floor o slots needed words_at others seen fewer [] v e new ended chain s = absurd (cc e)
@@ -128,7 +128,7 @@ free_is_spare slots needed chain k l e = record { place = l; spare = go chain e 
     go (h ∷ hs) e = let p = or_parts (eqb h.slot k && must_stand needed h) (is_taken (must_stand needed) hs k) e in (λ f. at h (must_stand needed h) p.0 f, go hs p.1)
 
 -- no written object lacks room
-pub all_room : {M : Type 0} → (sizes : Sizes) (base : Base) (history : List Item) (others : List (Core M)) (ws : List Write) → without_room sizes base history others ws ≡ None → AllByRecursion (λ w. has_room sizes base history others w.object ≡ true) ws
+pub all_room : {M : Type 0} → (sizes : Sizes) (base : DeviceState) (history : List FinishRecord) (others : List (Core M)) (ws : List Write) → without_room sizes base history others ws ≡ None → AllByRecursion (λ w. has_room sizes base history others w.object ≡ true) ws
 all_room sizes base history others [] e = tt
 all_room {M} sizes base history others (w ∷ ws) e = go (all_room sizes base history others ws) (has_room sizes base history others w.object) refl e
   where
@@ -138,7 +138,7 @@ all_room {M} sizes base history others (w ∷ ws) e = go (all_room sizes base hi
     go rest false f e = absurd (cc e)
 
 -- the least free slot is spare, and all below are taken
-pub free_least : {M : Type 0} → (sizes : Sizes) (base : Base) (history : List Item) (others : List (Core M)) (kept : Kept) (o k : ℕ) → free_slot sizes base history others kept o ≡ Some k →
+pub free_least : {M : Type 0} → (sizes : Sizes) (base : DeviceState) (history : List FinishRecord) (others : List (Core M)) (kept : Kept) (o k : ℕ) → free_slot sizes base history others kept o ≡ Some k →
     IsSpare (sizes.slots o) (is_needed base history o others) (kept.chains o) k × ((j : ℕ) → j < k → is_taken (must_stand (is_needed base history o others)) (kept.chains o) j ≡ true)
 free_least sizes base history others kept o k e =
     let least = one_free 0 (sizes.slots o) (is_taken (must_stand (is_needed base history o others)) (kept.chains o)) k e in

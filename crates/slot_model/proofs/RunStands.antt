@@ -1,9 +1,9 @@
 -- What stands goes on through any events, and at first the base's versions stand.
 use Rattle.std.proofs.Common.{◌≡◌, ℕ, ◌+◌, ◌<◌, ◌≤◌, List, [], ◌∷◌, get_or, length, replicate, take, arith, length-take}
 use Rattle.kernel_model.specs.Sizes.{Sizes}
-use Rattle.kernel_model.specs.Effects.{words_of}
-use Rattle.kernel_model.specs.Runs.{Steps}
-use Rattle.kernel_model.specs.Replay.{Base}
+use Rattle.kernel_model.specs.Effects.{object_words}
+use Rattle.kernel_model.specs.Runs.{TaskMachine}
+use Rattle.kernel_model.specs.Replay.{DeviceState}
 use Rattle.kernel_model.specs.Cores.{Core, Idle}
 use Rattle.kernel_model.specs.Room.{is_needed}
 use Rattle.kernel_model.specs.Events.{Event, Power, State, event_step, opened, state_after}
@@ -19,11 +19,11 @@ use Rattle.slot_model.specs.Changes.{Beside, beside_after, beside_event, first_k
 use Rattle.slot_model.specs.Standing.{IsLawful, StandsFor}
 use Rattle.slot_model.proofs.EventLaws.{event_stands}
 
-lawful : {M : Type 0} → (steps : Steps M) (sizes : Sizes) (base : Base) → IsSetUp steps sizes base → (s : State M) (n : ℕ) → HasIds base (length s.history + n) → IsSound steps sizes base s → IsLawful steps sizes base s
+lawful : {M : Type 0} → (steps : TaskMachine M) (sizes : Sizes) (base : DeviceState) → IsSetUp steps sizes base → (s : State M) (n : ℕ) → HasIds base (length s.history + n) → IsSound steps sizes base s → IsLawful steps sizes base s
 lawful steps sizes base set_up s n l h = record { set_up = set_up; sound = h; ids = sound-ids steps sizes base set_up s.history h.history (omega (arith, l)) }
 
 -- any events
-pub events_stand : {M : Type 0} → (steps : Steps M) (sizes : Sizes) (base : Base) → IsSetUp steps sizes base → (events : List Event) (s : State M) (b : Beside) → HasIds base (length s.history + length events) → IsSound steps sizes base s → StandsFor sizes base b.floor s b.kept b.image →
+pub events_stand : {M : Type 0} → (steps : TaskMachine M) (sizes : Sizes) (base : DeviceState) → IsSetUp steps sizes base → (events : List Event) (s : State M) (b : Beside) → HasIds base (length s.history + length events) → IsSound steps sizes base s → StandsFor sizes base b.floor s b.kept b.image →
     (let a : Beside = beside_after steps sizes base s events b in StandsFor sizes base a.floor (state_after steps sizes base s events) a.kept a.image)
 events_stand steps sizes base set_up [] s b l h f = f
 events_stand steps sizes base set_up (e ∷ events) s b l h f =
@@ -41,7 +41,7 @@ run_stands {M} x n b f =
     events_stand x.steps x.sizes x.base x.set_up (take n x.events) (start_of x) b (let k = few n x.events in let l : HasIds x.base (length x.events) = x.ids in omega (arith, l, k)) (opened_sound x.steps x.sizes x.base x.set_up x.cores x.power x.boots) f
 
 -- so many events, so many finishes at most
-grows : {M : Type 0} → (steps : Steps M) (sizes : Sizes) (base : Base) (events : List Event) (s : State M) → length (state_after steps sizes base s events).history ≤ length s.history + length events
+grows : {M : Type 0} → (steps : TaskMachine M) (sizes : Sizes) (base : DeviceState) (events : List Event) (s : State M) → length (state_after steps sizes base s events).history ≤ length s.history + length events
 grows steps sizes base [] s = omega arith
 grows steps sizes base (e ∷ events) s = let l = grows steps sizes base events (event_step steps sizes base s e).0 in let k = history-step steps sizes base s e in omega (arith, l, k)
 
@@ -60,8 +60,8 @@ run_lawful {M} x n = record {
     sound = all_sound x.steps x.sizes x.base x.set_up (take n x.events) (start_of x) (omega (arith, ids)) (opened_sound x.steps x.sizes x.base x.set_up x.cores x.power x.boots)
 
 -- at first the base's versions stand, in the slots that the device names
-pub first_stands : (M : Type 0) (sizes : Sizes) (base : Base) (cores : ℕ) (power : Power) (boots : ℕ) (named : ℕ → ℕ) (image : Image) → IsSized sizes image →
-    ((o : ℕ) → o < sizes.objects → (named o < sizes.slots o) × (image o (named o) ≡ words_of base.objects o)) → StandsFor {M = M} sizes base base.clock (opened cores power boots) (first_kept base named) image
+pub first_stands : (M : Type 0) (sizes : Sizes) (base : DeviceState) (cores : ℕ) (power : Power) (boots : ℕ) (named : ℕ → ℕ) (image : Image) → IsSized sizes image →
+    ((o : ℕ) → o < sizes.objects → (named o < sizes.slots o) × (image o (named o) ≡ object_words base.objects o)) → StandsFor {M = M} sizes base base.clock (opened cores power boots) (first_kept base named) image
 first_stands M sizes base cores power boots named image sized h = record {
   since = floor_of_idle base (opened cores power boots) idle;
   stands = record {

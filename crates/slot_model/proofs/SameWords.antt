@@ -3,9 +3,9 @@ use Rattle.std.proofs.Common.{◌≡◌, ℕ, ◌-◌, ◌<◌, List, [], ◌∷
 use Rattle.std.specs.List.{AllByRecursion}
 use Rattle.kernel_model.specs.Sizes.{Sizes}
 use Rattle.kernel_model.specs.Effects.{Write}
-use Rattle.kernel_model.specs.Runs.{Steps}
-use Rattle.kernel_model.specs.Items.{Item}
-use Rattle.kernel_model.specs.Replay.{Base}
+use Rattle.kernel_model.specs.Runs.{TaskMachine}
+use Rattle.kernel_model.specs.Items.{FinishRecord}
+use Rattle.kernel_model.specs.Replay.{DeviceState}
 use Rattle.kernel_model.specs.Cores.{Committing, Copying, Core, Idle, Ready, Running}
 use Rattle.kernel_model.specs.Room.{is_needed}
 use Rattle.kernel_model.specs.Turns.{commit_writes}
@@ -20,7 +20,7 @@ use Rattle.slot_model.proofs.Chains.{standing_words}
 use Rattle.slot_model.proofs.EventLaws.{runs_of}
 
 -- where each slot of the commit has the same words
-same_written : {M : Type 0} → (sizes : Sizes) (base : Base) (history : List Item) (cores : List (Core M)) (kept : Kept) (before after : Image) → AreSame sizes before after → (ws : List Write) (made : ℕ) → AllByRecursion (IsWrite sizes) ws →
+same_written : {M : Type 0} → (sizes : Sizes) (base : DeviceState) (history : List FinishRecord) (cores : List (Core M)) (kept : Kept) (before after : Image) → AreSame sizes before after → (ws : List Write) (made : ℕ) → AllByRecursion (IsWrite sizes) ws →
     AllByRecursion (λ w. IsSpare (sizes.slots w.object) (is_needed base history w.object cores) (kept.chains w.object) (kept.plan w.object)) ws → AreWritten sizes kept.plan before made ws → AreWritten sizes kept.plan after made ws
 same_written sizes base history cores kept before after e [] made r p k = tt
 same_written sizes base history cores kept before after e (w ∷ ws) made r p k = (
@@ -28,7 +28,7 @@ same_written sizes base history cores kept before after e (w ∷ ws) made r p k 
   same_written sizes base history cores kept before after e ws (made - sizes.size w.object) r.1 p.1 k.1,
 )
 
-pub same_stands : {M : Type 0} → (steps : Steps M) (sizes : Sizes) (base : Base) (floor : ℕ) (s : State M) (kept : Kept) (before after : Image) → IsLawful steps sizes base s → AreSame sizes before after → StandsFor sizes base floor s kept before → StandsFor sizes base floor s kept after
+pub same_stands : {M : Type 0} → (steps : TaskMachine M) (sizes : Sizes) (base : DeviceState) (floor : ℕ) (s : State M) (kept : Kept) (before after : Image) → IsLawful steps sizes base s → AreSame sizes before after → StandsFor sizes base floor s kept before → StandsFor sizes base floor s kept after
 same_stands {M} steps sizes base floor s kept before after h e f = record {
   since = f.since;
   stands = record {

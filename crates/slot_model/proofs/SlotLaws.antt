@@ -4,8 +4,8 @@ use Rattle.std.specs.Prelude.{is_none}
 use Rattle.std.specs.List.{AllByRecursion}
 use Rattle.std.proofs.lemmas.Bool.{eq-eqb, or_right}
 use Rattle.kernel_model.specs.Sizes.{Sizes}
-use Rattle.kernel_model.specs.Items.{Item}
-use Rattle.kernel_model.specs.Replay.{Base}
+use Rattle.kernel_model.specs.Items.{FinishRecord}
+use Rattle.kernel_model.specs.Replay.{DeviceState}
 use Rattle.kernel_model.specs.Versions.{Read, Version, chosen, older, read_words, versions, words_in}
 use Rattle.kernel_model.specs.Intervals.{Interval, is_empty}
 use Rattle.kernel_model.specs.Cores.{Attempt, Copying, Core, Idle}
@@ -25,7 +25,7 @@ use Rattle.slot_model.proofs.Pins.{chosen_there}
 use Rattle.slot_model.proofs.Uniques.{IsFound, chain_part, there_found, versions_fall}
 
 -- the version that a core copies stands in the slot that it copies from
-pub copied_stands : {M : Type 0} → (sizes : Sizes) (base : Base) (floor : ℕ) (history : List Item) (cores : List (Core M)) (kept : Kept) (image : Image) → IsNumbered base history → Stands sizes base floor history cores kept image →
+pub copied_stands : {M : Type 0} → (sizes : Sizes) (base : DeviceState) (floor : ℕ) (history : List FinishRecord) (cores : List (Core M)) (kept : Kept) (image : Image) → IsNumbered base history → Stands sizes base floor history cores kept image →
     (n : ℕ) (a : Attempt M) (copied : ℕ) (r : Read) (reads : List Read) → get_or cores n Idle ≡ Copying a copied → a.reads ≡ r ∷ reads → r.object < sizes.objects → (kept.pins n < sizes.slots r.object) × (image r.object (kept.pins n) ≡ read_words base history r)
 copied_stands {M} sizes base floor history cores kept image num s n a copied r reads at e l = (subst (λ k. k < sizes.slots r.object) f.slot_is f.here.0, subst (λ k. image r.object k ≡ f.held.version.words) f.slot_is (f.here.1 must) ∙ ap (λ (v : Version). v.words) f.version_is ∙ sym (ap words_in f.found_is))
   where
@@ -63,7 +63,7 @@ chosen_one P (Some hi) (x ∷ hs) h p e = go (chosen_one P (Some hi) hs h p.1) (
     go rest false e = rest e
 
 -- the version that an attempt chooses is held, and stands in its slot
-pub chosen_stands : {M : Type 0} → (sizes : Sizes) (base : Base) (floor : ℕ) (history : List Item) (cores : List (Core M)) (kept : Kept) (image : Image) → IsNumbered base history → Stands sizes base floor history cores kept image →
+pub chosen_stands : {M : Type 0} → (sizes : Sizes) (base : DeviceState) (floor : ℕ) (history : List FinishRecord) (cores : List (Core M)) (kept : Kept) (image : Image) → IsNumbered base history → Stands sizes base floor history cores kept image →
     (n o : ℕ) (i : Interval) (v : Version) → interval_of base history (get_or cores n Idle) ≡ Some i → is_empty i ≡ false → o < sizes.objects → chosen i.hi (versions base o history) ≡ Some v → IsChosen sizes floor o i.hi (kept.chains o) image v
 chosen_stands {M} sizes base floor history cores kept image num s n o i v at ne l e = record {
   held = h.0;

@@ -3,9 +3,9 @@ use Rattle.std.proofs.Common.{◌≡◌, ℕ, zero, suc, ◌+◌, ◌-◌, ◌<�
 use Rattle.std.specs.Prelude.{unwrap_or}
 use Rattle.kernel_model.specs.Sizes.{Sizes}
 use Rattle.kernel_model.specs.Effects.{Outcome, Run, Spawn, Trap, with_write, written}
-use Rattle.kernel_model.specs.Runs.{Ends, Reads, Spawns, Step, Steps, Went, Writes, max_spawns}
-use Rattle.kernel_model.specs.Items.{Item}
-use Rattle.kernel_model.specs.Replay.{Base, TaskRec}
+use Rattle.kernel_model.specs.Runs.{Ends, Reads, Spawns, Step, TaskMachine, Went, Writes, max_spawns}
+use Rattle.kernel_model.specs.Items.{FinishRecord}
+use Rattle.kernel_model.specs.Replay.{DeviceState, TaskRec}
 use Rattle.kernel_model.specs.Versions.{Read, Version, chosen, read_words, versions}
 use Rattle.kernel_model.specs.Intervals.{Interval, finish_interval, is_empty, read_interval}
 use Rattle.kernel_model.specs.OpenTasks.{open_tasks}
@@ -34,7 +34,7 @@ present (c ∷ cores) zero t e = omega arith
 present (c ∷ cores) (suc n) t e = let l = present cores n t e in omega (arith, l)
 
 -- a grant has room, and is of this run
-pub granted : {M : Type 0} → (sizes : Sizes) (base : Base) (history : List Item) (others : List (Core M)) (a : Attempt M) (run : Run) (i : Item) → verdict sizes base history others a run ≡ Granted i →
+pub granted : {M : Type 0} → (sizes : Sizes) (base : DeviceState) (history : List FinishRecord) (others : List (Core M)) (a : Attempt M) (run : Run) (i : FinishRecord) → verdict sizes base history others a run ≡ Granted i →
     (without_room sizes base history others run.writes ≡ None) × (i.run ≡ run)
 granted {M} sizes base history others a run i e = go (is_empty j) (without_room sizes base history others run.writes) refl e
   where
@@ -42,7 +42,7 @@ granted {M} sizes base history others a run i e = go (is_empty j) (without_room 
     j = finish_interval base history a.start a.reads run
 
     records : (b : Bool) → cond b (Granted (finish_of base history a.task a.start a.reads run)) (Records (length (open_tasks base history)) (length run.spawns)) ≡ Granted i → i.run ≡ run
-    records true f = let same : finish_of base history a.task a.start a.reads run ≡ i = cc f in ap (λ (x : Item). x.run) (sym same)
+    records true f = let same : finish_of base history a.task a.start a.reads run ≡ i = cc f in ap (λ (x : FinishRecord). x.run) (sym same)
     records false f = absurd (cc f)
 
     go : (b : Bool) (o : Option ℕ) → without_room sizes base history others run.writes ≡ o → cond b (Empty j.lo (unwrap_or j.hi 0)) (room_verdict sizes base history a run o) ≡ Granted i → (without_room sizes base history others run.writes ≡ None) × (i.run ≡ run)
@@ -52,10 +52,10 @@ granted {M} sizes base history others a run i e = go (is_empty j) (without_room 
 
 -- the run of each commit is fit
 abbrev pub AreRuns : {M : Type 0} → Sizes → List (Core M) → Type 0
-AreRuns sizes cores = (k : ℕ) (i : Item) (left : ℕ) → get_or cores k Idle ≡ Committing i left → IsRun sizes i.run
+AreRuns sizes cores = (k : ℕ) (i : FinishRecord) (left : ℕ) → get_or cores k Idle ≡ Committing i left → IsRun sizes i.run
 
 -- a running core's turn
-ran : {M : Type 0} → (steps : Steps M) (sizes : Sizes) (base : Base) (floor : ℕ) (history : List Item) (cores : List (Core M)) (kept : Kept) (image : Image) → IsAble sizes base floor history cores kept image → IsMachine steps sizes → (n : ℕ) (a : Attempt M) → get_or cores n Idle ≡ Running a →
+ran : {M : Type 0} → (steps : TaskMachine M) (sizes : Sizes) (base : DeviceState) (floor : ℕ) (history : List FinishRecord) (cores : List (Core M)) (kept : Kept) (image : Image) → IsAble sizes base floor history cores kept image → IsMachine steps sizes → (n : ℕ) (a : Attempt M) → get_or cores n Idle ≡ Running a →
     (step : Step M) → steps.step a.state ≡ step → IsNext base floor history cores None history (set cores n (run_turn steps base history n a step).core) →
     Stands sizes base floor history (set cores n (run_turn steps base history n a step).core) (kept_run base history n a (run_turn steps base history n a step).core kept) image
 ran {M} steps sizes base floor history cores kept image f machine n a at step q = run step q
@@ -106,7 +106,7 @@ ran {M} steps sizes base floor history cores kept image f machine n a at step q 
     run (Ends outcome) q = λ x. calm sizes base floor history cores kept image f n (Ready a outcome) x tt
 
 -- a copying core's
-copied : {M : Type 0} → (steps : Steps M) (sizes : Sizes) (base : Base) (floor : ℕ) (history : List Item) (cores : List (Core M)) (kept : Kept) (image : Image) → IsAble sizes base floor history cores kept image → (n : ℕ) (a : Attempt M) (k : ℕ) → get_or cores n Idle ≡ Copying a k →
+copied : {M : Type 0} → (steps : TaskMachine M) (sizes : Sizes) (base : DeviceState) (floor : ℕ) (history : List FinishRecord) (cores : List (Core M)) (kept : Kept) (image : Image) → IsAble sizes base floor history cores kept image → (n : ℕ) (a : Attempt M) (k : ℕ) → get_or cores n Idle ≡ Copying a k →
     (reads : List Read) → IsNext base floor history cores None history (set cores n (copy_turn steps sizes base history a k reads).core) → Stands sizes base floor history (set cores n (copy_turn steps sizes base history a k reads).core) kept image
 copied steps sizes base floor history cores kept image f n a k at [] x = calm sizes base floor history cores kept image f n Idle x tt
 copied {M} steps sizes base floor history cores kept image f n a k at (r ∷ reads) x = go (ltb (k + 1) (sizes.size r.object)) x
@@ -120,7 +120,7 @@ copied {M} steps sizes base floor history cores kept image f n a k at (r ∷ rea
     go false x = calm sizes base floor history cores kept image f n _ x tt
 
 -- a verdict's
-judged : {M : Type 0} → (sizes : Sizes) (base : Base) (floor : ℕ) (history : List Item) (cores : List (Core M)) (kept : Kept) (image : Image) → IsAble sizes base floor history cores kept image → (n : ℕ) (a : Attempt M) (outcome : Outcome) → get_or cores n Idle ≡ Ready a outcome → is_committing (all_but n cores) ≡ false →
+judged : {M : Type 0} → (sizes : Sizes) (base : DeviceState) (floor : ℕ) (history : List FinishRecord) (cores : List (Core M)) (kept : Kept) (image : Image) → IsAble sizes base floor history cores kept image → (n : ℕ) (a : Attempt M) (outcome : Outcome) → get_or cores n Idle ≡ Ready a outcome → is_committing (all_but n cores) ≡ false →
     (v : Verdict) → verdict sizes base history (all_but n cores) a (run_of a outcome) ≡ v → AreRuns sizes (set cores n (verdict_turn {M = M} sizes base history n a.task v).core) → IsNext base floor history cores None history (set cores n (verdict_turn {M = M} sizes base history n a.task v).core) →
     Stands sizes base floor history (set cores n (verdict_turn {M = M} sizes base history n a.task v).core) (kept_verdict sizes base history (all_but n cores) (verdict_turn {M = M} sizes base history n a.task v).core kept) image
 judged sizes base floor history cores kept image f n a outcome at none (Empty lo hi) e runs x = calm sizes base floor history cores kept image f n Idle x tt
@@ -134,7 +134,7 @@ judged {M} sizes base floor history cores kept image f n a outcome at none (Gran
     (subst (λ (r : Run). without_room sizes base history (all_but n cores) r.writes ≡ None) (sym g.1) g.0) x
 
 -- each turn
-pub turned : {M : Type 0} → (steps : Steps M) (sizes : Sizes) (base : Base) (floor : ℕ) (history : List Item) (cores : List (Core M)) (kept : Kept) (image : Image) → IsAble sizes base floor history cores kept image → IsMachine steps sizes → (n : ℕ) (c : Core M) → get_or cores n Idle ≡ c →
+pub turned : {M : Type 0} → (steps : TaskMachine M) (sizes : Sizes) (base : DeviceState) (floor : ℕ) (history : List FinishRecord) (cores : List (Core M)) (kept : Kept) (image : Image) → IsAble sizes base floor history cores kept image → IsMachine steps sizes → (n : ℕ) (c : Core M) → get_or cores n Idle ≡ c →
     AreRuns sizes (set cores n (core_turn steps sizes base history (all_but n cores) n c).core) → IsNext base floor history cores (finished_by c) (with_finish (finished_by c) history) (set cores n (core_turn steps sizes base history (all_but n cores) n c).core) →
     Stands sizes base floor (with_finish (finished_by c) history) (set cores n (core_turn steps sizes base history (all_but n cores) n c).core) (kept_turn sizes base history (all_but n cores) n c (core_turn steps sizes base history (all_but n cores) n c).core kept) (image_turn sizes base history kept.plan c image)
 turned {M} steps sizes base floor history cores kept image f machine n Idle at runs x = go (next_task (all_but n cores) (open_tasks base history)) x

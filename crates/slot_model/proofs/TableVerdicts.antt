@@ -4,8 +4,8 @@ use Rattle.std.specs.Prelude.{is_some, max, unwrap_or}
 use Rattle.std.specs.List.{AllByRecursion}
 use Rattle.kernel_model.specs.Sizes.{Sizes}
 use Rattle.kernel_model.specs.Effects.{Run, Write}
-use Rattle.kernel_model.specs.Items.{Item}
-use Rattle.kernel_model.specs.Replay.{Base}
+use Rattle.kernel_model.specs.Items.{FinishRecord}
+use Rattle.kernel_model.specs.Replay.{DeviceState}
 use Rattle.kernel_model.specs.Versions.{Version, versions}
 use Rattle.kernel_model.specs.Intervals.{Interval, finish_interval, is_empty, read_interval}
 use Rattle.kernel_model.specs.OpenTasks.{open_tasks}
@@ -35,7 +35,7 @@ raised_same f g [] i h = refl
 raised_same f g (w ∷ ws) i h = ap₂ (λ (b : ℕ) (j : Interval). let k : Interval = record { lo = max b j.lo; hi = j.hi } in k) h.0 (raised_same f g ws i h.1)
 
 -- what the others of a core need, seen after a boot
-pub others_see : {M : Type 0} → (base : Base) (history : List Item) (floor o : ℕ) (cores : List (Core M)) (n : ℕ) → AreFrom base history floor cores → IsSeen floor (is_needed base history o (all_but n cores))
+pub others_see : {M : Type 0} → (base : DeviceState) (history : List FinishRecord) (floor o : ℕ) (cores : List (Core M)) (n : ℕ) → AreFrom base history floor cores → IsSeen floor (is_needed base history o (all_but n cores))
 others_see {M} base history floor o cores n f v = sym (same (floored floor v)) ∙ seen_of base history floor o (set cores n Idle) from v ∙ same v
   where
     same : (v : Version) → is_needed base history o (set cores n Idle) v ≡ is_needed base history o (all_but n cores) v
@@ -50,14 +50,14 @@ others_see {M} base history floor o cores n f v = sym (same (floored floor v)) �
         at x (no_core h) e = absurd (cc (h, e))
 
 -- a slot is free, by tables, where there is room
-pub room_at : {M : Type 0} → (sizes : Sizes) (base : Base) (floor : ℕ) (history : List Item) (cores : List (Core M)) (kept : Kept) (image : Image) → IsNumbered base history → ((o : ℕ) → HaveEnded (versions base o history)) → Stands sizes base floor history cores kept image →
+pub room_at : {M : Type 0} → (sizes : Sizes) (base : DeviceState) (floor : ℕ) (history : List FinishRecord) (cores : List (Core M)) (kept : Kept) (image : Image) → IsNumbered base history → ((o : ℕ) → HaveEnded (versions base o history)) → Stands sizes base floor history cores kept image →
     (n o : ℕ) → o < sizes.objects → is_some (free_slot sizes base history (all_but n cores) kept o) ≡ has_room sizes base history (all_but n cores) o
 room_at sizes base floor history cores kept image num ended s n o l =
     let v = chosen_exists base o history None None tt in
     free_is_room base history floor o (sizes.slots o) (is_needed base history o cores) (image o) (all_but n cores) (others_see base history floor o cores n s.starts) (others_fewer base history o n cores) (versions base o history) v.0 v.1 (newest_of base o history) (ended o) (kept.chains o) (s.objects o l)
 
 -- the least written object without a free slot
-full_at : {M : Type 0} → (sizes : Sizes) (base : Base) (floor : ℕ) (history : List Item) (cores : List (Core M)) (kept : Kept) (image : Image) → IsNumbered base history → ((o : ℕ) → HaveEnded (versions base o history)) → Stands sizes base floor history cores kept image →
+full_at : {M : Type 0} → (sizes : Sizes) (base : DeviceState) (floor : ℕ) (history : List FinishRecord) (cores : List (Core M)) (kept : Kept) (image : Image) → IsNumbered base history → ((o : ℕ) → HaveEnded (versions base o history)) → Stands sizes base floor history cores kept image →
     (places : ℕ → List Place) → ((o : ℕ) → o < sizes.objects → places o ≡ places_of (kept.chains o)) → (n : ℕ) (ws : List Write) → AllByRecursion (λ w. w.object < sizes.objects) ws →
     full_object sizes places (views_of base history kept.pins 0 (set cores n Idle)) ws ≡ without_room sizes base history (all_but n cores) ws
 full_at sizes base floor history cores kept image num ended s places p n [] r = refl
@@ -72,7 +72,7 @@ full_at {M} sizes base floor history cores kept image num ended s places p n (w 
         ∙ room_at sizes base floor history cores kept image num ended s n w.object r.0
 
 -- the verdict
-pub verdict_at : {M : Type 0} → (sizes : Sizes) (base : Base) (floor : ℕ) (history : List Item) (cores : List (Core M)) (kept : Kept) (image : Image) → IsNumbered base history → ((o : ℕ) → HaveEnded (versions base o history)) → Stands sizes base floor history cores kept image →
+pub verdict_at : {M : Type 0} → (sizes : Sizes) (base : DeviceState) (floor : ℕ) (history : List FinishRecord) (cores : List (Core M)) (kept : Kept) (image : Image) → IsNumbered base history → ((o : ℕ) → HaveEnded (versions base o history)) → Stands sizes base floor history cores kept image →
     (t : Tables) → AreTables sizes base floor history kept t → (n : ℕ) (a : Attempt M) (run : Run) → floor ≤ a.start → AllByRecursion (λ w. w.object < sizes.objects) run.writes →
     table_verdict sizes t (views_of base history kept.pins 0 (set cores n Idle)) a.task (read_interval base history a.start a.reads) run ≡ verdict sizes base history (all_but n cores) a run
 verdict_at {M} sizes base floor history cores kept image num ended s t p n a run l r =

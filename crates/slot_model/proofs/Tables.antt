@@ -4,8 +4,8 @@ use Rattle.std.specs.Prelude.{filter, is_none, is_some, ◌&&◌, ◌||◌, opti
 use Rattle.std.specs.List.{AllByRecursion}
 use Rattle.std.proofs.lemmas.Bool.{or_cases, or_parts}
 use Rattle.kernel_model.specs.Effects.{written}
-use Rattle.kernel_model.specs.Items.{Item}
-use Rattle.kernel_model.specs.Replay.{Base}
+use Rattle.kernel_model.specs.Items.{FinishRecord}
+use Rattle.kernel_model.specs.Replay.{DeviceState}
 use Rattle.kernel_model.specs.Versions.{Read, Version, find_version, version_read, versions, versions_to}
 use Rattle.kernel_model.specs.Intervals.{Interval, read_interval, sooner, within}
 use Rattle.kernel_model.specs.History.{AreFound, IsNumbered}
@@ -36,7 +36,7 @@ places_without k (h ∷ hs) = go (places_without k hs) (eqb h.slot k)
     go rest false = ap (λ ps. place_of h ∷ ps) rest
 
 -- the tables after a finish
-pub install_places : (i : Item) (words : List ℕ) (k : ℕ) (chain : List Held) → places_of (with_held i (Some words) k chain) ≡ installed i.point k (places_of chain)
+pub install_places : (i : FinishRecord) (words : List ℕ) (k : ℕ) (chain : List Held) → places_of (with_held i (Some words) k chain) ≡ installed i.point k (places_of chain)
 install_places i words k [] = refl
 install_places i words k (h ∷ hs) = ap (λ (ps : List Place). (let a : Place = record { slot = k; begin = i.point; end = None } in a) ∷ (let b : Place = record { slot = h.slot; begin = h.version.begin; end = Some i.point } in b) ∷ ps) (places_without k hs)
 
@@ -73,7 +73,7 @@ sooner_right p (Some a) None h = absurd h
 sooner_right p (Some a) (Some b) h = omega (arith, h)
 
 -- a version of an object that the finish writes has ended by its point, or is the newest
-old_end : (base : Base) (i : Item) (o : ℕ) (words : List ℕ) (history : List Item) → IsLawful (i ∷ history) → written i.run.writes o ≡ Some words → (n : ℕ) (v : Version) → find_version n (versions base o history) ≡ Some v → is_none v.end ≡ false → ComesBy i.point v.end
+old_end : (base : DeviceState) (i : FinishRecord) (o : ℕ) (words : List ℕ) (history : List FinishRecord) → IsLawful (i ∷ history) → written i.run.writes o ≡ Some words → (n : ℕ) (v : Version) → find_version n (versions base o history) ≡ Some v → is_none v.end ≡ false → ComesBy i.point v.end
 old_end base i o words history h w n v e f = found (λ v. is_none v.end ≡ false → ComesBy i.point v.end) n (versions base o history) v (go history h.0 h.1) e f
   where
     same : (e : Option ℕ) → EndsBy i.point e → ComesBy i.point e
@@ -84,7 +84,7 @@ old_end base i o words history h w n v e f = found (λ v. is_none v.end ≡ fals
     all [] k = tt
     all (v ∷ vs) k = (λ e. same v.end k.0, all vs k.1)
 
-    go : (history : List Item) → AllByRecursion (IsOlder i) history → IsLawful history → AllByRecursion (λ v. is_none v.end ≡ false → ComesBy i.point v.end) (versions base o history)
+    go : (history : List FinishRecord) → AllByRecursion (IsOlder i) history → IsLawful history → AllByRecursion (λ v. is_none v.end ≡ false → ComesBy i.point v.end) (versions base o history)
     go [] a l = ((λ f. absurd (cc f)), tt)
     go (x ∷ history) a l = by (go history a.1 l.1) (written x.run.writes o) refl
       where
@@ -95,7 +95,7 @@ old_end base i o words history h w n v e f = found (λ v. is_none v.end ≡ fals
             ((λ f. absurd (cc f)), all (versions_to (Some x.point) base o history) (ends_by i.point x.point base o history before l.1 (written_by x o others g history l.0)))
 
 -- what is overwritten was read and is written
-over_read : (base : Base) (history : List Item) (i : Item) (reads : List Read) → is_overwritten base history i reads ≡ true → is_written_read i reads ≡ true
+over_read : (base : DeviceState) (history : List FinishRecord) (i : FinishRecord) (reads : List Read) → is_overwritten base history i reads ≡ true → is_written_read i reads ≡ true
 over_read base history i [] e = e
 over_read base history i (r ∷ reads) e = by (over_read base history i reads) (is_some (written i.run.writes r.object)) e
   where
@@ -104,7 +104,7 @@ over_read base history i (r ∷ reads) e = by (over_read base history i reads) (
     by rest false e = rest e
 
 -- a finish that joins cuts the intervals of those that read what it writes
-pub cut_readers : (base : Base) (i : Item) (history : List Item) → IsLawful (i ∷ history) → IsNumbered base (i ∷ history) → (start : ℕ) (reads : List Read) → AreFound base history reads →
+pub cut_readers : (base : DeviceState) (i : FinishRecord) (history : List FinishRecord) → IsLawful (i ∷ history) → IsNumbered base (i ∷ history) → (start : ℕ) (reads : List Read) → AreFound base history reads →
     read_interval base (i ∷ history) start reads ≡ cut i.point (is_written_read i reads) (read_interval base history start reads)
 cut_readers base i history h n start reads k = interval_cut base i history n start reads k ∙ go (is_overwritten base history i reads) refl (is_written_read i reads) refl
   where

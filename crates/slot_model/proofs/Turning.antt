@@ -5,8 +5,8 @@ use Rattle.std.specs.List.{AllByRecursion}
 use Rattle.std.proofs.lemmas.Bool.{eq-eqb}
 use Rattle.kernel_model.specs.Sizes.{Sizes}
 use Rattle.kernel_model.specs.Effects.{Write}
-use Rattle.kernel_model.specs.Items.{Item}
-use Rattle.kernel_model.specs.Replay.{Base}
+use Rattle.kernel_model.specs.Items.{FinishRecord}
+use Rattle.kernel_model.specs.Replay.{DeviceState}
 use Rattle.kernel_model.specs.Versions.{Version, versions}
 use Rattle.kernel_model.specs.Cores.{Attempt, Committing, Copying, Core, Idle, all_but, commits}
 use Rattle.kernel_model.specs.Room.{has_room, is_needed, is_needed_by, without_room}
@@ -28,14 +28,14 @@ use Rattle.slot_model.proofs.Rooms.{HaveEnded, all_room, free_is_room, free_is_s
 use Rattle.slot_model.proofs.Writing.{none_written, one_written, write_other, write_sized}
 
 -- what stands, with what is known of the cores
-pub record IsAble {M : Type 0} (sizes : Sizes) (base : Base) (floor : ℕ) (history : List Item) (cores : List (Core M)) (kept : Kept) (image : Image) : Type 0 where
+pub record IsAble {M : Type 0} (sizes : Sizes) (base : DeviceState) (floor : ℕ) (history : List FinishRecord) (cores : List (Core M)) (kept : Kept) (image : Image) : Type 0 where
   pub stands : Stands sizes base floor history cores kept image
-  pub runs : (k : ℕ) (i : Item) (left : ℕ) → get_or cores k Idle ≡ Committing i left → IsRun sizes i.run
+  pub runs : (k : ℕ) (i : FinishRecord) (left : ℕ) → get_or cores k Idle ≡ Committing i left → IsRun sizes i.run
   pub one : (j k : ℕ) → commits (get_or cores j Idle) ≡ true → commits (get_or cores k Idle) ≡ true → j ≡ k
   pub ended : (o : ℕ) → HaveEnded (versions base o history)
 
 -- no finish joins, and nothing else changes of what stands
-pub calm : {M : Type 0} → (sizes : Sizes) (base : Base) (floor : ℕ) (history : List Item) (cores : List (Core M)) (kept : Kept) (image : Image) → IsAble sizes base floor history cores kept image → (n : ℕ) (d : Core M) →
+pub calm : {M : Type 0} → (sizes : Sizes) (base : DeviceState) (floor : ℕ) (history : List FinishRecord) (cores : List (Core M)) (kept : Kept) (image : Image) → IsAble sizes base floor history cores kept image → (n : ℕ) (d : Core M) →
     IsNext base floor history cores None history (set cores n d) → IsServed sizes base history (set cores n d) kept image n d → Stands sizes base floor history (set cores n d) kept image
 calm {M} sizes base floor history cores kept image f n d x own = record {
   starts = x.starts;
@@ -46,7 +46,7 @@ calm {M} sizes base floor history cores kept image f n d x own = record {
 }
 
 -- core n copies from a slot from now on
-pub pinning : {M : Type 0} → (sizes : Sizes) (base : Base) (floor : ℕ) (history : List Item) (cores : List (Core M)) (kept : Kept) (image : Image) → IsAble sizes base floor history cores kept image → (n slot : ℕ) (b : Attempt M) (copied : ℕ) →
+pub pinning : {M : Type 0} → (sizes : Sizes) (base : DeviceState) (floor : ℕ) (history : List FinishRecord) (cores : List (Core M)) (kept : Kept) (image : Image) → IsAble sizes base floor history cores kept image → (n slot : ℕ) (b : Attempt M) (copied : ℕ) →
     IsNext base floor history cores None history (set cores n (Copying b copied)) → IsPinned kept.chains slot b.reads → Stands sizes base floor history (set cores n (Copying b copied)) (record kept { pins = put_at n slot kept.pins }) image
 pinning {M} sizes base floor history cores kept image f n slot b copied x own = record {
   starts = x.starts;
@@ -59,7 +59,7 @@ pinning {M} sizes base floor history cores kept image f n slot b copied x own = 
 }
 
 -- what a core that holds no attempt leaves to the others
-pub idle_needs : {M : Type 0} → (base : Base) (history : List Item) (o : ℕ) (v : Version) (cores : List (Core M)) (n : ℕ) (d : Core M) → is_needed_by base history o v d ≡ false → is_needed base history o (set cores n d) v ≡ is_needed base history o (all_but n cores) v
+pub idle_needs : {M : Type 0} → (base : DeviceState) (history : List FinishRecord) (o : ℕ) (v : Version) (cores : List (Core M)) (n : ℕ) (d : Core M) → is_needed_by base history o v d ≡ false → is_needed base history o (set cores n d) v ≡ is_needed base history o (all_but n cores) v
 idle_needs base history o v [] n d e = refl
 idle_needs base history o v (c ∷ cores) zero d e = rw e refl
 idle_needs base history o v (c ∷ cores) (suc n) d e = ap (λ t. is_needed_by base history o v c || t) (idle_needs base history o v cores n d e)
@@ -73,11 +73,11 @@ spare_same slots n m same chain k s = record { place = s.place; spare = go chain
     go (h ∷ hs) p = (λ e. p.0 (ap (λ t. is_none h.version.end || t) (sym (same h.version)) ∙ e), go hs p.1)
 
 -- what the others need, as seen after a boot
-pub others_seen : {M : Type 0} → (base : Base) (history : List Item) (floor o : ℕ) (cores : List (Core M)) (n : ℕ) (d : Core M) → ((v : Version) → is_needed_by base history o v d ≡ false) → AreFrom base history floor (set cores n d) → IsSeen floor (is_needed base history o (all_but n cores))
+pub others_seen : {M : Type 0} → (base : DeviceState) (history : List FinishRecord) (floor o : ℕ) (cores : List (Core M)) (n : ℕ) (d : Core M) → ((v : Version) → is_needed_by base history o v d ≡ false) → AreFrom base history floor (set cores n d) → IsSeen floor (is_needed base history o (all_but n cores))
 others_seen base history floor o cores n d none from v =
     sym (idle_needs base history o (floored floor v) cores n d (none (floored floor v))) ∙ seen_of base history floor o (set cores n d) from v ∙ idle_needs base history o v cores n d (none v)
 
-pub others_fewer : {M : Type 0} → (base : Base) (history : List Item) (o n : ℕ) (cores : List (Core M)) (v : Version) → is_needed base history o cores v ≡ false → is_needed base history o (all_but n cores) v ≡ false
+pub others_fewer : {M : Type 0} → (base : DeviceState) (history : List FinishRecord) (o n : ℕ) (cores : List (Core M)) (v : Version) → is_needed base history o cores v ≡ false → is_needed base history o (all_but n cores) v ≡ false
 others_fewer base history o n cores v e = go (is_needed base history o (all_but n cores) v) refl
   where
     go : (b : Bool) → is_needed base history o (all_but n cores) v ≡ b → is_needed base history o (all_but n cores) v ≡ false
@@ -85,7 +85,7 @@ others_fewer base history o n cores v e = go (is_needed base history o (all_but 
     go false f = f
 
 -- where there is room the least free slot is spare
-pub room_spare : {M : Type 0} → (sizes : Sizes) (base : Base) (floor : ℕ) (history : List Item) (cores : List (Core M)) (kept : Kept) (image : Image) → IsAble sizes base floor history cores kept image → (n o : ℕ) → o < sizes.objects → IsSeen floor (is_needed base history o (all_but n cores)) →
+pub room_spare : {M : Type 0} → (sizes : Sizes) (base : DeviceState) (floor : ℕ) (history : List FinishRecord) (cores : List (Core M)) (kept : Kept) (image : Image) → IsAble sizes base floor history cores kept image → (n o : ℕ) → o < sizes.objects → IsSeen floor (is_needed base history o (all_but n cores)) →
     has_room sizes base history (all_but n cores) o ≡ true →
     IsSpare (sizes.slots o) (is_needed base history o (all_but n cores)) (kept.chains o) (unwrap_or (free_slot sizes base history (all_but n cores) kept o) 0)
 room_spare sizes base floor history cores kept image f n o l seen room = go (free_slot sizes base history (all_but n cores) kept o) refl
@@ -102,7 +102,7 @@ room_spare sizes base floor history cores kept image f n o l seen room = go (fre
         free_is_spare (sizes.slots o) (is_needed base history o (all_but n cores)) (kept.chains o) k (let m = least.below in omega (arith, m)) least.is_free
 
 -- a commit begins, with a slot for each object that it writes
-pub planning : {M : Type 0} → (sizes : Sizes) (base : Base) (floor : ℕ) (history : List Item) (cores : List (Core M)) (kept : Kept) (image : Image) → IsAble sizes base floor history cores kept image → (n : ℕ) (i : Item) →
+pub planning : {M : Type 0} → (sizes : Sizes) (base : DeviceState) (floor : ℕ) (history : List FinishRecord) (cores : List (Core M)) (kept : Kept) (image : Image) → IsAble sizes base floor history cores kept image → (n : ℕ) (i : FinishRecord) →
     ((k : ℕ) → (k ≡ n → ⊥) → commits (get_or cores k Idle) ≡ true → ⊥) → IsRun sizes i.run → without_room sizes base history (all_but n cores) i.run.writes ≡ None →
     (let now : List (Core M) = set cores n (Committing i (commit_writes sizes base history i)) in
     IsNext base floor history cores None history now → Stands sizes base floor history now (planned sizes base history (all_but n cores) kept) image)
@@ -161,7 +161,7 @@ writes_apart sizes needed kept image made ws spare o = turn (kept.chains o) (apa
     turn (h ∷ hs) p = (λ e. write_other sizes kept.plan image o h.slot made ws (p.0 e), turn hs p.1)
 
 -- a commit writes
-pub writing : {M : Type 0} → (sizes : Sizes) (base : Base) (floor : ℕ) (history : List Item) (cores : List (Core M)) (kept : Kept) (image : Image) → IsAble sizes base floor history cores kept image → (n : ℕ) (i : Item) (left : ℕ) → get_or cores n Idle ≡ Committing i (suc left) →
+pub writing : {M : Type 0} → (sizes : Sizes) (base : DeviceState) (floor : ℕ) (history : List FinishRecord) (cores : List (Core M)) (kept : Kept) (image : Image) → IsAble sizes base floor history cores kept image → (n : ℕ) (i : FinishRecord) (left : ℕ) → get_or cores n Idle ≡ Committing i (suc left) →
     (let now : List (Core M) = set cores n (Committing i left) in
     IsNext base floor history cores None history now → Stands sizes base floor history now kept (after_write kept.plan (target sizes (commit_writes sizes base history i - suc left) i.run.writes) image))
 writing {M} sizes base floor history cores kept image f n i left at x = record {
@@ -202,7 +202,7 @@ writing {M} sizes base floor history cores kept image f n i left at x = record {
     }
 
 -- a finish joins
-pub finishing : {M : Type 0} → (sizes : Sizes) (base : Base) (floor : ℕ) (history : List Item) (cores : List (Core M)) (kept : Kept) (image : Image) → IsAble sizes base floor history cores kept image → (n : ℕ) (i : Item) → get_or cores n Idle ≡ Committing i 0 →
+pub finishing : {M : Type 0} → (sizes : Sizes) (base : DeviceState) (floor : ℕ) (history : List FinishRecord) (cores : List (Core M)) (kept : Kept) (image : Image) → IsAble sizes base floor history cores kept image → (n : ℕ) (i : FinishRecord) → get_or cores n Idle ≡ Committing i 0 →
     (let now : List (Core M) = set cores n Idle in IsNext base floor history cores (Some i) (i ∷ history) now → Stands sizes base floor (i ∷ history) now (with_finished (Some i) kept) image)
 finishing {M} sizes base floor history cores kept image f n i at x = record {
   starts = x.starts;

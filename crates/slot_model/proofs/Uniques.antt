@@ -4,8 +4,8 @@ use Rattle.std.specs.Prelude.{◌&&◌}
 use Rattle.std.specs.List.{AllByRecursion}
 use Rattle.std.proofs.lemmas.Bool.{eqb-true, eq-eqb, ne_eqb, or_cases}
 use Rattle.kernel_model.specs.Effects.{written}
-use Rattle.kernel_model.specs.Items.{Item}
-use Rattle.kernel_model.specs.Replay.{Base}
+use Rattle.kernel_model.specs.Items.{FinishRecord}
+use Rattle.kernel_model.specs.Replay.{DeviceState}
 use Rattle.kernel_model.specs.Versions.{Version, find_version, versions_to}
 use Rattle.kernel_model.specs.History.{IsNumbered}
 use Rattle.kernel_model.specs.Chain.{IsChain, IsPart, floored}
@@ -20,7 +20,7 @@ abbrev pub Fall : List Version → Type 0
 Fall [] = Unit {0}
 Fall (v ∷ vs) = AllByRecursion (λ u. u.writer < v.writer) vs × Fall vs
 
-pub versions_fall : (end : Option ℕ) (base : Base) (o : ℕ) (history : List Item) → IsNumbered base history → Fall (versions_to end base o history)
+pub versions_fall : (end : Option ℕ) (base : DeviceState) (o : ℕ) (history : List FinishRecord) → IsNumbered base history → Fall (versions_to end base o history)
 versions_fall end base o [] h = (tt, tt)
 versions_fall end base o (i ∷ history) h = go (λ e. versions_fall e base o history (h.0.2, h.1.1)) (written i.run.writes o)
   where

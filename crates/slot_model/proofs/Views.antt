@@ -5,8 +5,8 @@ use Rattle.std.specs.Prelude.{◌&&◌, is_none}
 use Rattle.std.specs.List.{AllByRecursion}
 use Rattle.std.proofs.lemmas.Bool.{eqb-true, eqb-false}
 use Rattle.kernel_model.specs.Sizes.{Sizes}
-use Rattle.kernel_model.specs.Items.{Item}
-use Rattle.kernel_model.specs.Replay.{Base}
+use Rattle.kernel_model.specs.Items.{FinishRecord}
+use Rattle.kernel_model.specs.Replay.{DeviceState}
 use Rattle.kernel_model.specs.Versions.{Read, versions}
 use Rattle.kernel_model.specs.Intervals.{read_interval}
 use Rattle.kernel_model.specs.Cores.{Attempt, Committing, Copying, Core, Idle, Ready, Running, all_but}
@@ -35,7 +35,7 @@ needed_with o None views p = refl
 needed_with o (Some v) views p = refl
 
 -- one core
-needed_by_view : {M : Type 0} → (base : Base) (history : List Item) (o : ℕ) (pins : ℕ → ℕ) (k : ℕ) (c : Core M) (h : Held) → Tells o pins k c h → is_needed_by base history o h.version c ≡ needs_at o (view_of base history (pins k) c) (place_of h)
+needed_by_view : {M : Type 0} → (base : DeviceState) (history : List FinishRecord) (o : ℕ) (pins : ℕ → ℕ) (k : ℕ) (c : Core M) (h : Held) → Tells o pins k c h → is_needed_by base history o h.version c ≡ needs_at o (view_of base history (pins k) c) (place_of h)
 needed_by_view base history o pins k Idle h t = refl
 needed_by_view base history o pins k (Running a) h t = refl
 needed_by_view {M} base history o pins k (Copying a copied) h t = ap (λ b. b || meet h.version (read_interval base history a.start a.reads)) (go a.reads refl)
@@ -51,7 +51,7 @@ needed_by_view base history o pins k (Ready a outcome) h t = refl
 needed_by_view base history o pins k (Committing i left) h t = refl
 
 -- all cores
-needed_by_views : {M : Type 0} → (base : Base) (history : List Item) (o : ℕ) (pins : ℕ → ℕ) (k : ℕ) (cores : List (Core M)) (h : Held) → ((j : ℕ) → Tells o pins (k + j) (get_or cores j Idle) h) → is_needed base history o cores h.version ≡ is_needed_at o (views_of base history pins k cores) (place_of h)
+needed_by_views : {M : Type 0} → (base : DeviceState) (history : List FinishRecord) (o : ℕ) (pins : ℕ → ℕ) (k : ℕ) (cores : List (Core M)) (h : Held) → ((j : ℕ) → Tells o pins (k + j) (get_or cores j Idle) h) → is_needed base history o cores h.version ≡ is_needed_at o (views_of base history pins k cores) (place_of h)
 needed_by_views base history o pins k [] h t = refl
 needed_by_views {M} base history o pins k (c ∷ cores) h t =
     let z : k + 0 ≡ k = add-zero k in
@@ -65,7 +65,7 @@ all_numbers P [] f = tt
 all_numbers P (h ∷ hs) f = ((λ j. (f j).0), all_numbers P hs (λ j. (f j).1))
 
 -- of each version that is held
-pub others_needed_at : {M : Type 0} → (sizes : Sizes) (base : Base) (floor : ℕ) (history : List Item) (cores : List (Core M)) (kept : Kept) (image : Image) → IsNumbered base history → Stands sizes base floor history cores kept image → (n o : ℕ) → o < sizes.objects →
+pub others_needed_at : {M : Type 0} → (sizes : Sizes) (base : DeviceState) (floor : ℕ) (history : List FinishRecord) (cores : List (Core M)) (kept : Kept) (image : Image) → IsNumbered base history → Stands sizes base floor history cores kept image → (n o : ℕ) → o < sizes.objects →
     AllByRecursion (λ h. is_needed base history o (all_but n cores) h.version ≡ is_needed_at o (views_of base history kept.pins 0 (set cores n Idle)) (place_of h)) (kept.chains o)
 others_needed_at {M} sizes base floor history cores kept image num s n o l = go (kept.chains o) (all_numbers (λ j h. Tells o kept.pins (0 + j) (get_or (set cores n Idle) j Idle) h) (kept.chains o) tells)
   where
@@ -130,7 +130,7 @@ others_needed_at {M} sizes base floor history cores kept image num s n o l = go 
     go (h ∷ hs) t = (sym (idle_needs base history o h.version cores n Idle refl) ∙ needed_by_views base history o kept.pins 0 (set cores n Idle) h t.0, go hs t.1)
 
 -- the least free slot, by tables alone
-pub free_at : {M : Type 0} → (sizes : Sizes) (base : Base) (floor : ℕ) (history : List Item) (cores : List (Core M)) (kept : Kept) (image : Image) → IsNumbered base history → Stands sizes base floor history cores kept image → (n o : ℕ) → o < sizes.objects →
+pub free_at : {M : Type 0} → (sizes : Sizes) (base : DeviceState) (floor : ℕ) (history : List FinishRecord) (cores : List (Core M)) (kept : Kept) (image : Image) → IsNumbered base history → Stands sizes base floor history cores kept image → (n o : ℕ) → o < sizes.objects →
     free_place (sizes.slots o) o (views_of base history kept.pins 0 (set cores n Idle)) (places_of (kept.chains o)) ≡ free_slot sizes base history (all_but n cores) kept o
 free_at {M} sizes base floor history cores kept image num s n o l = ap (free_from 0 (sizes.slots o)) (fun_ext (λ k. go k (kept.chains o) (others_needed_at sizes base floor history cores kept image num s n o l)))
   where

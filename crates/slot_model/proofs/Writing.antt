@@ -6,8 +6,8 @@ use Rattle.std.proofs.lemmas.List.Sums.{sum_by-cons}
 use Rattle.std.proofs.lemmas.Bool.{ltb-true, ltb-false}
 use Rattle.kernel_model.specs.Sizes.{Sizes}
 use Rattle.kernel_model.specs.Effects.{Write, written}
-use Rattle.kernel_model.specs.Items.{Item}
-use Rattle.kernel_model.specs.Replay.{Base}
+use Rattle.kernel_model.specs.Items.{FinishRecord}
+use Rattle.kernel_model.specs.Replay.{DeviceState}
 use Rattle.kernel_model.specs.Turns.{commit_writes}
 use Rattle.kernel_model.specs.Fit.{InObjectOrder}
 use Rattle.slot_model.specs.Slots.{Image, IsSized, with_word}
@@ -18,7 +18,7 @@ abbrev pub all_words : Sizes → List Write → ℕ
 all_words sizes [] = 0
 all_words sizes (w ∷ ws) = sizes.size w.object + all_words sizes ws
 
-pub commit_writes-all : (sizes : Sizes) (base : Base) (history : List Item) (i : Item) → commit_writes sizes base history i ≡ all_words sizes i.run.writes + late_writes sizes base history i
+pub commit_writes-all : (sizes : Sizes) (base : DeviceState) (history : List FinishRecord) (i : FinishRecord) → commit_writes sizes base history i ≡ all_words sizes i.run.writes + late_writes sizes base history i
 commit_writes-all sizes base history i = ap (λ n. n + late_writes sizes base history i) (go i.run.writes)
   where
     go : (ws : List Write) → sum_by (λ (w : Write). sizes.size w.object) ws ≡ all_words sizes ws

@@ -1,10 +1,10 @@
 -- How what is kept changes at each event: this project's own.
 use Rattle.std.specs.Prelude.{ℕ, zero, ◌==◌, Bool, true, false, List, [], ◌∷◌, Option, Some, None, get_or, if◌then◌else◌}
 use Rattle.kernel_model.specs.Sizes.{Sizes}
-use Rattle.kernel_model.specs.Effects.{words_of, written}
-use Rattle.kernel_model.specs.Runs.{Steps}
-use Rattle.kernel_model.specs.Items.{Item}
-use Rattle.kernel_model.specs.Replay.{Base, clock_of}
+use Rattle.kernel_model.specs.Effects.{object_words, written}
+use Rattle.kernel_model.specs.Runs.{TaskMachine}
+use Rattle.kernel_model.specs.Items.{FinishRecord}
+use Rattle.kernel_model.specs.Replay.{DeviceState, clock_of}
 use Rattle.kernel_model.specs.Versions.{Read, Version}
 use Rattle.kernel_model.specs.Intervals.{read_interval}
 use Rattle.kernel_model.specs.Cores.{Attempt, Core, Idle, Running, Copying, Ready, Committing, all_but}
@@ -16,7 +16,7 @@ use Rattle.slot_model.specs.Places.{planned}
 use Rattle.slot_model.specs.Store.{image_turn}
 
 -- with the versions of a finish in the slots of its plan, if one joins
-abbrev pub with_finished : Option Item → Kept → Kept
+abbrev pub with_finished : Option FinishRecord → Kept → Kept
 with_finished None kept = kept
 with_finished (Some i) kept = record kept {
   chains = λ o. with_held i (written i.run.writes o) (kept.plan o) (kept.chains o);
@@ -31,7 +31,7 @@ abbrev pub put_at : (n x : ℕ) → (ℕ → ℕ) → ℕ → ℕ
 put_at n x f k = if k == n then x else f k
 
 -- core n copies from the slot of the version that it chose, where these are its reads since
-abbrev pub pinned : {M : Type 0} → Base → List Item → ℕ → Attempt M → List Read → Kept → Kept
+abbrev pub pinned : {M : Type 0} → DeviceState → List FinishRecord → ℕ → Attempt M → List Read → Kept → Kept
 pinned base history n a [] kept = kept
 pinned base history n a (r ∷ reads) kept =
     let hi = (read_interval base history a.start a.reads).hi in
@@ -39,19 +39,19 @@ pinned base history n a (r ∷ reads) kept =
     record kept { pins = put_at n (slot_in chosen) kept.pins }
 
 -- where core n ran, and is this now
-abbrev pub kept_run : {M : Type 0} → Base → List Item → ℕ → Attempt M → Core M → Kept → Kept
+abbrev pub kept_run : {M : Type 0} → DeviceState → List FinishRecord → ℕ → Attempt M → Core M → Kept → Kept
 kept_run base history n a (Copying b copied) kept = pinned base history n a b.reads kept
 kept_run base history n a _ kept = kept
 
 -- where a core was ready, and is this now
-abbrev pub kept_verdict : {M : Type 0} → Sizes → Base → List Item → List (Core M) → Core M → Kept
+abbrev pub kept_verdict : {M : Type 0} → Sizes → DeviceState → List FinishRecord → List (Core M) → Core M → Kept
     → Kept
 kept_verdict sizes base history others (Committing i left) kept =
     planned sizes base history others kept
 kept_verdict sizes base history others _ kept = kept
 
 -- after core n's turn from the first to the second
-abbrev pub kept_turn : {M : Type 0} → Sizes → Base → List Item → List (Core M) → ℕ → Core M → Core M
+abbrev pub kept_turn : {M : Type 0} → Sizes → DeviceState → List FinishRecord → List (Core M) → ℕ → Core M → Core M
     → Kept → Kept
 kept_turn sizes base history others n (Running a) d kept = kept_run base history n a d kept
 kept_turn sizes base history others n (Ready a outcome) d kept =
@@ -60,7 +60,7 @@ kept_turn sizes base history others n (Committing i zero) d kept = with_finished
 kept_turn sizes base history others n _ d kept = kept
 
 -- after a step of core n
-abbrev pub kept_step : {M : Type 0} → Steps M → Sizes → Base → State M → ℕ → Power → Kept → Kept
+abbrev pub kept_step : {M : Type 0} → TaskMachine M → Sizes → DeviceState → State M → ℕ → Power → Kept → Kept
 kept_step steps sizes base s n On kept =
     let c = get_or s.cores n Idle in
     let others = all_but n s.cores in
@@ -69,19 +69,19 @@ kept_step steps sizes base s n On kept =
 kept_step steps sizes base s n (Boot left) kept = kept
 
 -- the clock at the last boot, after an event
-abbrev pub floor_after : {M : Type 0} → Base → (floor : ℕ) → State M → Event → ℕ
+abbrev pub floor_after : {M : Type 0} → DeviceState → (floor : ℕ) → State M → Event → ℕ
 floor_after base floor s Fail = clock_of base (with_finish (durable_commit s.cores) s.history)
 floor_after base floor s (CoreStep n) = floor
 
 -- what is kept after an event
-abbrev pub kept_after : {M : Type 0} → Steps M → Sizes → Base → State M → Event → Kept → Kept
+abbrev pub kept_after : {M : Type 0} → TaskMachine M → Sizes → DeviceState → State M → Event → Kept → Kept
 kept_after steps sizes base s Fail kept =
     afresh (clock_of base (with_finish (durable_commit s.cores) s.history))
     (with_finished (durable_commit s.cores) kept)
 kept_after steps sizes base s (CoreStep n) kept = kept_step steps sizes base s n s.power kept
 
 -- the image after an event
-abbrev pub image_after : {M : Type 0} → Sizes → Base → State M → Event → Kept → Image → Image
+abbrev pub image_after : {M : Type 0} → Sizes → DeviceState → State M → Event → Kept → Image → Image
 image_after sizes base s e kept image = image_turn sizes base s.history kept.plan (acting s e) image
 
 -- the slot that the durable index names of each object: a finish whose writes are all made counts
@@ -95,7 +95,7 @@ pub record Beside : Type 0 where
   pub image : Image
 
 -- after an event
-abbrev pub beside_event : {M : Type 0} → Steps M → Sizes → Base → State M → Event → Beside → Beside
+abbrev pub beside_event : {M : Type 0} → TaskMachine M → Sizes → DeviceState → State M → Event → Beside → Beside
 beside_event steps sizes base s e b = record {
   floor = floor_after base b.floor s e;
   kept = kept_after steps sizes base s e b.kept;
@@ -103,7 +103,7 @@ beside_event steps sizes base s e b = record {
 }
 
 -- after some events
-abbrev pub beside_after : {M : Type 0} → Steps M → Sizes → Base → State M → List Event → Beside
+abbrev pub beside_after : {M : Type 0} → TaskMachine M → Sizes → DeviceState → State M → List Event → Beside
     → Beside
 beside_after steps sizes base s [] b = b
 beside_after steps sizes base s (e ∷ events) b =
@@ -111,16 +111,16 @@ beside_after steps sizes base s (e ∷ events) b =
     (beside_event steps sizes base s e b)
 
 -- the base's version of an object
-abbrev pub first_version : Base → ℕ → Version
+abbrev pub first_version : DeviceState → ℕ → Version
 first_version base o = record {
   writer = base.number;
   begin = base.clock;
   end = None;
-  words = words_of base.objects o;
+  words = object_words base.objects o;
 }
 
 -- what is kept at first: the base's version of each object, in the slot that the device names
-abbrev pub first_kept : Base → (named : ℕ → ℕ) → Kept
+abbrev pub first_kept : DeviceState → (named : ℕ → ℕ) → Kept
 first_kept base named = record {
   chains = λ o. record {
     slot = named o;

@@ -1,7 +1,7 @@
 -- Which versions are kept in which slots, as tables keep them: this project's own.
 use Rattle.std.specs.Prelude.{◌≡◌, ℕ, ◌==◌, nat_lt, Bool, not, ◌&&◌, ◌||◌, is_none, List, [], ◌∷◌, map, filter, Option, Some, None, if◌then◌else◌}
 use Rattle.std.specs.List.{AllByRecursion, list_any}
-use Rattle.kernel_model.specs.Items.{Item}
+use Rattle.kernel_model.specs.Items.{FinishRecord}
 use Rattle.kernel_model.specs.Versions.{Version}
 
 -- a version of an object, as it is seen since the last boot, and the slot that was chosen for it
@@ -60,7 +60,7 @@ retired p k (h ∷ chain) =
     record h { version = record h.version { end = Some p } } ∷ without_slot k chain
 
 -- with the version that a finish makes, in slot k
-abbrev pub with_held : Item → Option (List ℕ) → (k : ℕ) → List Held → List Held
+abbrev pub with_held : FinishRecord → Option (List ℕ) → (k : ℕ) → List Held → List Held
 with_held i None k chain = chain
 with_held i (Some words) k chain =
     let made : Version = record { writer = i.number; begin = i.point; end = None; words = words } in

@@ -1,15 +1,15 @@
 -- A moment of threads' calls with all that is kept and stands beside the state, and what the laws say of it in few words. This project's own.
 use Rattle.std.specs.Prelude.{◌≡◌, ◌<◌, ℕ, List, set, Option, None, get_or}
 use Rattle.kernel_model.specs.Sizes.{Sizes}
-use Rattle.kernel_model.specs.Effects.{Programs, Run, words_of}
-use Rattle.kernel_model.specs.Items.{Item}
-use Rattle.kernel_model.specs.Replay.{Base}
+use Rattle.kernel_model.specs.Effects.{Programs, Run, object_words}
+use Rattle.kernel_model.specs.Items.{FinishRecord}
+use Rattle.kernel_model.specs.Replay.{DeviceState}
 use Rattle.kernel_model.specs.Cores.{Core, all_but}
 use Rattle.kernel_model.specs.Durable.{state_left}
 use Rattle.kernel_model.specs.Intervals.{Interval, read_interval}
 use Rattle.kernel_model.specs.Turns.{commit_writes}
 use Rattle.kernel_model.specs.Versions.{Version, versions}
-use Rattle.kernel_model.specs.Live.{Answer, Live, Mark, cores_of, finish_call}
+use Rattle.kernel_model.specs.Live.{Answer, CallState, Mark, cores_of, finish_call}
 use Rattle.slot_model.specs.Slots.{Image}
 use Rattle.slot_model.specs.Kept.{Kept, newest_slot}
 use Rattle.slot_model.specs.Places.{free_slot}
@@ -21,8 +21,8 @@ use Rattle.slot_model.specs.Tabled.{AreTables, Tables, View, views_of}
 pub record LiveMoment : Type 0 where
   pub whole : Programs
   pub sizes : Sizes
-  pub base : Base
-  pub state : Live
+  pub base : DeviceState
+  pub state : CallState
   pub kept : Kept
   pub image : Image
 
@@ -33,7 +33,7 @@ abbrev pub StandsLive : LiveMoment → Type 0
 StandsLive m = LiveStands m.sizes m.base m.state m.kept m.image
 
 -- caller n's finish is under way, with so many writes left, and what must stand does
-abbrev pub CommitsLive : LiveMoment → (n : ℕ) → Item → (left : ℕ) → Type 0
+abbrev pub CommitsLive : LiveMoment → (n : ℕ) → FinishRecord → (left : ℕ) → Type 0
 CommitsLive m n i left = LiveCommits m.whole m.sizes m.base m.state n i left m.kept m.image
 
 -- between calls, in a lawful state
@@ -42,7 +42,7 @@ pub record IsLiveStanding (m : LiveMoment) : Type 0 where
   pub stands : LiveStands m.sizes m.base m.state m.kept m.image
 
 -- within a finish, in a lawful state
-pub record IsLiveCommitting (m : LiveMoment) (n : ℕ) (i : Item) (left : ℕ) : Type 0 where
+pub record IsLiveCommitting (m : LiveMoment) (n : ℕ) (i : FinishRecord) (left : ℕ) : Type 0 where
   pub lawful : IsLiveLawful m.whole m.sizes m.base m.state
   pub commits : LiveCommits m.whole m.sizes m.base m.state n i left m.kept m.image
 
@@ -51,9 +51,9 @@ abbrev pub AreLiveTables : LiveMoment → Tables → Type 0
 AreLiveTables m t = AreTables m.sizes m.base m.base.clock m.state.history m.kept t
 
 -- a slot has what a listing leaves of an object
-abbrev pub HoldsLeft : LiveMoment → List Item → (o slot : ℕ) → Type 0
+abbrev pub HoldsLeft : LiveMoment → List FinishRecord → (o slot : ℕ) → Type 0
 HoldsLeft m history o slot =
-    (slot < m.sizes.slots o) × (m.image o slot ≡ words_of (state_left m.base history).objects o)
+    (slot < m.sizes.slots o) × (m.image o slot ≡ object_words (state_left m.base history).objects o)
 
 -- ---- what there is at it
 
@@ -87,13 +87,13 @@ abbrev pub live_newest : LiveMoment → ℕ → ℕ
 live_newest m o = newest_slot (m.kept.chains o)
 
 -- how many writes a commit has
-abbrev pub live_writes : LiveMoment → Item → ℕ
+abbrev pub live_writes : LiveMoment → FinishRecord → ℕ
 live_writes m i = commit_writes m.sizes m.base m.state.history i
 
 -- how many of them are beside its objects' words
-abbrev pub live_late : LiveMoment → Item → ℕ
+abbrev pub live_late : LiveMoment → FinishRecord → ℕ
 live_late m i = late_writes m.sizes m.base m.state.history i
 
 -- the state after caller n's finish of a run, and its answer
-abbrev pub finished : LiveMoment → (n : ℕ) → Mark → Run → (device : Option ℕ) → Live × Answer
+abbrev pub finished : LiveMoment → (n : ℕ) → Mark → Run → (device : Option ℕ) → CallState × Answer
 finished m n k run device = finish_call m.sizes m.base m.state n k run m.state.loss device

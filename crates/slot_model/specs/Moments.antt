@@ -1,10 +1,10 @@
 -- A moment of a run with all that is kept and stands beside its state, and what the laws say of it in few words. This project's own.
 use Rattle.std.specs.Prelude.{◌≡◌, ℕ, ◌-◌, ◌<◌, List, set, Option, get_or, take}
 use Rattle.kernel_model.specs.Sizes.{Sizes}
-use Rattle.kernel_model.specs.Effects.{words_of}
-use Rattle.kernel_model.specs.Runs.{Steps}
-use Rattle.kernel_model.specs.Items.{Item}
-use Rattle.kernel_model.specs.Replay.{Base, clock_of}
+use Rattle.kernel_model.specs.Effects.{object_words}
+use Rattle.kernel_model.specs.Runs.{TaskMachine}
+use Rattle.kernel_model.specs.Items.{FinishRecord}
+use Rattle.kernel_model.specs.Replay.{DeviceState, clock_of}
 use Rattle.kernel_model.specs.Versions.{Read, Version, versions}
 use Rattle.kernel_model.specs.Intervals.{Interval, read_interval}
 use Rattle.kernel_model.specs.Cores.{Core, Idle, all_but}
@@ -23,9 +23,9 @@ use Rattle.slot_model.specs.Tabled.{AreTables, Tables, View, fresh_tables, view_
 
 -- the machine of the tasks, the numbers and the base, which stay; the state; and what is beside it
 pub record Moment (M : Type 0) : Type 0 where
-  pub steps : Steps M
+  pub steps : TaskMachine M
   pub sizes : Sizes
-  pub base : Base
+  pub base : DeviceState
   pub floor : ℕ  -- the clock at the last boot
   pub state : State M
   pub kept : Kept
@@ -59,10 +59,10 @@ abbrev pub IsNamedIn : {M : Type 0} → Moment M → ℕ → Type 0
 IsNamedIn m o = IsNamed m.sizes m.base m.state m.kept m.image o
 
 -- the slots that are named at first have the base's objects
-abbrev pub HoldBase : Sizes → Base → (named : ℕ → ℕ) → Image → Type 0
+abbrev pub HoldBase : Sizes → DeviceState → (named : ℕ → ℕ) → Image → Type 0
 HoldBase sizes base named image =
     (o : ℕ) → o < sizes.objects → (named o < sizes.slots o)
-    × (image o (named o) ≡ words_of base.objects o)
+    × (image o (named o) ≡ object_words base.objects o)
 
 -- ---- what there is at it
 
@@ -107,13 +107,13 @@ abbrev pub planned_in : {M : Type 0} → Moment M → ℕ → Kept
 planned_in m n = planned m.sizes m.base m.state.history (others_in m n) m.kept
 
 -- the image after the next write of a commit that has so many left
-abbrev pub written_in : {M : Type 0} → Moment M → Item → (left : ℕ) → Image
+abbrev pub written_in : {M : Type 0} → Moment M → FinishRecord → (left : ℕ) → Image
 written_in m i left =
     after_write m.kept.plan
     (target m.sizes (commit_writes m.sizes m.base m.state.history i - left) i.run.writes) m.image
 
 -- how many writes of a commit are beside its objects' words
-abbrev pub late_in : {M : Type 0} → Moment M → Item → ℕ
+abbrev pub late_in : {M : Type 0} → Moment M → FinishRecord → ℕ
 late_in m i = late_writes m.sizes m.base m.state.history i
 
 -- what tables keep of core k's attempt

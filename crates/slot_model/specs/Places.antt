@@ -2,8 +2,8 @@
 use Rattle.std.specs.Prelude.{ℕ, zero, suc, ◌+◌, ◌==◌, Bool, ◌&&◌, List, Option, Some, None, unwrap_or, if◌then◌else◌}
 use Rattle.std.specs.List.{list_any}
 use Rattle.kernel_model.specs.Sizes.{Sizes}
-use Rattle.kernel_model.specs.Items.{Item}
-use Rattle.kernel_model.specs.Replay.{Base}
+use Rattle.kernel_model.specs.Items.{FinishRecord}
+use Rattle.kernel_model.specs.Replay.{DeviceState}
 use Rattle.kernel_model.specs.Cores.{Core}
 use Rattle.kernel_model.specs.Room.{is_needed}
 use Rattle.slot_model.specs.Kept.{Held, Kept, must_stand}
@@ -18,13 +18,13 @@ free_from k zero taken = None
 free_from k (suc slots) taken = if taken k then free_from (k + 1) slots taken else Some k
 
 -- the least slot of an object that has neither the newest version nor one that the others need
-abbrev pub free_slot : {M : Type 0} → Sizes → Base → List Item → List (Core M) → Kept → ℕ → Option ℕ
+abbrev pub free_slot : {M : Type 0} → Sizes → DeviceState → List FinishRecord → List (Core M) → Kept → ℕ → Option ℕ
 free_slot sizes base history others kept o =
     free_from 0 (sizes.slots o)
     (is_taken (must_stand (is_needed base history o others)) (kept.chains o))
 
 -- the slots for the versions of a finish that is granted
-abbrev pub planned : {M : Type 0} → Sizes → Base → List Item → List (Core M) → Kept → Kept
+abbrev pub planned : {M : Type 0} → Sizes → DeviceState → List FinishRecord → List (Core M) → Kept → Kept
 planned sizes base history others kept = record kept {
   plan = λ o. unwrap_or (free_slot sizes base history others kept o) 0;
 }

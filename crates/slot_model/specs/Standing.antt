@@ -2,10 +2,10 @@
 use Rattle.std.specs.Prelude.{◌≡◌, ℕ, ◌-◌, ◌<◌, ◌≤◌, Bool, true, List, [], ◌∷◌, Option, Some, get_or}
 use Rattle.std.specs.List.{AllByRecursion}
 use Rattle.kernel_model.specs.Sizes.{Sizes}
-use Rattle.kernel_model.specs.Effects.{Write, words_of, written}
-use Rattle.kernel_model.specs.Runs.{Steps}
-use Rattle.kernel_model.specs.Items.{Item}
-use Rattle.kernel_model.specs.Replay.{Base, max_id, next_id}
+use Rattle.kernel_model.specs.Effects.{Write, object_words, written}
+use Rattle.kernel_model.specs.Runs.{TaskMachine}
+use Rattle.kernel_model.specs.Items.{FinishRecord}
+use Rattle.kernel_model.specs.Replay.{DeviceState, max_id, next_id}
 use Rattle.kernel_model.specs.Versions.{Read, Version, versions}
 use Rattle.kernel_model.specs.Intervals.{Interval}
 use Rattle.kernel_model.specs.Cores.{Core, Idle, Copying, Committing}
@@ -42,8 +42,8 @@ IsPinned chains k [] = Unit {0}
 IsPinned chains k (r ∷ reads) = is_there k r.writer (chains r.object) ≡ true
 
 -- a commit under way with so many writes left: its slots are spare, and its first words stand there
-pub record IsUnderWay {M : Type 0} (sizes : Sizes) (base : Base) (history : List Item)
-    (cores : List (Core M)) (kept : Kept) (image : Image) (i : Item) (left : ℕ) : Type 0 where
+pub record IsUnderWay {M : Type 0} (sizes : Sizes) (base : DeviceState) (history : List FinishRecord)
+    (cores : List (Core M)) (kept : Kept) (image : Image) (i : FinishRecord) (left : ℕ) : Type 0 where
   pub few : left ≤ commit_writes sizes base history i
   pub spare : AllByRecursion
       (λ w. IsSpare (sizes.slots w.object) (is_needed base history w.object cores)
@@ -52,7 +52,7 @@ pub record IsUnderWay {M : Type 0} (sizes : Sizes) (base : Base) (history : List
       (commit_writes sizes base history i - left) i.run.writes
 
 -- what core n needs of slots
-abbrev pub IsServed : {M : Type 0} → Sizes → Base → List Item → List (Core M) → Kept → Image → ℕ
+abbrev pub IsServed : {M : Type 0} → Sizes → DeviceState → List FinishRecord → List (Core M) → Kept → Image → ℕ
     → Core M → Type 0
 IsServed sizes base history cores kept image n (Copying a copied) =
     IsPinned kept.chains (kept.pins n) a.reads
@@ -61,7 +61,7 @@ IsServed sizes base history cores kept image n (Committing i left) =
 IsServed sizes base history cores kept image n _ = Unit {0}
 
 -- the image and what is kept stand for a history and what cores do, where the clock at the last boot was floor
-pub record Stands {M : Type 0} (sizes : Sizes) (base : Base) (floor : ℕ) (history : List Item)
+pub record Stands {M : Type 0} (sizes : Sizes) (base : DeviceState) (floor : ℕ) (history : List FinishRecord)
     (cores : List (Core M)) (kept : Kept) (image : Image) : Type 0 where
   pub starts : (k : ℕ) (i : Interval) → interval_of base history (get_or cores k Idle) ≡ Some i
       → floor ≤ i.lo
@@ -72,26 +72,26 @@ pub record Stands {M : Type 0} (sizes : Sizes) (base : Base) (floor : ℕ) (hist
   pub served : (n : ℕ) → IsServed sizes base history cores kept image n (get_or cores n Idle)
 
 -- they stand for a state
-pub record StandsFor {M : Type 0} (sizes : Sizes) (base : Base) (floor : ℕ) (s : State M)
+pub record StandsFor {M : Type 0} (sizes : Sizes) (base : DeviceState) (floor : ℕ) (s : State M)
     (kept : Kept) (image : Image) : Type 0 where
   pub since : IsFloor base floor s
   pub stands : Stands sizes base floor s.history s.cores kept image
 
 -- what must be true of the state. It is so after any events of a run: laws of the kernel's model
-pub record IsLawful {M : Type 0} (steps : Steps M) (sizes : Sizes) (base : Base) (s : State M)
+pub record IsLawful {M : Type 0} (steps : TaskMachine M) (sizes : Sizes) (base : DeviceState) (s : State M)
     : Type 0 where
   pub set_up : IsSetUp steps sizes base
   pub sound : IsSound steps sizes base s
   pub ids : next_id base s.history ≤ max_id
 
 -- the slots that the durable index names have the durable objects
-pub record IsNamed {M : Type 0} (sizes : Sizes) (base : Base) (s : State M) (kept : Kept)
+pub record IsNamed {M : Type 0} (sizes : Sizes) (base : DeviceState) (s : State M) (kept : Kept)
     (image : Image) (o : ℕ) : Type 0 where
   pub slot : named_slot s kept o < sizes.slots o
-  pub words : image o (named_slot s kept o) ≡ words_of (state_left base (listed s)).objects o
+  pub words : image o (named_slot s kept o) ≡ object_words (state_left base (listed s)).objects o
 
 -- a commit may write its version of an object: its slot has no version that must stand, and is not that of the newest
-pub record IsFree {M : Type 0} (sizes : Sizes) (base : Base) (history : List Item)
+pub record IsFree {M : Type 0} (sizes : Sizes) (base : DeviceState) (history : List FinishRecord)
     (cores : List (Core M)) (kept : Kept) (w : Write) : Type 0 where
   pub object : w.object < sizes.objects
   pub spare : IsSpare (sizes.slots w.object) (is_needed base history w.object cores)
@@ -117,7 +117,7 @@ pub record IsTarget (sizes : Sizes) (kept : Kept) (ws : List Write) (t : Target)
   pub word_is : t.word ≡ get_or words t.place 0
 
 -- what a kernel keeps stands for a state: what must stand does, and its tables and its views of attempts are those of the state
-pub record IsTabled {M : Type 0} (sizes : Sizes) (base : Base) (floor : ℕ) (s : State M)
+pub record IsTabled {M : Type 0} (sizes : Sizes) (base : DeviceState) (floor : ℕ) (s : State M)
     (kept : Kept) (image : Image) (t : Tables) (views : ℕ → Option View) : Type 0 where
   pub stands : StandsFor sizes base floor s kept image
   pub tables : AreTables sizes base floor s.history kept t

@@ -2,8 +2,8 @@
 use Rattle.std.specs.Prelude.{◌≡◌, ℕ, suc, ◌-◌, nat_lt, List, [], ◌∷◌, ◌++◌, get_or, take, Option, Some, None, if◌then◌else◌}
 use Rattle.kernel_model.specs.Sizes.{Sizes}
 use Rattle.kernel_model.specs.Effects.{Write}
-use Rattle.kernel_model.specs.Items.{Item}
-use Rattle.kernel_model.specs.Replay.{Base}
+use Rattle.kernel_model.specs.Items.{FinishRecord}
+use Rattle.kernel_model.specs.Replay.{DeviceState}
 use Rattle.kernel_model.specs.OpenTasks.{open_tasks}
 use Rattle.kernel_model.specs.Cores.{Core, Committing}
 use Rattle.kernel_model.specs.Turns.{commit_writes}
@@ -29,12 +29,12 @@ after_write plan None image = image
 after_write plan (Some t) image = with_word t.object (plan t.object) t.place t.word image
 
 -- the writes of a commit beside its objects' words, where it joins this history
-abbrev pub late_writes : Sizes → Base → List Item → Item → ℕ
+abbrev pub late_writes : Sizes → DeviceState → List FinishRecord → FinishRecord → ℕ
 late_writes sizes base history i =
     sizes.index_writes (open_tasks base history) (open_tasks base (i ∷ history)) i.run.writes
 
 -- the image after a core's turn
-abbrev pub image_turn : {M : Type 0} → Sizes → Base → List Item → (plan : ℕ → ℕ) → Core M → Image
+abbrev pub image_turn : {M : Type 0} → Sizes → DeviceState → List FinishRecord → (plan : ℕ → ℕ) → Core M → Image
     → Image
 image_turn sizes base history plan (Committing i (suc left)) image =
     after_write plan

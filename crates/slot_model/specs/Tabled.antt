@@ -3,8 +3,8 @@ use Rattle.std.specs.Prelude.{◌≡◌, ◌<◌, ℕ, zero, suc, ◌+◌, ◌-�
 use Rattle.std.specs.List.{list_any}
 use Rattle.kernel_model.specs.Sizes.{Sizes}
 use Rattle.kernel_model.specs.Effects.{Run, Write, written}
-use Rattle.kernel_model.specs.Items.{Item}
-use Rattle.kernel_model.specs.Replay.{Base, clock_of, next_id}
+use Rattle.kernel_model.specs.Items.{FinishRecord}
+use Rattle.kernel_model.specs.Replay.{DeviceState, clock_of, next_id}
 use Rattle.kernel_model.specs.OpenTasks.{open_tasks}
 use Rattle.kernel_model.specs.Versions.{Read, Version}
 use Rattle.kernel_model.specs.Intervals.{Interval, is_empty, point_of, read_interval, sooner}
@@ -49,7 +49,7 @@ abbrev pub with_place : Place → Interval → Interval
 with_place p i = record { lo = max p.begin i.lo; hi = sooner p.end i.hi }
 
 -- whether a finish writes an object that was read
-abbrev pub is_written_read : Item → List Read → Bool
+abbrev pub is_written_read : FinishRecord → List Read → Bool
 is_written_read i reads = list_any (λ r. is_some (written i.run.writes r.object)) reads
 
 -- a slot that a core copies from
@@ -68,7 +68,7 @@ pin_of slot [] = None
 pin_of slot (r ∷ reads) = Some (record { object = r.object; slot = slot })
 
 -- what is kept of a core's attempt, if it has one
-abbrev pub view_of : {M : Type 0} → Base → List Item → (slot : ℕ) → Core M → Option View
+abbrev pub view_of : {M : Type 0} → DeviceState → List FinishRecord → (slot : ℕ) → Core M → Option View
 view_of base history slot Idle = None
 view_of base history slot (Running a) =
     Some (record { interval = read_interval base history a.start a.reads; copying = None })
@@ -84,7 +84,7 @@ with_view None views = views
 with_view (Some v) views = v ∷ views
 
 -- of all attempts, where the first of these cores has this number
-abbrev pub views_of : {M : Type 0} → Base → List Item → (pins : ℕ → ℕ) → (k : ℕ) → List (Core M)
+abbrev pub views_of : {M : Type 0} → DeviceState → List FinishRecord → (pins : ℕ → ℕ) → (k : ℕ) → List (Core M)
     → List View
 views_of base history pins k [] = []
 views_of base history pins k (c ∷ cores) =
@@ -122,7 +122,7 @@ pub record Tables : Type 0 where
   pub pending : ℕ  -- as many tasks are open
 
 -- they are those of a history, where the clock at the last boot was floor
-pub record AreTables (sizes : Sizes) (base : Base) (floor : ℕ) (history : List Item) (kept : Kept)
+pub record AreTables (sizes : Sizes) (base : DeviceState) (floor : ℕ) (history : List FinishRecord) (kept : Kept)
     (t : Tables) : Type 0 where
   pub places : (o : ℕ) → o < sizes.objects → t.places o ≡ places_of (kept.chains o)
   pub bounds : (o : ℕ) → o < sizes.objects → t.bounds o ≡ bound_of floor o history
@@ -139,7 +139,7 @@ full_object sizes places views (w ∷ ws) =
     then full_object sizes places views ws else Some w.object
 
 -- the finish that is granted
-abbrev pub table_finish : Tables → (task : ℕ) → Run → Interval → Item
+abbrev pub table_finish : Tables → (task : ℕ) → Run → Interval → FinishRecord
 table_finish t task run i = record {
   number = t.number + 1;
   task = task;
@@ -164,7 +164,7 @@ table_verdict sizes t others task reads run =
     else table_room sizes t task run i (full_object sizes t.places others run.writes)
 
 -- after a finish, with its versions in these slots
-abbrev pub tables_with : Item → (plan : ℕ → ℕ) → Tables → Tables
+abbrev pub tables_with : FinishRecord → (plan : ℕ → ℕ) → Tables → Tables
 tables_with i plan t = record {
   places = λ o. elim (written i.run.writes o) [
     | None ↦ t.places o
@@ -178,7 +178,7 @@ tables_with i plan t = record {
 }
 
 -- after a boot, of what the durable index says
-abbrev pub fresh_tables : (named : ℕ → ℕ) → Base → Tables
+abbrev pub fresh_tables : (named : ℕ → ℕ) → DeviceState → Tables
 fresh_tables named state = record {
   places = λ o. record { slot = named o; begin = state.clock; end = None } ∷ [];
   bounds = λ o. state.clock;
@@ -189,7 +189,7 @@ fresh_tables named state = record {
 }
 
 -- an outside read, by tables: the place that is chosen, and the interval after
-pub record IsRead (sizes : Sizes) (base : Base) (history : List Item) (start : ℕ)
+pub record IsRead (sizes : Sizes) (base : DeviceState) (history : List FinishRecord) (start : ℕ)
     (reads : List Read) (o : ℕ) (places : List Place) (image : Image) (v : Version) : Type 0 where
   pub place : Place
   pub chosen_is : chosen_place (read_interval base history start reads).hi places ≡ Some place
@@ -199,7 +199,7 @@ pub record IsRead (sizes : Sizes) (base : Base) (history : List Item) (start : �
       ≡ with_place place (read_interval base history start reads)
 
 -- the tables after a finish, if one joins
-abbrev pub tables_joined : Option Item → (plan : ℕ → ℕ) → Tables → Tables
+abbrev pub tables_joined : Option FinishRecord → (plan : ℕ → ℕ) → Tables → Tables
 tables_joined None plan t = t
 tables_joined (Some i) plan t = tables_with i plan t
 
@@ -212,7 +212,7 @@ reads_of (Ready a outcome) = a.reads
 reads_of (Committing i left) = []
 
 -- what is kept of an attempt with these reads after a finish, if one joins
-abbrev pub cut_view : Option Item → List Read → Option View → Option View
+abbrev pub cut_view : Option FinishRecord → List Read → Option View → Option View
 cut_view None reads view = view
 cut_view (Some i) reads None = None
 cut_view (Some i) reads (Some v) =

@@ -1,6 +1,6 @@
 -- Worked runs, computed: what stands in each slot, what is kept, and which slot is free. This project's own.
 use Rattle.std.specs.Prelude.{◌≡◌, ℕ, zero, suc, ◌+◌, ◌==◌, List, [], ◌∷◌, ◌++◌, length, get_or, set, replicate, Option, Some, None, if◌then◌else◌}
-use Rattle.kernel_model.specs.Effects.{words_of}
+use Rattle.kernel_model.specs.Effects.{object_words}
 use Rattle.kernel_model.specs.Replay.{clock_of, next_id}
 use Rattle.kernel_model.specs.Intervals.{read_interval}
 use Rattle.kernel_model.specs.OpenTasks.{open_tasks}
@@ -16,7 +16,7 @@ use Rattle.slot_model.specs.Tabled.{Place, Tables, View, free_place, installed, 
 
 -- the base's words in slot 0 of each object, and zeros in the others
 abbrev pub formatted_image : Scene → Image
-formatted_image x o k = if k == 0 then words_of x.base.objects o else replicate (x.sizes.size o) 0
+formatted_image x o k = if k == 0 then object_words x.base.objects o else replicate (x.sizes.size o) 0
 
 -- the state after some events
 abbrev pub state_of : Scene → List Event → State Task

@@ -9,10 +9,10 @@ ghost use Rattle.kernel_model.specs.Events.{with_finish};
 ghost use Rattle.kernel_model.specs.Fit.{AreSized, IsRun, IsBase, HasIds};
 ghost use Rattle.kernel_model.specs.History.{IsAttempt, RestOnReads};
 ghost use Rattle.kernel_model.specs.Intervals.{is_empty, read_interval};
-ghost use Rattle.kernel_model.specs.Items.{Item};
-ghost use Rattle.kernel_model.specs.Live.{Live, Mark, Answer, begin_call, fetch_call, added_by, attempt_of, cores_of, lost};
+ghost use Rattle.kernel_model.specs.Items.{FinishRecord};
+ghost use Rattle.kernel_model.specs.Live.{CallState, Mark, Answer, begin_call, fetch_call, added_by, attempt_of, cores_of, lost};
 ghost use Rattle.kernel_model.specs.LiveSound.{IsLiveState};
-ghost use Rattle.kernel_model.specs.Replay.{Base};
+ghost use Rattle.kernel_model.specs.Replay.{DeviceState};
 ghost use Rattle.kernel_model.specs.Sizes.{Sizes};
 ghost use Rattle.kernel_model.specs.Verdicts.{verdict, Verdict};
 ghost use Rattle.kernel_model.specs.Versions.{Version, chosen, read_words};
@@ -31,9 +31,9 @@ ghost use Rattle.kernel_model.specs.Room.{has_room};
 
 /// Before the first call the base's versions stand, in the slots that the device names.
 pub fn first_slots_stand()
-    ensures { (sizes : Sizes) (base : Base) (callers limit : ℕ) (named : ℕ → ℕ) (image : Image)
+    ensures { (sizes : Sizes) (base : DeviceState) (callers limit : ℕ) (named : ℕ → ℕ) (image : Image)
         → IsSized sizes image → HoldBase sizes base named image
-        → (let s : Live = record {
+        → (let s : CallState = record {
           history = [];
           marks = replicate callers None;
           loss = None;
@@ -43,7 +43,7 @@ pub fn first_slots_stand()
 
 /// What must be true of a state is so in each state that the calls keep, with ids for the children of its finishes.
 pub fn live_state_is_lawful()
-    ensures { (whole : Programs) (sizes : Sizes) (base : Base) (s : Live) → RestOnReads whole
+    ensures { (whole : Programs) (sizes : Sizes) (base : DeviceState) (s : CallState) → RestOnReads whole
         → ((program arg : ℕ) (objects : Objects) → AreSized sizes objects
         → IsRun sizes (whole program arg objects))
         → IsBase sizes base → IsLiveState whole base s → HasIds base (length s.history)
@@ -108,7 +108,7 @@ pub fn caller_free_slot_by_tables()
 
 /// What is kept of each caller's attempt gives what is kept of the others of a caller.
 pub fn views_of_other_callers()
-    ensures { (base : Base) (history : List Item) (pins : ℕ → ℕ) (views : ℕ → Option View)
+    ensures { (base : DeviceState) (history : List FinishRecord) (pins : ℕ → ℕ) (views : ℕ → Option View)
         → (marks : List (Option Mark)) (n : ℕ)
         → ((k : ℕ) → views k ≡ mark_view base history (get_or marks k None))
         → others_views views n 0 (length marks)
@@ -132,7 +132,7 @@ pub fn finish_leaves()
 
 /// A grant begins a commit within the call, with the least free slots as its plan.
 pub fn grant_begins_commit()
-    ensures { (m : LiveMoment) (n : ℕ) (k : Mark) (run : Run) (i : Item)
+    ensures { (m : LiveMoment) (n : ℕ) (k : Mark) (run : Run) (i : FinishRecord)
         → IsLiveStanding m → mark_in m n ≡ Some k
         → IsAttempt m.whole m.base m.state.history k.task k.start k.reads (λ x. run)
         → (let others = cores_of (all_but n m.state.marks) in
@@ -143,20 +143,20 @@ pub fn grant_begins_commit()
 
 /// Each of its writes puts its word into its slot, if it is an object's.
 pub fn commit_writes_word()
-    ensures { (m : LiveMoment) (n left : ℕ) (i : Item) → IsLiveCommitting m n i (suc left)
+    ensures { (m : LiveMoment) (n left : ℕ) (i : FinishRecord) → IsLiveCommitting m n i (suc left)
         → (let word = target m.sizes (live_writes m i - suc left) i.run.writes in
         CommitsLive (record m { image = after_write m.kept.plan word m.image }) n i left) }
 {}
 
 /// The writes of the index, and the last one, put no word into a slot.
 pub fn commit_writes_index()
-    ensures { (m : LiveMoment) (n left : ℕ) (i : Item) → IsLiveCommitting m n i (suc left)
+    ensures { (m : LiveMoment) (n left : ℕ) (i : FinishRecord) → IsLiveCommitting m n i (suc left)
         → suc left ≤ live_late m i → CommitsLive m n i left }
 {}
 
 /// It writes only to slots with no version that must stand, and each word to a place there.
 pub fn commit_takes_spare_slots()
-    ensures { (m : LiveMoment) (n left : ℕ) (i : Item) → IsLiveCommitting m n i left
+    ensures { (m : LiveMoment) (n left : ℕ) (i : FinishRecord) → IsLiveCommitting m n i left
         → (let cores = committing m.state n i left in
         AllByRecursion (IsFree m.sizes m.base m.state.history cores m.kept) i.run.writes
         × ((made : ℕ) (t : Target) → target m.sizes made i.run.writes ≡ Some t
@@ -165,7 +165,7 @@ pub fn commit_takes_spare_slots()
 
 /// At its end the finish has its versions in the slots of its plan.
 pub fn receipt_keeps_slots()
-    ensures { (m : LiveMoment) (n : ℕ) (k : Mark) (run : Run) (i : Item) (device : Option ℕ)
+    ensures { (m : LiveMoment) (n : ℕ) (k : Mark) (run : Run) (i : FinishRecord) (device : Option ℕ)
         → IsLiveCommitting m n i 0 → (finished m n k run device).1 ≡ Answer.Receipt i
         → (let after = (finished m n k run device).0 in
         StandsLive (record m { state = after; kept = with_finished (Some i) m.kept })) }
@@ -173,7 +173,7 @@ pub fn receipt_keeps_slots()
 
 /// It changes the tables by its point, its writes, its reads and its spawns, and cuts the intervals of those that read what it writes.
 pub fn receipt_changes_tables()
-    ensures { (m : LiveMoment) (t : Tables) (n left : ℕ) (i : Item)
+    ensures { (m : LiveMoment) (t : Tables) (n left : ℕ) (i : FinishRecord)
         → IsLiveCommitting m n i left → AreLiveTables m t
         → (let later = i ∷ m.state.history in
         AreTables m.sizes m.base m.base.clock later (with_finished (Some i) m.kept)
@@ -184,7 +184,7 @@ pub fn receipt_changes_tables()
 
 /// What the others have read keeps its words.
 pub fn callers_copies_stay()
-    ensures { (m : LiveMoment) (n c left : ℕ) (i : Item) (k : Mark)
+    ensures { (m : LiveMoment) (n c left : ℕ) (i : FinishRecord) (k : Mark)
         → IsLiveCommitting m n i left → mark_in m c ≡ Some k
         → (let before = m.state.history in
         AllByRecursion (λ r. read_words m.base (i ∷ before) r ≡ read_words m.base before r)
@@ -193,7 +193,7 @@ pub fn callers_copies_stay()
 
 /// A loss within it leaves what stood before.
 pub fn lost_commit_keeps_slots()
-    ensures { (m : LiveMoment) (n left losses : ℕ) (i : Item) → IsLiveCommitting m n i left
+    ensures { (m : LiveMoment) (n left losses : ℕ) (i : FinishRecord) → IsLiveCommitting m n i left
         → StandsLive (record m { state = (lost m.state n losses).0 }) }
 {}
 
@@ -205,7 +205,7 @@ pub fn newest_slots_hold()
 
 /// So they do at each write of a commit, and the slots of its plan have what it leaves once its objects' words are written.
 pub fn commit_slots_hold()
-    ensures { (m : LiveMoment) (n left o : ℕ) (i : Item)
+    ensures { (m : LiveMoment) (n left o : ℕ) (i : FinishRecord)
         → IsLiveCommitting m n i left → o < m.sizes.objects
         → HoldsLeft m m.state.history o (live_newest m o) × (left ≤ live_late m i
         → HoldsLeft m (i ∷ m.state.history) o

@@ -5,8 +5,8 @@ ghost use Rattle.kernel_model.specs.Cores.{Core};
 ghost use Rattle.kernel_model.specs.Durable.{flipped_by};
 ghost use Rattle.kernel_model.specs.Effects.{written};
 ghost use Rattle.kernel_model.specs.Events.{Event, Power};
-ghost use Rattle.kernel_model.specs.Items.{Item};
-ghost use Rattle.kernel_model.specs.Replay.{Base};
+ghost use Rattle.kernel_model.specs.Items.{FinishRecord};
+ghost use Rattle.kernel_model.specs.Replay.{DeviceState};
 ghost use Rattle.kernel_model.specs.Sizes.{Sizes};
 ghost use Rattle.slot_model.specs.Changes.{afresh, first_kept, named_slot};
 ghost use Rattle.slot_model.specs.Tabled.{AreTables, fresh_tables};
@@ -25,13 +25,13 @@ pub fn named_slots_stay<M>()
 
 /// While a commit has writes left the newest slots are named.
 pub fn commit_names_newest<M>()
-    ensures { (m : Moment M) (n left o : ℕ) (i : Item)
+    ensures { (m : Moment M) (n left o : ℕ) (i : FinishRecord)
         → IsLawfulIn m → core_in m n ≡ Core.Committing i (suc left) → named_in m o ≡ newest_in m o }
 {}
 
 /// The last write of a commit names the slots of its plan for what it writes, and before it the old ones are named.
 pub fn last_write_names_plan<M>()
-    ensures { (m : Moment M) (e : Event) (i : Item) (o : ℕ)
+    ensures { (m : Moment M) (e : Event) (i : FinishRecord) (o : ℕ)
         → IsLawfulIn m → flipped_by m.state e ≡ Some i
         → (named_in m o ≡ newest_in m o) × (named_in (after_event m e) o
         ≡ (if is_some (written i.run.writes o) then m.kept.plan o else newest_in m o)) }
@@ -51,6 +51,6 @@ pub fn tables_begin_at_boot<M>()
 
 /// So are those at first.
 pub fn first_tables()
-    ensures { (sizes : Sizes) (base : Base) (named : ℕ → ℕ)
+    ensures { (sizes : Sizes) (base : DeviceState) (named : ℕ → ℕ)
         → AreTables sizes base base.clock [] (first_kept base named) (fresh_tables named base) }
 {}

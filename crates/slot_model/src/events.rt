@@ -4,7 +4,7 @@ ghost use Rattle.std.specs.Prelude.{ℕ, ◌≡◌, ◌≤◌, ◌∷◌, Some, 
 ghost use Rattle.kernel_model.specs.Cores.{Attempt, Core};
 ghost use Rattle.kernel_model.specs.Effects.{Outcome};
 ghost use Rattle.kernel_model.specs.Events.{Event, event_step, Power, durable_commit, with_finish};
-ghost use Rattle.kernel_model.specs.Items.{Item};
+ghost use Rattle.kernel_model.specs.Items.{FinishRecord};
 ghost use Rattle.kernel_model.specs.Replay.{clock_of};
 ghost use Rattle.kernel_model.specs.Versions.{Read, chosen};
 ghost use Rattle.slot_model.specs.Changes.{afresh, is_calm, put_at, with_finished};
@@ -34,7 +34,7 @@ pub fn read_keeps<M>()
 
 /// A grant chooses the least free slot for each version, and remembers them until the commit ends.
 pub fn grant_keeps<M>()
-    ensures { (m : Moment M) (n left : ℕ) (a : Attempt M) (outcome : Outcome) (i : Item)
+    ensures { (m : Moment M) (n left : ℕ) (a : Attempt M) (outcome : Outcome) (i : FinishRecord)
         → IsStanding m → m.state.power ≡ Power.On → core_in m n ≡ Core.Ready a outcome
         → next_core m n (Core.Ready a outcome) ≡ Core.Committing i left
         → StandsIn (record (stepped m n) { kept = planned_in m n }) }
@@ -42,21 +42,21 @@ pub fn grant_keeps<M>()
 
 /// A write of a commit puts its word into its slot, if it is an object's.
 pub fn write_keeps<M>()
-    ensures { (m : Moment M) (n left : ℕ) (i : Item)
+    ensures { (m : Moment M) (n left : ℕ) (i : FinishRecord)
         → IsStanding m → m.state.power ≡ Power.On → core_in m n ≡ Core.Committing i (suc left)
         → StandsIn (record (stepped m n) { image = written_in m i (suc left) }) }
 {}
 
 /// The writes of the index, and the last one, put no word into a slot.
 pub fn index_write_keeps<M>()
-    ensures { (m : Moment M) (n left : ℕ) (i : Item)
+    ensures { (m : Moment M) (n left : ℕ) (i : FinishRecord)
         → IsStanding m → m.state.power ≡ Power.On → core_in m n ≡ Core.Committing i (suc left)
         → suc left ≤ late_in m i → StandsIn (stepped m n) }
 {}
 
 /// A finish that joins has its versions in the slots of its plan.
 pub fn finish_keeps<M>()
-    ensures { (m : Moment M) (n : ℕ) (i : Item)
+    ensures { (m : Moment M) (n : ℕ) (i : FinishRecord)
         → IsStanding m → m.state.power ≡ Power.On → core_in m n ≡ Core.Committing i 0
         → StandsIn (record (stepped m n) { kept = with_finished (Some i) m.kept }) }
 {}

@@ -3,7 +3,7 @@
 ghost use Rattle.std.specs.Prelude.{ℕ, ◌≡◌, Option, None};
 ghost use Rattle.kernel_model.specs.Chain.{joining};
 ghost use Rattle.kernel_model.specs.Events.{Event, Power, opened};
-ghost use Rattle.kernel_model.specs.Replay.{Base};
+ghost use Rattle.kernel_model.specs.Replay.{DeviceState};
 ghost use Rattle.kernel_model.specs.Sizes.{Sizes};
 ghost use Rattle.slot_model.specs.Changes.{first_kept, put_at};
 ghost use Rattle.slot_model.specs.Slots.{Image, IsSized};
@@ -13,7 +13,7 @@ ghost use Rattle.slot_model.specs.Moments.{Moment, HoldBase, IsLawfulIn, IsStand
 
 /// At first the tables that begin with the base, with no view, are those of the state.
 pub fn first_tables_stand<M>()
-    ensures { (sizes : Sizes) (base : Base) (cores : ℕ) (power : Power) (boots : ℕ) (named : ℕ → ℕ)
+    ensures { (sizes : Sizes) (base : DeviceState) (cores : ℕ) (power : Power) (boots : ℕ) (named : ℕ → ℕ)
         → (image : Image) (views : ℕ → Option View)
         → IsSized sizes image → HoldBase sizes base named image → ((k : ℕ) → views k ≡ None)
         → IsTabled {M = M} sizes base base.clock (opened cores power boots) (first_kept base named)

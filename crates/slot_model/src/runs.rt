@@ -4,8 +4,8 @@ ghost use Rattle.std.specs.Prelude.{ℕ, ◌<◌, ◌+◌, length};
 ghost use Rattle.kernel_model.specs.Events.{Event, State, Power, opened};
 ghost use Rattle.kernel_model.specs.Execution.{Execution, state_at};
 ghost use Rattle.kernel_model.specs.Fit.{IsSetUp, HasIds};
-ghost use Rattle.kernel_model.specs.Replay.{Base};
-ghost use Rattle.kernel_model.specs.Runs.{Steps};
+ghost use Rattle.kernel_model.specs.Replay.{DeviceState};
+ghost use Rattle.kernel_model.specs.Runs.{TaskMachine};
 ghost use Rattle.kernel_model.specs.Sizes.{Sizes};
 ghost use Rattle.kernel_model.specs.Sound.{IsSound};
 ghost use Rattle.slot_model.specs.Changes.{Beside, first_kept};
@@ -15,7 +15,7 @@ ghost use Rattle.slot_model.specs.Moments.{Moment, HoldBase, IsLawfulIn, IsNamed
 
 /// At first the base's versions stand, in the slots that the device names.
 pub fn first_state_stands<M>()
-    ensures { (sizes : Sizes) (base : Base) (cores : ℕ) (power : Power) (boots : ℕ) (named : ℕ → ℕ)
+    ensures { (sizes : Sizes) (base : DeviceState) (cores : ℕ) (power : Power) (boots : ℕ) (named : ℕ → ℕ)
         → (image : Image) → IsSized sizes image → HoldBase sizes base named image
         → StandsFor {M = M} sizes base base.clock (opened cores power boots) (first_kept base named)
         image }
@@ -28,7 +28,7 @@ pub fn run_is_lawful<M>()
 
 /// It is so in each sound state with ids for the children of its finishes.
 pub fn sound_state_is_lawful<M>()
-    ensures { (steps : Steps M) (sizes : Sizes) (base : Base) (s : State M)
+    ensures { (steps : TaskMachine M) (sizes : Sizes) (base : DeviceState) (s : State M)
         → IsSetUp steps sizes base → IsSound steps sizes base s → HasIds base (length s.history)
         → IsLawful steps sizes base s }
 {}

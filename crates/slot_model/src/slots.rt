@@ -7,8 +7,8 @@ ghost use Rattle.kernel_model.specs.Effects.{Write};
 ghost use Rattle.kernel_model.specs.Events.{Event};
 ghost use Rattle.kernel_model.specs.Fit.{IsWrite};
 ghost use Rattle.kernel_model.specs.Intervals.{Interval, is_empty};
-ghost use Rattle.kernel_model.specs.Items.{Item};
-ghost use Rattle.kernel_model.specs.Replay.{Base};
+ghost use Rattle.kernel_model.specs.Items.{FinishRecord};
+ghost use Rattle.kernel_model.specs.Replay.{DeviceState};
 ghost use Rattle.kernel_model.specs.Room.{is_needed, has_room};
 ghost use Rattle.kernel_model.specs.Sizes.{Sizes};
 ghost use Rattle.kernel_model.specs.Versions.{Read, Version, chosen, read_words};
@@ -27,7 +27,7 @@ pub fn free_slot_is_room<M>()
 
 /// It is the least slot with no version that must stand.
 pub fn free_slot_is_least<M>()
-    ensures { (sizes : Sizes) (base : Base) (history : List Item) (others : List (Core M))
+    ensures { (sizes : Sizes) (base : DeviceState) (history : List FinishRecord) (others : List (Core M))
         → (kept : Kept) (o k : ℕ) → free_slot sizes base history others kept o ≡ Some k
         → (let needed = is_needed base history o others in
         IsSpare (sizes.slots o) needed (kept.chains o) k
@@ -68,7 +68,7 @@ pub fn newest_version_stands<M>()
 
 /// A commit under way writes only to slots with no version that must stand, and so never to that of the newest.
 pub fn taken_slot_is_spare<M>()
-    ensures { (m : Moment M) (n left : ℕ) (i : Item)
+    ensures { (m : Moment M) (n left : ℕ) (i : FinishRecord)
         → IsStanding m → core_in m n ≡ Core.Committing i left
         → AllByRecursion (IsFree m.sizes m.base m.state.history m.state.cores m.kept) i.run.writes }
 {}
@@ -81,7 +81,7 @@ pub fn words_are_listed()
 
 /// Each word of it goes to a place in such a slot.
 pub fn word_goes_to_place<M>()
-    ensures { (m : Moment M) (n left made : ℕ) (i : Item) (t : Target)
+    ensures { (m : Moment M) (n left made : ℕ) (i : FinishRecord) (t : Target)
         → IsStanding m → core_in m n ≡ Core.Committing i left
         → target m.sizes made i.run.writes ≡ Some t → IsTarget m.sizes m.kept i.run.writes t }
 {}

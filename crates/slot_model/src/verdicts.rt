@@ -8,8 +8,8 @@ ghost use Rattle.kernel_model.specs.Effects.{Outcome};
 ghost use Rattle.kernel_model.specs.Events.{Event};
 ghost use Rattle.kernel_model.specs.History.{AreFound};
 ghost use Rattle.kernel_model.specs.Intervals.{is_empty, read_interval};
-ghost use Rattle.kernel_model.specs.Items.{Item};
-ghost use Rattle.kernel_model.specs.Replay.{Base};
+ghost use Rattle.kernel_model.specs.Items.{FinishRecord};
+ghost use Rattle.kernel_model.specs.Replay.{DeviceState};
 ghost use Rattle.kernel_model.specs.Room.{is_needed};
 ghost use Rattle.kernel_model.specs.Sizes.{Sizes};
 ghost use Rattle.kernel_model.specs.Verdicts.{verdict};
@@ -62,7 +62,7 @@ pub fn verdict_by_tables<M>()
 
 /// An attempt that has opened a read has the interval that the place gives, and copies from there.
 pub fn read_view_by_table<M>()
-    ensures { (sizes : Sizes) (base : Base) (history : List Item) (start o copied : ℕ)
+    ensures { (sizes : Sizes) (base : DeviceState) (history : List FinishRecord) (start o copied : ℕ)
         → (reads : List Read) (places : List Place) (image : Image) (v : Version) (b : Attempt M)
         → b.start ≡ start → b.reads ≡ record { object = o; writer = v.writer } ∷ reads
         → (r : IsRead sizes base history start reads o places image v)
@@ -74,7 +74,7 @@ pub fn read_view_by_table<M>()
 
 /// A finish that joins cuts the intervals of those that read an object that it writes, and leaves the others.
 pub fn finish_cuts_readers<M>()
-    ensures { (m : Moment M) (n left start : ℕ) (i : Item) (reads : List Read)
+    ensures { (m : Moment M) (n left start : ℕ) (i : FinishRecord) (reads : List Read)
         → IsLawfulIn m → core_in m n ≡ Core.Committing i left
         → AreFound m.base m.state.history reads
         → read_interval m.base (i ∷ m.state.history) start reads
@@ -83,7 +83,7 @@ pub fn finish_cuts_readers<M>()
 
 /// A finish that joins changes the tables by its point, its writes, its reads and its spawns.
 pub fn finish_changes_tables<M>()
-    ensures { (m : Moment M) (t : Tables) (n left : ℕ) (i : Item)
+    ensures { (m : Moment M) (t : Tables) (n left : ℕ) (i : FinishRecord)
         → IsLawfulIn m → core_in m n ≡ Core.Committing i left → AreTablesIn m t
         → AreTables m.sizes m.base m.floor (i ∷ m.state.history) (with_finished (Some i) m.kept)
         (tables_with i m.kept.plan t) }
@@ -114,7 +114,7 @@ pub fn other_views_go_on<M>()
 
 /// What is kept of each core's attempt gives what is kept of the others of a core.
 pub fn views_of_others<M>()
-    ensures { (base : Base) (history : List Item) (pins : ℕ → ℕ) (views : ℕ → Option View)
+    ensures { (base : DeviceState) (history : List FinishRecord) (pins : ℕ → ℕ) (views : ℕ → Option View)
         → (cores : List (Core M)) (n : ℕ)
         → ((k : ℕ) → views k ≡ view_of base history (pins k) (get_or cores k Core.Idle))
         → others_views views n 0 (length cores)

@@ -1,7 +1,7 @@
 -- Which commit is under way, by the cores.
 use Rattle.std.proofs.Common.{◌≡◌, ℕ, zero, suc, ◌⊎◌, inl, inr, true, List, [], ◌∷◌, get_or, set, Some, None, refl, sym, ap, ◌∙◌, arith}
 use Rattle.std.proofs.lemmas.Bool.{cases_eq}
-use Rattle.kernel_model.specs.Items.{Item}
+use Rattle.kernel_model.specs.Items.{FinishRecord}
 use Rattle.kernel_model.specs.Cores.{Core, Idle, Running, Copying, Ready, Committing, commits, finished_by}
 use Rattle.kernel_model.specs.Events.{durable_commit}
 use Rattle.kernel_model.proofs.CoreLaws.{durable_commit-none, durable_commit-one}
@@ -13,7 +13,7 @@ commit-none [] h = refl
 commit-none (c ∷ cores) h = let e = h 0 in rw e (commit-none cores (λ k. h (suc k)))
 
 -- the one that commits
-pub commit-one : {M : Type 0} → (cores : List (Core M)) (n : ℕ) (p : Item × ℕ) → commit_by (get_or cores n Idle) ≡ Some p → ((k : ℕ) → (k ≡ n → ⊥) → commit_by (get_or cores k Idle) ≡ None) → commit_in cores ≡ Some p
+pub commit-one : {M : Type 0} → (cores : List (Core M)) (n : ℕ) (p : FinishRecord × ℕ) → commit_by (get_or cores n Idle) ≡ Some p → ((k : ℕ) → (k ≡ n → ⊥) → commit_by (get_or cores k Idle) ≡ None) → commit_in cores ≡ Some p
 commit-one {M} [] n p e h = absurd (cc e)
 commit-one (c ∷ cores) zero p e h = rw e refl
 commit-one (c ∷ cores) (suc n) p e h =
@@ -38,14 +38,14 @@ calm-core (Ready a outcome) h = refl
 calm-core (Committing i left) h = absurd (h refl)
 
 -- no core commits, or one does
-pub find-commit : {M : Type 0} → (cores : List (Core M)) → ((k : ℕ) → commits (get_or cores k Idle) ≡ true → ⊥) ⊎ ((n : ℕ) × (i : Item) × (left : ℕ) × (get_or cores n Idle ≡ Committing i left))
+pub find-commit : {M : Type 0} → (cores : List (Core M)) → ((k : ℕ) → commits (get_or cores k Idle) ≡ true → ⊥) ⊎ ((n : ℕ) × (i : FinishRecord) × (left : ℕ) × (get_or cores n Idle ≡ Committing i left))
 find-commit [] = inl (λ k e. cc e)
 find-commit {M} (c ∷ cores) = by c refl (find-commit cores)
   where
     Found : Type 0
-    Found = ((k : ℕ) → commits (get_or (c ∷ cores) k Idle) ≡ true → ⊥) ⊎ ((n : ℕ) × (i : Item) × (left : ℕ) × (get_or (c ∷ cores) n Idle ≡ Committing i left))
+    Found = ((k : ℕ) → commits (get_or (c ∷ cores) k Idle) ≡ true → ⊥) ⊎ ((n : ℕ) × (i : FinishRecord) × (left : ℕ) × (get_or (c ∷ cores) n Idle ≡ Committing i left))
 
-    later : (d : Core M) → c ≡ d → (commits d ≡ true → ⊥) → ((k : ℕ) → commits (get_or cores k Idle) ≡ true → ⊥) ⊎ ((n : ℕ) × (i : Item) × (left : ℕ) × (get_or cores n Idle ≡ Committing i left)) → Found
+    later : (d : Core M) → c ≡ d → (commits d ≡ true → ⊥) → ((k : ℕ) → commits (get_or cores k Idle) ≡ true → ⊥) ⊎ ((n : ℕ) × (i : FinishRecord) × (left : ℕ) × (get_or cores n Idle ≡ Committing i left)) → Found
     later d e ne (inl h) = inl at
       where
         at : (k : ℕ) → commits (get_or (c ∷ cores) k Idle) ≡ true → ⊥
@@ -53,7 +53,7 @@ find-commit {M} (c ∷ cores) = by c refl (find-commit cores)
         at (suc k) f = h k f
     later d e ne (inr p) = inr (suc p.0, p.1, p.2, p.3)
 
-    by : (d : Core M) → c ≡ d → ((k : ℕ) → commits (get_or cores k Idle) ≡ true → ⊥) ⊎ ((n : ℕ) × (i : Item) × (left : ℕ) × (get_or cores n Idle ≡ Committing i left)) → Found
+    by : (d : Core M) → c ≡ d → ((k : ℕ) → commits (get_or cores k Idle) ≡ true → ⊥) ⊎ ((n : ℕ) × (i : FinishRecord) × (left : ℕ) × (get_or cores n Idle ≡ Committing i left)) → Found
     by Idle e rest = later Idle e (λ f. cc f) rest
     by (Running a) e rest = later (Running a) e (λ f. cc f) rest
     by (Copying a copied) e rest = later (Copying a copied) e (λ f. cc f) rest
@@ -72,7 +72,7 @@ finish-none {M} cores h = durable_commit-none cores (λ k. at (get_or cores k Id
     at (Committing i left) h = absurd (h refl)
 
 -- where one does
-pub finish-one : {M : Type 0} → (cores : List (Core M)) (n : ℕ) (i : Item) (left : ℕ) → get_or cores n Idle ≡ Committing i left → ((j k : ℕ) → commits (get_or cores j Idle) ≡ true → commits (get_or cores k Idle) ≡ true → j ≡ k) →
+pub finish-one : {M : Type 0} → (cores : List (Core M)) (n : ℕ) (i : FinishRecord) (left : ℕ) → get_or cores n Idle ≡ Committing i left → ((j k : ℕ) → commits (get_or cores j Idle) ≡ true → commits (get_or cores k Idle) ≡ true → j ≡ k) →
     (commit_in cores ≡ Some (i, left)) × (durable_commit cores ≡ finished_by {M = M} (Committing i left))
 finish-one {M} cores n i left at one = (commit-one cores n (i, left) (rw at refl) (λ k ne. calm-core (get_or cores k Idle) (λ c. ne (one k n c (rw at refl)))), go left at)
   where

@@ -5,9 +5,9 @@ use Rattle.std.proofs.lemmas.List.{length-take-le, take_more, take_all}
 use Rattle.std.proofs.lemmas.Bool.{eq-eqb, ltb-false}
 use Rattle.object_sets.specs.ObjectSets.{with_object}
 use Rattle.kernel_model.specs.Effects.{Outcome, Trap, ended, written}
-use Rattle.kernel_model.specs.Runs.{Ends, Reads, Spawns, Step, Steps, Went, Writes, max_spawns, spawns_cause}
-use Rattle.kernel_model.specs.Items.{Item}
-use Rattle.kernel_model.specs.Replay.{Base, TaskRec, clock_of}
+use Rattle.kernel_model.specs.Runs.{Ends, Reads, Spawns, Step, TaskMachine, Went, Writes, max_spawns, spawns_cause}
+use Rattle.kernel_model.specs.Items.{FinishRecord}
+use Rattle.kernel_model.specs.Replay.{DeviceState, TaskRec, clock_of}
 use Rattle.kernel_model.specs.Versions.{Read, Version, chosen, read_words, versions}
 use Rattle.kernel_model.specs.Intervals.{Interval, is_empty, read_interval}
 use Rattle.kernel_model.specs.Cores.{Attempt, Core, Idle, Running, Copying, Ready, Committing, objects_read, run_of}
@@ -27,17 +27,17 @@ use Rattle.table_machine.specs.Seats.{SeatTurn, answered, copy_of, copy_word, fe
 use Rattle.table_machine.specs.Represents.{begun_copies, copies_of, seat_of, try_of}
 
 -- a core's turn, as its seat shows it
-abbrev pub seen_turn : {M : Type 0} → Base → List Item → Kept → Index → ℕ → Turn M → SeatTurn M
+abbrev pub seen_turn : {M : Type 0} → DeviceState → List FinishRecord → Kept → Index → ℕ → Turn M → SeatTurn M
 seen_turn base history kept index n u = record { seat = seat_of base history kept index n u.core; line = u.line }
 
 -- Vacant
-pub start_seen : {M : Type 0} → (steps : Steps M) (base : Base) (history : List Item) (kept : Kept) (index : Index) (n : ℕ) (t : Option TaskRec) →
+pub start_seen : {M : Type 0} → (steps : TaskMachine M) (base : DeviceState) (history : List FinishRecord) (kept : Kept) (index : Index) (n : ℕ) (t : Option TaskRec) →
     start_try steps (clock_of base history) n t ≡ seen_turn base history kept index n (start_turn steps base history n t)
 start_seen steps base history kept index n None = refl
 start_seen steps base history kept index n (Some t) = refl
 
 -- the newest copy is that of the newest read
-copy-same : (base : Base) (history : List Item) (o : ℕ) (reads : List Read) → copy_of o (copies_of base history reads) ≡ option_map (λ (r : Read). let c : Copy = record { object = r.object; words = read_words base history r } in c) (read_of o reads)
+copy-same : (base : DeviceState) (history : List FinishRecord) (o : ℕ) (reads : List Read) → copy_of o (copies_of base history reads) ≡ option_map (λ (r : Read). let c : Copy = record { object = r.object; words = read_words base history r } in c) (read_of o reads)
 copy-same base history o [] = refl
 copy-same base history o (r ∷ reads) = go (copy-same base history o reads) (eqb r.object o)
   where
@@ -49,7 +49,7 @@ copy-same base history o (r ∷ reads) = go (copy-same base history o reads) (eq
     go rest false = rest
 
 -- Runs, where an outside read is seen
-pub run_seen : {M : Type 0} → (steps : Steps M) (base : Base) (history : List Item) (kept : Kept) (index : Index) (chains : List Chain) (n : ℕ) (a : Attempt M) (step : Step M) →
+pub run_seen : {M : Type 0} → (steps : TaskMachine M) (base : DeviceState) (history : List FinishRecord) (kept : Kept) (index : Index) (chains : List Chain) (n : ℕ) (a : Attempt M) (step : Step M) →
     ((m : M) (o : ℕ) → step ≡ Reads m o → fetch_version chains n (try_of base history a (copies_of base history a.reads)) m o ≡ seen_turn base history (kept_run base history n a (fetch_turn base history n a m o).core kept) index n (fetch_turn base history n a m o)) →
     run_step steps chains n (try_of base history a (copies_of base history a.reads)) step ≡ seen_turn base history (kept_run base history n a (run_turn steps base history n a step).core kept) index n (run_turn steps base history n a step)
 run_seen steps base history kept index chains n a (Went m) h = refl
@@ -85,7 +85,7 @@ run_seen {M} steps base history kept index chains n a (Reads m o) h = go (writte
     go None None c e = rw e (h m o refl)
 
 -- an outside read, where the place that is chosen is that of the version that is chosen
-pub fetch_seen : {M : Type 0} → (base : Base) (history : List Item) (kept : Kept) (index : Index) (chains : List Chain) (n : ℕ) (a : Attempt M) (m : M) (o : ℕ) →
+pub fetch_seen : {M : Type 0} → (base : DeviceState) (history : List FinishRecord) (kept : Kept) (index : Index) (chains : List Chain) (n : ℕ) (a : Attempt M) (m : M) (o : ℕ) →
     (is_empty (read_interval base history a.start a.reads) ≡ false → (v : Version) × (p : Place) × (chosen (read_interval base history a.start a.reads).hi (versions base o history) ≡ Some v) × (chosen_place (read_interval base history a.start a.reads).hi (places_at chains o) ≡ Some p)
     × (p.slot ≡ slot_in (chosen_held (read_interval base history a.start a.reads).hi (kept.chains o))) × (read_interval base history a.start (record { object = o; writer = v.writer } ∷ a.reads) ≡ with_place p (read_interval base history a.start a.reads))) →
     fetch_version chains n (try_of base history a (copies_of base history a.reads)) m o ≡ seen_turn base history (kept_run base history n a (fetch_turn base history n a m o).core kept) index n (fetch_turn base history n a m o)
@@ -119,7 +119,7 @@ begun-more words f p size copied e l =
     ap (λ n. take copied words ++ n ∷ []) word ∙ sym (take_more words copied 0 (omega (arith, whole, l)))
 
 -- Copies, where the slot has the words of the version
-pub copy_seen : {M : Type 0} → (x : Setting M) (words : Words) (base : Base) (history : List Item) (kept : Kept) (index : Index) (n : ℕ) (a : Attempt M) (copied : ℕ) (reads : List Read) → a.reads ≡ reads →
+pub copy_seen : {M : Type 0} → (x : Setting M) (words : Words) (base : DeviceState) (history : List FinishRecord) (kept : Kept) (index : Index) (n : ℕ) (a : Attempt M) (copied : ℕ) (reads : List Read) → a.reads ≡ reads →
     ((r : Read) (rest : List Read) → reads ≡ r ∷ rest → (copied < (object_at x.set r.object).size) × (words_from words (slot_place x.layout x.set r.object (kept.pins n)) (object_at x.set r.object).size ≡ read_words base history r)) →
     copy_word x words (try_of base history a (begun_copies base history copied reads)) (kept.pins n) (begun_copies base history copied reads) ≡ seen_turn base history kept index n (copy_turn x.steps (sizes_in x) base history a copied reads)
 copy_seen x words base history kept index n a copied [] e h = refl
@@ -167,17 +167,17 @@ copy_seen {M} x words base history kept index n a copied (r ∷ reads) e h = go 
     go t f = ap₂ left more (ap (λ m. ltb (m + 1) size) short) ∙ same (ltb (copied + 1) size) refl
 
 -- the objects that were copied are those that were read
-pub objects-same : (base : Base) (history : List Item) (reads : List Read) → objects_of (copies_of base history reads) ≡ objects_read reads
+pub objects-same : (base : DeviceState) (history : List FinishRecord) (reads : List Read) → objects_of (copies_of base history reads) ≡ objects_read reads
 objects-same base history [] = refl
 objects-same base history (r ∷ reads) = ap (with_object r.object) (objects-same base history reads)
 
 -- so the run is the same
-pub run-same : {M : Type 0} → (base : Base) (history : List Item) (a : Attempt M) (outcome : Outcome) → run_by (try_of base history a (copies_of base history a.reads)) outcome ≡ run_of a outcome
+pub run-same : {M : Type 0} → (base : DeviceState) (history : List FinishRecord) (a : Attempt M) (outcome : Outcome) → run_by (try_of base history a (copies_of base history a.reads)) outcome ≡ run_of a outcome
 run-same base history a outcome = ap (λ reads. ended (record { reads = reads; writes = a.writes; spawns = a.spawns }) outcome) (objects-same base history a.reads)
 
 -- Waits, where the verdict is the same, and a finish that is granted makes as many writes
-pub verdict_seen : {M : Type 0} → (x : Setting M) (t : Tables M) (seats : List (Seat M)) (base : Base) (history : List Item) (others : List (Core M)) (kept : Kept) (n task : ℕ) (v : Verdict) →
-    ((i : Item) → v ≡ Granted i → (index_after (plan_in (sizes_in x) seats t.chains) t.index i ≡ index_after (kept_verdict (sizes_in x) base history others (Committing i (commit_writes (sizes_in x) base history i)) kept).plan t.index i)
+pub verdict_seen : {M : Type 0} → (x : Setting M) (t : Tables M) (seats : List (Seat M)) (base : DeviceState) (history : List FinishRecord) (others : List (Core M)) (kept : Kept) (n task : ℕ) (v : Verdict) →
+    ((i : FinishRecord) → v ≡ Granted i → (index_after (plan_in (sizes_in x) seats t.chains) t.index i ≡ index_after (kept_verdict (sizes_in x) base history others (Committing i (commit_writes (sizes_in x) base history i)) kept).plan t.index i)
     × (length (writes_in x t i (index_after (plan_in (sizes_in x) seats t.chains) t.index i)) ≡ commit_writes (sizes_in x) base history i)) →
     answered x t seats n task v ≡ seen_turn base history (kept_verdict (sizes_in x) base history others (verdict_turn {M = M} (sizes_in x) base history n task v).core kept) t.index n (verdict_turn (sizes_in x) base history n task v)
 verdict_seen x t seats base history others kept n task (Granted i) h = let k = h i refl in ap₂ (λ (after : Index) (left : ℕ). still (Saves i after left)) k.0 k.1

@@ -2,7 +2,7 @@
 use Rattle.std.proofs.Common.{◌≡◌, ℕ, ◌+◌, List, [], ◌∷◌, length, Option, refl, sym, ap₂, ◌∙◌, subst, arith}
 use Rattle.std.proofs.lemmas.List.{length-append}
 use Rattle.kernel_model.specs.Items.{Entry}
-use Rattle.kernel_model.specs.Replay.{Base}
+use Rattle.kernel_model.specs.Replay.{DeviceState}
 use Rattle.kernel_model.specs.Turns.{Line}
 use Rattle.kernel_model.specs.Events.{State, Event, durable_commit, event_step, state_after}
 use Rattle.kernel_model.specs.Durable.{durable}
@@ -21,7 +21,7 @@ use Rattle.table_machine.proofs.DeviceTurns.{durable_device, held_with}
 use Rattle.table_machine.proofs.Simulated.{event_simulates}
 
 -- one event, and then others
-one_before : {M : Type 0} → (x : Setting M) (base : Base) (last : Option Entry) (e : Event) (events : List Event) (t : Tables M) (words : Words) (s : State M) → Simulates x base last t words s e →
+one_before : {M : Type 0} → (x : Setting M) (base : DeviceState) (last : Option Entry) (e : Event) (events : List Event) (t : Tables M) (words : Words) (s : State M) → Simulates x base last t words s e →
     IsCourse x base last (table_step x words t e).tables (made (table_step x words t e).writes words) (event_step x.steps (sizes_in x) base s e).0 events → IsCourse x base last t words s (e ∷ events)
 one_before {M} x base last e events t words s now rest = record {
   lines = ap₂ (λ (line : Line) (lines : List Line). line ∷ lines) now.line rest.lines;
@@ -36,7 +36,7 @@ one_before {M} x base last e events t words s now rest = record {
     more = course x (made log words) (table_step x words t e).tables events
 
 -- some events
-pub course_simulates : {M : Type 0} → (x : Setting M) (base : Base) (last : Option Entry) → IsSetting x → (events : List Event) (t : Tables M) (words : Words) (s : State M) → HasIds base (length s.history + length events) → Represents x base last t words s → IsCourse x base last t words s events
+pub course_simulates : {M : Type 0} → (x : Setting M) (base : DeviceState) (last : Option Entry) → IsSetting x → (events : List Event) (t : Tables M) (words : Words) (s : State M) → HasIds base (length s.history + length events) → Represents x base last t words s → IsCourse x base last t words s events
 course_simulates x base last fit [] t words s ids r = record { lines = refl; writes = refl; state = r }
 course_simulates x base last fit (e ∷ events) t words s ids r =
     let h = r.1.lawful in
@@ -46,6 +46,6 @@ course_simulates x base last fit (e ∷ events) t words s ids r =
     one_before x base last e events t words s now (course_simulates x base last fit events (table_step x words t e).tables (made (table_step x words t e).writes words) (event_step x.steps (sizes_in x) base s e).0 (omega (arith, ids, few)) now.state)
 
 -- the words keep what is durable
-pub words_hold : {M : Type 0} → (x : Setting M) (base : Base) (last : Option Entry) (t : Tables M) (words : Words) (s : State M) → IsSetting x → Represents x base last t words s →
+pub words_hold : {M : Type 0} → (x : Setting M) (base : DeviceState) (last : Option Entry) (t : Tables M) (words : Words) (s : State M) → IsSetting x → Represents x base last t words s →
     (h : decoding.Held) × KeepsIn x.set x.layout h words × (durable_of h ≡ durable base last s)
 words_hold x base last t words s fit (g, a) = (held_with x base last g s (durable_commit s.cores), durable_device x base last g words s fit a.lawful a.device, refl)

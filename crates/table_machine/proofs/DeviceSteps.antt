@@ -8,8 +8,8 @@ use Rattle.table_machine.specs.Places.{index_after}
 use Rattle.table_machine.specs.Seats.{commit_of}
 use Rattle.kernel_model.specs.Sizes.{Sizes}
 use Rattle.kernel_model.specs.Effects.{Run}
-use Rattle.kernel_model.specs.Items.{Entry, Item}
-use Rattle.kernel_model.specs.Replay.{Base, TaskRec}
+use Rattle.kernel_model.specs.Items.{Entry, FinishRecord}
+use Rattle.kernel_model.specs.Replay.{DeviceState, TaskRec}
 use Rattle.kernel_model.specs.OpenTasks.{open_tasks}
 use Rattle.kernel_model.specs.Cores.{Attempt, Core, Idle, Running, Copying, Ready, Committing, all_but, is_committing, next_task, run_of}
 use Rattle.kernel_model.specs.Verdicts.{Empty, Granted, Records, Slots, Verdict, verdict}
@@ -34,29 +34,29 @@ use Rattle.table_machine.proofs.DeviceTurns.{commit_next, grant_device, joined-h
 use Rattle.table_machine.proofs.CoreSteps.{turned_ghost}
 
 -- the words of a turn
-abbrev pub words_at : {M : Type 0} → Setting M → Base → Option Entry → Ghost → Words → State M → ℕ → Core M → Words
+abbrev pub words_at : {M : Type 0} → Setting M → DeviceState → Option Entry → Ghost → Words → State M → ℕ → Core M → Words
 words_at x base last g words s n c = made (written_by x (now_of x base last g s) (seat_of base s.history g.kept (index_of x base last g.kept s.history) n c)) words
 
 -- what is on the device after a turn
-abbrev pub OnDeviceAt : {M : Type 0} → Setting M → Base → Option Entry → Ghost → Words → State M → ℕ → Core M → Type 0
+abbrev pub OnDeviceAt : {M : Type 0} → Setting M → DeviceState → Option Entry → Ghost → Words → State M → ℕ → Core M → Type 0
 OnDeviceAt x base last g words s n c =
     let after = turned_ghost x base last g s n c in
     let next = state_at x base s n c in
     IsOnDevice x (held_of x base last after next) after.kept.plan (commit_in next.cores) (words_at x base last g words s n c)
 
 -- a running core begins no commit
-run_calm : {M : Type 0} → (x : Setting M) (base : Base) (history : List Item) (others : List (Core M)) (n : ℕ) (a : Attempt M) → commit_by (core_turn x.steps (sizes_in x) base history others n (Running a)).core ≡ None
+run_calm : {M : Type 0} → (x : Setting M) (base : DeviceState) (history : List FinishRecord) (others : List (Core M)) (n : ℕ) (a : Attempt M) → commit_by (core_turn x.steps (sizes_in x) base history others n (Running a)).core ≡ None
 run_calm {M} x base history others n a = run_gives (λ (d : Core M). commit_by d ≡ None) refl x.steps base history n a (λ b e f. refl) (λ b e f. refl) (λ outcome. refl) (x.steps.step a.state)
 
-copy_calm : {M : Type 0} → (x : Setting M) (base : Base) (history : List Item) (others : List (Core M)) (n : ℕ) (a : Attempt M) (copied : ℕ) → commit_by (core_turn x.steps (sizes_in x) base history others n (Copying a copied)).core ≡ None
+copy_calm : {M : Type 0} → (x : Setting M) (base : DeviceState) (history : List FinishRecord) (others : List (Core M)) (n : ℕ) (a : Attempt M) (copied : ℕ) → commit_by (core_turn x.steps (sizes_in x) base history others n (Copying a copied)).core ≡ None
 copy_calm {M} x base history others n a copied = word_gives (λ (d : Core M). commit_by d ≡ None) refl x.steps (sizes_in x) base history a copied (λ b e f. refl) refl a.reads
 
-start_calm : {M : Type 0} → (x : Setting M) (base : Base) (history : List Item) (n : ℕ) (t : Option TaskRec) → commit_by (start_turn x.steps base history n t).core ≡ None
+start_calm : {M : Type 0} → (x : Setting M) (base : DeviceState) (history : List FinishRecord) (n : ℕ) (t : Option TaskRec) → commit_by (start_turn x.steps base history n t).core ≡ None
 start_calm x base history n None = refl
 start_calm x base history n (Some t) = refl
 
 -- each turn of a core
-pub device_turned : {M : Type 0} → (x : Setting M) (base : Base) (last : Option Entry) (g : Ghost) (words : Words) (s : State M) (n : ℕ) → IsSetting x → IsLawful x.steps (sizes_in x) base s → IsLast base last → StandsFor (sizes_in x) base g.floor s g.kept (slots_in x words) →
+pub device_turned : {M : Type 0} → (x : Setting M) (base : DeviceState) (last : Option Entry) (g : Ghost) (words : Words) (s : State M) (n : ℕ) → IsSetting x → IsLawful x.steps (sizes_in x) base s → IsLast base last → StandsFor (sizes_in x) base g.floor s g.kept (slots_in x words) →
     IsOnDevice x (held_of x base last g s) g.kept.plan (commit_in s.cores) words → (c : Core M) → get_or s.cores n Idle ≡ c → IsFitting x.steps (sizes_in x) c →
     IsLawful x.steps (sizes_in x) base (state_at x base s n c) → StandsFor (sizes_in x) base g.floor (state_at x base s n c) (turned_ghost x base last g s n c).kept (slots_in x (words_at x base last g words s n c)) → OnDeviceAt x base last g words s n c
 device_turned {M} x base last g words s n fit h fits f dev Idle at k l q =

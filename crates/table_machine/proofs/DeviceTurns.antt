@@ -2,8 +2,8 @@
 use Rattle.std.proofs.Common.{zero, true, ◌⊎◌, inl, inr, ◌≤◌, ◌≡◌, ◌≢◌, ℕ, suc, ◌+◌, ◌-◌, ◌<◌, List, [], ◌∷◌, get_or, set, length, Option, Some, None, refl, sym, ap, ◌∙◌, subst, arith, slice_index}
 use Rattle.std.specs.List.{AllByRecursion}
 use Rattle.kernel_model.specs.Effects.{Write, written}
-use Rattle.kernel_model.specs.Items.{Entry, Item}
-use Rattle.kernel_model.specs.Replay.{Base}
+use Rattle.kernel_model.specs.Items.{Entry, FinishRecord}
+use Rattle.kernel_model.specs.Replay.{DeviceState}
 use Rattle.kernel_model.specs.Versions.{versions}
 use Rattle.kernel_model.specs.Room.{is_needed}
 use Rattle.kernel_model.specs.Cores.{Core, Idle, Committing}
@@ -45,7 +45,7 @@ use Rattle.table_machine.proofs.Joins.{joined-index, slot-each}
 use Rattle.table_machine.proofs.OnPower.{counted}
 
 -- a base by the sizes of the set
-base-fits : {M : Type 0} → (x : Setting M) (b : Base) → IsBase (sizes_in x) b → IsBase (sizes_of x.set) b
+base-fits : {M : Type 0} → (x : Setting M) (b : DeviceState) → IsBase (sizes_in x) b → IsBase (sizes_of x.set) b
 base-fits x b k = record { objects = k.objects; words = k.words; in_order = k.in_order; positive = k.positive; old = k.old; programs = k.programs; records = k.records; clock = k.clock; next = k.next }
 
 -- writes by the sizes of the set
@@ -54,12 +54,12 @@ writes-fit x [] h = tt
 writes-fit x (w ∷ ws) h = (record { object = h.0.object; words = h.0.words }, writes-fit x ws h.1)
 
 -- the slot of each object after a finish
-pub slot-after : {M : Type 0} → (x : Setting M) (base : Base) (last : Option Entry) (kept : Kept) (history : List Item) (i : Item) (o : ℕ) → o < length x.set.objects →
+pub slot-after : {M : Type 0} → (x : Setting M) (base : DeviceState) (last : Option Entry) (kept : Kept) (history : List FinishRecord) (i : FinishRecord) (o : ℕ) → o < length x.set.objects →
     slice_index (index_after kept.plan (index_of x base last kept history) i).slots o ≡ newest_slot (with_held i (written i.run.writes o) (kept.plan o) (kept.chains o))
 slot-after x base last kept history i o l = ap (λ (y : Index). slice_index y.slots o) (joined-index x base last kept history i) ∙ slot-each (λ o. newest_slot ((with_finished (Some i) kept).chains o)) (length x.set.objects) o l
 
 -- a commit under way may follow what is held
-pub commit_next : {M : Type 0} → (x : Setting M) (base : Base) (last : Option Entry) (g : Ghost) (words : Words) (s : State M) (n : ℕ) (i : Item) (left : ℕ) → IsLawful x.steps (sizes_in x) base s → IsLast base last → StandsFor (sizes_in x) base g.floor s g.kept (slots_in x words) → get_or s.cores n Idle ≡ Committing i left →
+pub commit_next : {M : Type 0} → (x : Setting M) (base : DeviceState) (last : Option Entry) (g : Ghost) (words : Words) (s : State M) (n : ℕ) (i : FinishRecord) (left : ℕ) → IsLawful x.steps (sizes_in x) base s → IsLast base last → StandsFor (sizes_in x) base g.floor s g.kept (slots_in x words) → get_or s.cores n Idle ≡ Committing i left →
     commits.IsNext x.set (held_of x base last g s) (commit_of i (index_after g.kept.plan (index_of x base last g.kept s.history) i))
 commit_next {M} x base last g words s n i left h fits f at = record {
   index = index;
@@ -107,16 +107,16 @@ commit_next {M} x base last g words s n i left h fits f at = record {
 -- ---- what changes no word
 
 -- with other pins, where the same commits
-pub quiet_device : {M : Type 0} → (x : Setting M) (base : Base) (last : Option Entry) (g : Ghost) (words : Words) (s : State M) (kept : Kept) (cores : List (Core M)) → kept.chains ≡ g.kept.chains → kept.plan ≡ g.kept.plan → commit_in cores ≡ commit_in s.cores →
+pub quiet_device : {M : Type 0} → (x : Setting M) (base : DeviceState) (last : Option Entry) (g : Ghost) (words : Words) (s : State M) (kept : Kept) (cores : List (Core M)) → kept.chains ≡ g.kept.chains → kept.plan ≡ g.kept.plan → commit_in cores ≡ commit_in s.cores →
     IsOnDevice x (held_of x base last g s) g.kept.plan (commit_in s.cores) words → IsOnDevice x (held_of x base last (record g { kept = kept }) (record s { cores = cores })) kept.plan (commit_in cores) words
 quiet_device {M} x base last g words s kept cores e p c d =
     subst (λ chains. At chains kept.plan (commit_in cores)) (sym e) (subst (λ plan. At g.kept.chains plan (commit_in cores)) (sym p) (subst (At g.kept.chains g.kept.plan) (sym c) d))
   where
-    At : (ℕ → List Held) → (ℕ → ℕ) → Option (Item × ℕ) → Type 0
+    At : (ℕ → List Held) → (ℕ → ℕ) → Option (FinishRecord × ℕ) → Type 0
     At chains plan c = IsOnDevice x (held_of x base last (record g { kept = record { chains = chains; plan = plan; pins = kept.pins } }) s) plan c words
 
 -- no write is made of a commit that begins
-pub grant_device : {M : Type 0} → (x : Setting M) (base : Base) (last : Option Entry) (g : Ghost) (s : State M) (plan : ℕ → ℕ) (i : Item) (words : Words) → commits.IsNext x.set (held_of x base last g s) (commit_of i (index_after plan (held_of x base last g s).index i)) → AllByRecursion (IsWrite (sizes_in x)) i.run.writes → KeepsIn x.set x.layout (held_of x base last g s) words →
+pub grant_device : {M : Type 0} → (x : Setting M) (base : DeviceState) (last : Option Entry) (g : Ghost) (s : State M) (plan : ℕ → ℕ) (i : FinishRecord) (words : Words) → commits.IsNext x.set (held_of x base last g s) (commit_of i (index_after plan (held_of x base last g s).index i)) → AllByRecursion (IsWrite (sizes_in x)) i.run.writes → KeepsIn x.set x.layout (held_of x base last g s) words →
     IsOnDevice x (held_of x base last g s) plan (Some (i, commit_writes (sizes_in x) base s.history i)) words
 grant_device x base last g s plan i words next ws k =
     (omega (arith, count), let z : length log - commit_writes (sizes_in x) base s.history i ≡ 0 = omega (arith, count) in subst (λ n. commits.IsUnderWay x.set x.layout h (commit_of i (index_after plan h.index i)) n words) (sym z) (begins x.set x.layout h (commit_of i (index_after plan h.index i)) words next k))
@@ -138,7 +138,7 @@ unfolding commits.commit_writes
 same-writes l set h c = refl
 
 -- one more write
-pub write_device : {M : Type 0} → (x : Setting M) (h : decoding.Held) (plan : ℕ → ℕ) (i : Item) (left : ℕ) (words : Words) → IsOnDevice x h plan (Some (i, suc left)) words →
+pub write_device : {M : Type 0} → (x : Setting M) (h : decoding.Held) (plan : ℕ → ℕ) (i : FinishRecord) (left : ℕ) (words : Words) → IsOnDevice x h plan (Some (i, suc left)) words →
     IsOnDevice x h plan (Some (i, left)) (made (next_write (commits.commit_writes x.layout x.set (record { index = h.index; objects = []; boots = h.boots; root = h.root }) (commit_of i (index_after plan h.index i))) (suc left) ∷ []) words)
 write_device x h plan i left words u =
     let few : suc left ≤ length log = u.0 in
@@ -158,39 +158,39 @@ write_device x h plan i left words u =
     m = length log - suc left
 
 -- all writes made
-pub whole_device : {M : Type 0} → (x : Setting M) (h : decoding.Held) (plan : ℕ → ℕ) (i : Item) (words : Words) → IsSetting x → IsOnDevice x h plan (Some (i, 0)) words → KeepsIn x.set x.layout (commits.committed x.layout x.set h (commit_of i (index_after plan h.index i))) words
+pub whole_device : {M : Type 0} → (x : Setting M) (h : decoding.Held) (plan : ℕ → ℕ) (i : FinishRecord) (words : Words) → IsSetting x → IsOnDevice x h plan (Some (i, 0)) words → KeepsIn x.set x.layout (commits.committed x.layout x.set h (commit_of i (index_after plan h.index i))) words
 whole_device x h plan i words fit u = ends x.set x.layout h (commit_of i (index_after plan h.index i)) (length (writes_of x h plan i) - 0) words fit.laid_out (omega arith) u.1
 
 -- a commit that is cut
-pub cut_device : {M : Type 0} → (x : Setting M) (h : decoding.Held) (plan : ℕ → ℕ) (i : Item) (left : ℕ) (words : Words) → IsSetting x → IsOnDevice x h plan (Some (i, suc left)) words → KeepsIn x.set x.layout h words
+pub cut_device : {M : Type 0} → (x : Setting M) (h : decoding.Held) (plan : ℕ → ℕ) (i : FinishRecord) (left : ℕ) (words : Words) → IsSetting x → IsOnDevice x h plan (Some (i, suc left)) words → KeepsIn x.set x.layout h words
 cut_device x h plan i left words fit u = let few = u.0 in cut x.set x.layout h (commit_of i (index_after plan h.index i)) (length (writes_of x h plan i) - suc left) words fit.laid_out (omega (arith, few)) u.1
 
 -- what is held after a finish
-pub joined-held : {M : Type 0} → (x : Setting M) (base : Base) (last : Option Entry) (g : Ghost) (s : State M) (i : Item) (cores : List (Core M)) →
+pub joined-held : {M : Type 0} → (x : Setting M) (base : DeviceState) (last : Option Entry) (g : Ghost) (s : State M) (i : FinishRecord) (cores : List (Core M)) →
     commits.committed x.layout x.set (held_of x base last g s) (commit_of i (index_after g.kept.plan (index_of x base last g.kept s.history) i))
     ≡ held_of x base last (record { floor = g.floor; kept = with_finished (Some i) g.kept; root = root_with x (held_of x base last g s) g.kept.plan (Some i) }) (record s { history = i ∷ s.history; cores = cores })
 joined-held x base last g s i cores =
     ap (λ (y : Index). let h : decoding.Held = record { index = y; objects = (state_left base (i ∷ s.history)).objects; boots = s.boots; root = root_with x (held_of x base last g s) g.kept.plan (Some i) } in h) (joined-index x base last g.kept s.history i)
 
 -- what is held once this finish has joined, if one does
-abbrev pub held_with : {M : Type 0} → Setting M → Base → Option Entry → Ghost → State M → Option Item → decoding.Held
+abbrev pub held_with : {M : Type 0} → Setting M → DeviceState → Option Entry → Ghost → State M → Option FinishRecord → decoding.Held
 held_with x base last g s j = held_of x base last (record { floor = g.floor; kept = with_finished j g.kept; root = root_with x (held_of x base last g s) g.kept.plan j }) (record s { history = with_finish j s.history })
 
 -- the words keep what is durable: a finish whose writes are all made counts, and a commit that is cut does not
-pub durable_device : {M : Type 0} → (x : Setting M) (base : Base) (last : Option Entry) (g : Ghost) (words : Words) (s : State M) → IsSetting x → IsLawful x.steps (sizes_in x) base s → IsOnDevice x (held_of x base last g s) g.kept.plan (commit_in s.cores) words →
+pub durable_device : {M : Type 0} → (x : Setting M) (base : DeviceState) (last : Option Entry) (g : Ghost) (words : Words) (s : State M) → IsSetting x → IsLawful x.steps (sizes_in x) base s → IsOnDevice x (held_of x base last g s) g.kept.plan (commit_in s.cores) words →
     KeepsIn x.set x.layout (held_with x base last g s (durable_commit s.cores)) words
 durable_device {M} x base last g words s fit h dev = go (find-commit s.cores)
   where
     Goal : Type 0
     Goal = KeepsIn x.set x.layout (held_with x base last g s (durable_commit s.cores)) words
 
-    by : (j : Option Item) → durable_commit s.cores ≡ j → KeepsIn x.set x.layout (held_with x base last g s j) words → Goal
+    by : (j : Option FinishRecord) → durable_commit s.cores ≡ j → KeepsIn x.set x.layout (held_with x base last g s j) words → Goal
     by j e k = subst (λ i. KeepsIn x.set x.layout (held_with x base last g s i) words) (sym e) k
 
-    now : (c : Option (Item × ℕ)) → commit_in s.cores ≡ c → IsOnDevice x (held_of x base last g s) g.kept.plan c words
+    now : (c : Option (FinishRecord × ℕ)) → commit_in s.cores ≡ c → IsOnDevice x (held_of x base last g s) g.kept.plan c words
     now c e = subst (λ c. IsOnDevice x (held_of x base last g s) g.kept.plan c words) e dev
 
-    one : (n : ℕ) (i : Item) (left : ℕ) → get_or s.cores n Idle ≡ Committing i left → Goal
+    one : (n : ℕ) (i : FinishRecord) (left : ℕ) → get_or s.cores n Idle ≡ Committing i left → Goal
     one n i zero at =
         let p = finish-one s.cores n i zero at h.sound.one_commits in
         by (Some i) p.1 (subst (λ (q : decoding.Held). KeepsIn x.set x.layout q words) (joined-held x base last g s i s.cores) (whole_device x (held_of x base last g s) g.kept.plan i words fit (now (Some (i, 0)) p.0)))
@@ -198,6 +198,6 @@ durable_device {M} x base last g words s fit h dev = go (find-commit s.cores)
         let p = finish-one s.cores n i (suc left) at h.sound.one_commits in
         by None p.1 (cut_device x (held_of x base last g s) g.kept.plan i left words fit (now (Some (i, suc left)) p.0))
 
-    go : ((k : ℕ) → cores.commits (get_or s.cores k Idle) ≡ true → ⊥) ⊎ ((n : ℕ) × (i : Item) × (left : ℕ) × (get_or s.cores n Idle ≡ Committing i left)) → Goal
+    go : ((k : ℕ) → cores.commits (get_or s.cores k Idle) ≡ true → ⊥) ⊎ ((n : ℕ) × (i : FinishRecord) × (left : ℕ) × (get_or s.cores n Idle ≡ Committing i left)) → Goal
     go (inl none) = by None (finish-none s.cores none) (now None (commit-none s.cores (λ k. calm-core (get_or s.cores k Idle) (none k))))
     go (inr p) = one p.0 p.1 p.2 p.3

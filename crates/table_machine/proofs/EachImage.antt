@@ -10,7 +10,7 @@ use Rattle.kernel_model.specs.Items.{Entry, listing}
 use Rattle.kernel_model.specs.Report.{unprinted, found_lines, report_lines}
 use Rattle.kernel_model.proofs.FirstEvents.{count_reached}
 use Rattle.device_model.specs.IndexWords.{Index, base_of}
-use Rattle.kernel_model.specs.Replay.{Base}
+use Rattle.kernel_model.specs.Replay.{DeviceState}
 use Rattle.kernel_model.specs.Events.{Power, On, Boot, State, Event, state_after, still_owed, opened}
 use Rattle.kernel_model.specs.Fit.{HasIds, IsMachine}
 use Rattle.device_model.specs.Words.{Change, Words, made}
@@ -110,7 +110,7 @@ image_holds {M} d events n k r ids few w = record { held = h.0; keeps = subst (�
         ∙ take-append_seam first.log (course x (made first.log d.words) first.tables (drop n events)).log
 
 -- what the tables tell
-pub tables_tell : {M : Type 0} → (x : Setting M) (base : Base) (last : Option Entry) (t : Tables M) (words : Words) (s : State M) → Represents x base last t words s →
+pub tables_tell : {M : Type 0} → (x : Setting M) (base : DeviceState) (last : Option Entry) (t : Tables M) (words : Words) (s : State M) → Represents x base last t words s →
     (t.power ≡ s.power) × (t.boots ≡ s.boots) × (t.entries ≡ listing s.history) × (untold t ≡ unprinted s) × (length t.seats ≡ length s.cores)
 tables_tell {M} x base last t words s (g, a) = subst Told (sym a.tables) (go s.power)
   where
@@ -129,7 +129,7 @@ pub reports : {M : Type 0} → (x : Setting M) (h : decoding.Held) (words : Word
     (c.lines ++ found_lines (untold c.tables) ≡ report_lines x.steps (sizes_in x) base s events) × (c.tables.entries ≡ listing (state_after x.steps (sizes_in x) base s events).history))
 reports {M} x h words cores power events fit machine k ids = (ap₂ (λ (lines : List Line) (e : Option Entry). lines ++ found_lines e) whole.lines told.3, told.2)
   where
-    base : Base
+    base : DeviceState
     base = base_of h.index h.objects
 
     s : State M

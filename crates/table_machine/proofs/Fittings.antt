@@ -4,10 +4,10 @@ use Rattle.std.specs.Prelude.{unwrap_or}
 use Rattle.std.specs.List.{AllByRecursion}
 use Rattle.std.proofs.lemmas.Bool.{eqb-true, ltb-true}
 use Rattle.kernel_model.specs.Sizes.{Sizes}
-use Rattle.kernel_model.specs.Effects.{Trap, also_written, words_of, written}
-use Rattle.kernel_model.specs.Runs.{Ends, Reads, Spawns, Step, Steps, Went, Writes, max_spawns}
-use Rattle.kernel_model.specs.Items.{Item}
-use Rattle.kernel_model.specs.Replay.{Base, TaskRec}
+use Rattle.kernel_model.specs.Effects.{Trap, also_written, object_words, written}
+use Rattle.kernel_model.specs.Runs.{Ends, Reads, Spawns, Step, TaskMachine, Went, Writes, max_spawns}
+use Rattle.kernel_model.specs.Items.{FinishRecord}
+use Rattle.kernel_model.specs.Replay.{DeviceState, TaskRec}
 use Rattle.kernel_model.specs.Versions.{Read, Version, chosen, read_words, version_read, versions, versions_to, words_in}
 use Rattle.kernel_model.specs.Intervals.{is_empty, read_interval}
 use Rattle.kernel_model.specs.OpenTasks.{open_tasks}
@@ -23,20 +23,20 @@ use Rattle.kernel_model.proofs.RunFacts.{base-sized, history-runs, with_write-al
 use Rattle.kernel_model.proofs.VersionLaws.{tops}
 use Rattle.slot_model.specs.Standing.{IsLawful}
 use Rattle.kernel_model.proofs.CoreLaws.{IsAfter, as_before, core_at, no_core, turned_now}
-use Rattle.set_model.specs.Sets.{ObjectPart}
+use Rattle.set_model.specs.Sets.{ObjPart}
 use Rattle.set_model.specs.Limits.{IsObject}
 use Rattle.table_machine.specs.Tables.{Setting, sizes_in}
 use Rattle.table_machine.specs.Represents.{IsFitting, IsWaiting}
 use Rattle.table_machine.specs.Simulates.{IsSetting}
 
 -- an object of the set has words
-some-words : (objects : List ObjectPart) (none : ObjectPart) (o : ℕ) → o < length objects → AllByRecursion IsObject objects → 0 < (get_or objects o none).size
+some-words : (objects : List ObjPart) (none : ObjPart) (o : ℕ) → o < length objects → AllByRecursion IsObject objects → 0 < (get_or objects o none).size
 some-words [] none o l h = absurd (omega (arith, l))
 some-words (part ∷ objects) none zero l h = let size = h.0.size.0 in omega (arith, size)
 some-words (part ∷ objects) none (suc o) l h = some-words objects none o (omega (arith, l)) h.1
 
 -- each version of an object has as many words as the object
-versions-size : (sizes : Sizes) (base : Base) (o : ℕ) → length (words_of base.objects o) ≡ sizes.size o → (end : Option ℕ) (history : List Item) → AllByRecursion (λ i. IsRun sizes i.run) history → AllByRecursion (λ v. length v.words ≡ sizes.size o) (versions_to end base o history)
+versions-size : (sizes : Sizes) (base : DeviceState) (o : ℕ) → length (object_words base.objects o) ≡ sizes.size o → (end : Option ℕ) (history : List FinishRecord) → AllByRecursion (λ i. IsRun sizes i.run) history → AllByRecursion (λ v. length v.words ≡ sizes.size o) (versions_to end base o history)
 versions-size sizes base o e end [] h = (e, tt)
 versions-size sizes base o e end (i ∷ history) h = go (λ end. versions-size sizes base o e end history h.1) (written i.run.writes o) refl
   where
@@ -45,12 +45,12 @@ versions-size sizes base o e end (i ∷ history) h = go (λ end. versions-size s
     go rest (Some words) f = (written-size sizes i.run.writes o words h.0.writes f, rest (Some i.point))
 
 -- so has what was read
-read-size : (sizes : Sizes) (base : Base) (history : List Item) → AreSized sizes base.objects → AllByRecursion (λ i. IsRun sizes i.run) history → (r : Read) → r.object < length base.objects → (v : Version) × (version_read base history r ≡ Some v) → length (read_words base history r) ≡ sizes.size r.object
+read-size : (sizes : Sizes) (base : DeviceState) (history : List FinishRecord) → AreSized sizes base.objects → AllByRecursion (λ i. IsRun sizes i.run) history → (r : Read) → r.object < length base.objects → (v : Version) × (version_read base history r ≡ Some v) → length (read_words base history r) ≡ sizes.size r.object
 read-size sizes base history sized runs r l f =
     ap (λ (v : Option Version). length (words_in v)) f.1
     ∙ found (λ v. length v.words ≡ sizes.size r.object) r.writer (versions base r.object history) f.0 (versions-size sizes base r.object (sized.words r.object (let n = sized.number in omega (arith, l, n))) None history runs) f.1
 
-reads-size : (sizes : Sizes) (base : Base) (history : List Item) → AreSized sizes base.objects → AllByRecursion (λ i. IsRun sizes i.run) history → (reads : List Read) → AreFound base history reads → AllByRecursion (λ r. r.object < length base.objects) reads →
+reads-size : (sizes : Sizes) (base : DeviceState) (history : List FinishRecord) → AreSized sizes base.objects → AllByRecursion (λ i. IsRun sizes i.run) history → (reads : List Read) → AreFound base history reads → AllByRecursion (λ r. r.object < length base.objects) reads →
     AllByRecursion (λ r. length (read_words base history r) ≡ sizes.size r.object) reads
 reads-size sizes base history sized runs [] f l = tt
 reads-size sizes base history sized runs (r ∷ reads) f l = (read-size sizes base history sized runs r l.0 f.0, reads-size sizes base history sized runs reads f.1 l.1)
@@ -65,7 +65,7 @@ newest-read P o (x ∷ reads) r h e = go (newest-read P o reads r h.1) (eqb x.ob
     go rest false f e = rest e
 
 -- after a read that is given
-given-fits : {M : Type 0} → (steps : Steps M) (sizes : Sizes) (a : Attempt M) (m : M) (o : ℕ) (words : List ℕ) → o < sizes.objects → IsWaiting steps sizes m o → length words ≡ sizes.size o → AllByRecursion (IsWrite sizes) a.writes → AllByRecursion (IsWrite sizes) (given_on steps a m o words).writes
+given-fits : {M : Type 0} → (steps : TaskMachine M) (sizes : Sizes) (a : Attempt M) (m : M) (o : ℕ) (words : List ℕ) → o < sizes.objects → IsWaiting steps sizes m o → length words ≡ sizes.size o → AllByRecursion (IsWrite sizes) a.writes → AllByRecursion (IsWrite sizes) (given_on steps a m o words).writes
 given-fits steps sizes a m o words l wait size h = go (steps.rewrites m words) refl
   where
     go : (new : Option (List ℕ)) → steps.rewrites m words ≡ new → AllByRecursion (IsWrite sizes) (also_written o new a.writes)
@@ -73,13 +73,13 @@ given-fits steps sizes a m o words l wait size h = go (steps.rewrites m words) r
     go (Some new) e = with_write-all (IsWrite sizes) (record { object = o; words = new }) a.writes (record { object = l; words = wait words new size e }) h
 
 -- a turn keeps it
-pub turn_fits : {M : Type 0} → (x : Setting M) (base : Base) (s : State M) (n : ℕ) → IsSetting x → IsLawful x.steps (sizes_in x) base s → (c : Core M) → get_or s.cores n Idle ≡ c → IsFitting x.steps (sizes_in x) c → IsFitting x.steps (sizes_in x) (core_turn x.steps (sizes_in x) base s.history (all_but n s.cores) n c).core
+pub turn_fits : {M : Type 0} → (x : Setting M) (base : DeviceState) (s : State M) (n : ℕ) → IsSetting x → IsLawful x.steps (sizes_in x) base s → (c : Core M) → get_or s.cores n Idle ≡ c → IsFitting x.steps (sizes_in x) c → IsFitting x.steps (sizes_in x) (core_turn x.steps (sizes_in x) base s.history (all_but n s.cores) n c).core
 turn_fits {M} x base s n fit lawful c at h = by c (subst (IsSoundCore x.steps sizes base s.history) at (lawful.sound.cores n)) h
   where
     sizes : Sizes
     sizes = sizes_in x
 
-    history : List Item
+    history : List FinishRecord
     history = s.history
 
     sized : AreSized sizes base.objects

@@ -5,9 +5,9 @@ use Rattle.std.specs.List.{AllByRecursion, list_any}
 use Rattle.object_sets.specs.ObjectSets.{is_among}
 use Rattle.kernel_model.proofs.Growth.{reads_kept}
 use Rattle.kernel_model.specs.Effects.{Write, written}
-use Rattle.kernel_model.specs.Items.{Entry, Item, entry_of, listing}
+use Rattle.kernel_model.specs.Items.{Entry, FinishRecord, entry_of, listing}
 use Rattle.kernel_model.specs.OpenTasks.{children, others_than}
-use Rattle.kernel_model.specs.Replay.{Base}
+use Rattle.kernel_model.specs.Replay.{DeviceState}
 use Rattle.kernel_model.specs.Versions.{Read, read_words}
 use Rattle.kernel_model.specs.Intervals.{Interval, read_interval}
 use Rattle.kernel_model.specs.Cores.{Attempt, Core, Idle, Running, Copying, Ready, Committing}
@@ -44,7 +44,7 @@ slots-each : (plan f : ℕ → ℕ) (ws : List Write) (k n : ℕ) → slots_afte
 slots-each plan f ws k zero = refl
 slots-each plan f ws k (suc n) = ap (λ slots. cond (is_some (written ws k)) (plan k) (f k) ∷ slots) (slots-each plan f ws (k + 1) n)
 
-chains-each : (i : Item) (slots : List ℕ) (f : ℕ → Chain) (k n : ℕ) → all_touched i slots k (each_from k n f) ≡ each_from k n (λ o. touched i o (slice_index slots o) (written i.run.writes o) (f o))
+chains-each : (i : FinishRecord) (slots : List ℕ) (f : ℕ → Chain) (k n : ℕ) → all_touched i slots k (each_from k n f) ≡ each_from k n (λ o. touched i o (slice_index slots o) (written i.run.writes o) (f o))
 chains-each i slots f k zero = refl
 chains-each i slots f k (suc n) = ap (λ chains. touched i k (slice_index slots k) (written i.run.writes k) (f k) ∷ chains) (chains-each i slots f (k + 1) n)
 
@@ -59,7 +59,7 @@ slot-each f n o l = from 0 n o l ∙ (let z : 0 + o ≡ o = omega arith in ap f 
 -- ---- the index
 
 -- the slots after a finish name its versions
-pub joined-slots : {M : Type 0} → (x : Setting M) (kept : Kept) (i : Item) → slots_after kept.plan i.run.writes 0 (each_from 0 (length x.set.objects) (λ o. newest_slot (kept.chains o))) ≡ each_from 0 (length x.set.objects) (λ o. newest_slot ((with_finished (Some i) kept).chains o))
+pub joined-slots : {M : Type 0} → (x : Setting M) (kept : Kept) (i : FinishRecord) → slots_after kept.plan i.run.writes 0 (each_from 0 (length x.set.objects) (λ o. newest_slot (kept.chains o))) ≡ each_from 0 (length x.set.objects) (λ o. newest_slot ((with_finished (Some i) kept).chains o))
 joined-slots x kept i = slots-each kept.plan (λ o. newest_slot (kept.chains o)) i.run.writes 0 (length x.set.objects) ∙ each-same _ _ (length x.set.objects) (λ o l. at o (written i.run.writes o))
   where
     at : (o : ℕ) (w : Option (List ℕ)) → cond (is_some w) (kept.plan o) (newest_slot (kept.chains o)) ≡ newest_slot (with_held i w (kept.plan o) (kept.chains o))
@@ -67,7 +67,7 @@ joined-slots x kept i = slots-each kept.plan (λ o. newest_slot (kept.chains o))
     at o (Some words) = refl
 
 -- the index after a finish is that of the history with it
-pub joined-index : {M : Type 0} → (x : Setting M) (base : Base) (last : Option Entry) (kept : Kept) (history : List Item) (i : Item) → index_after kept.plan (index_of x base last kept history) i ≡ index_of x base last (with_finished (Some i) kept) (i ∷ history)
+pub joined-index : {M : Type 0} → (x : Setting M) (base : DeviceState) (last : Option Entry) (kept : Kept) (history : List FinishRecord) (i : FinishRecord) → index_after kept.plan (index_of x base last kept history) i ≡ index_of x base last (with_finished (Some i) kept) (i ∷ history)
 joined-index x base last kept history i =
     let index : Index = index_of x base last kept history in
     let number : index.number + 1 ≡ base.number + length (i ∷ history) = omega arith in
@@ -75,24 +75,24 @@ joined-index x base last kept history i =
 
 -- ---- the seats
 
-written-same : (i : Item) (base : Base) (history : List Item) (reads : List Read) → list_any (λ (c : Copy). is_some (written i.run.writes c.object)) (copies_of base history reads) ≡ is_written_read i reads
+written-same : (i : FinishRecord) (base : DeviceState) (history : List FinishRecord) (reads : List Read) → list_any (λ (c : Copy). is_some (written i.run.writes c.object)) (copies_of base history reads) ≡ is_written_read i reads
 written-same i base history [] = refl
 written-same i base history (r ∷ reads) = ap (λ b. is_some (written i.run.writes r.object) || b) (written-same i base history reads)
 
-written-begun : (i : Item) (base : Base) (history : List Item) (copied : ℕ) (reads : List Read) → list_any (λ (c : Copy). is_some (written i.run.writes c.object)) (begun_copies base history copied reads) ≡ is_written_read i reads
+written-begun : (i : FinishRecord) (base : DeviceState) (history : List FinishRecord) (copied : ℕ) (reads : List Read) → list_any (λ (c : Copy). is_some (written i.run.writes c.object)) (begun_copies base history copied reads) ≡ is_written_read i reads
 written-begun i base history copied [] = refl
 written-begun i base history copied (r ∷ reads) = ap (λ b. is_some (written i.run.writes r.object) || b) (written-same i base history reads)
 
-copies-stay : (base : Base) (i : Item) (history : List Item) (reads : List Read) → AllByRecursion (λ r. read_words base (i ∷ history) r ≡ read_words base history r) reads → copies_of base history reads ≡ copies_of base (i ∷ history) reads
+copies-stay : (base : DeviceState) (i : FinishRecord) (history : List FinishRecord) (reads : List Read) → AllByRecursion (λ r. read_words base (i ∷ history) r ≡ read_words base history r) reads → copies_of base history reads ≡ copies_of base (i ∷ history) reads
 copies-stay base i history [] h = refl
 copies-stay base i history (r ∷ reads) h = ap₂ (λ (words : List ℕ) (copies : List Copy). let c : Copy = record { object = r.object; words = words } in c ∷ copies) (sym h.0) (copies-stay base i history reads h.1)
 
-begun-stay : (base : Base) (i : Item) (history : List Item) (copied : ℕ) (reads : List Read) → AllByRecursion (λ r. read_words base (i ∷ history) r ≡ read_words base history r) reads → begun_copies base history copied reads ≡ begun_copies base (i ∷ history) copied reads
+begun-stay : (base : DeviceState) (i : FinishRecord) (history : List FinishRecord) (copied : ℕ) (reads : List Read) → AllByRecursion (λ r. read_words base (i ∷ history) r ≡ read_words base history r) reads → begun_copies base history copied reads ≡ begun_copies base (i ∷ history) copied reads
 begun-stay base i history copied [] h = refl
 begun-stay base i history copied (r ∷ reads) h = ap₂ (λ (words : List ℕ) (copies : List Copy). let c : Copy = record { object = r.object; words = take copied words } in c ∷ copies) (sym h.0) (copies-stay base i history reads h.1)
 
 -- the seat of another core
-other_seat : {M : Type 0} → (x : Setting M) (base : Base) (s : State M) (n : ℕ) (i : Item) (kept after : Kept) (before index : Index) → IsLawful x.steps (sizes_in x) base s → get_or s.cores n Idle ≡ Committing i zero → after.pins ≡ kept.pins →
+other_seat : {M : Type 0} → (x : Setting M) (base : DeviceState) (s : State M) (n : ℕ) (i : FinishRecord) (kept after : Kept) (before index : Index) → IsLawful x.steps (sizes_in x) base s → get_or s.cores n Idle ≡ Committing i zero → after.pins ≡ kept.pins →
     (k : ℕ) → (k ≡ n → ⊥) → (c : Core M) → get_or s.cores k Idle ≡ c → cut_seat i (seat_of base s.history kept before k c) ≡ seat_of base (i ∷ s.history) after index k c
 other_seat {M} x base s n i kept after before index h at pins k ne c e = go c e (subst (IsSoundCore x.steps (sizes_in x) base s.history) e (h.sound.cores k))
   where
@@ -119,7 +119,7 @@ other_seat {M} x base s n i kept after before index h at pins k ne c e = go c e 
 
 -- ---- the objects
 
-joined-chain : (floor : ℕ) (kept : Kept) (history : List Item) (i : Item) (o slot : ℕ) → (w : Option (List ℕ)) → written i.run.writes o ≡ w → ((words : List ℕ) → w ≡ Some words → (bound_of floor o history ≤ i.point) × (slot ≡ kept.plan o)) →
+joined-chain : (floor : ℕ) (kept : Kept) (history : List FinishRecord) (i : FinishRecord) (o slot : ℕ) → (w : Option (List ℕ)) → written i.run.writes o ≡ w → ((words : List ℕ) → w ≡ Some words → (bound_of floor o history ≤ i.point) × (slot ≡ kept.plan o)) →
     touched i o slot w (let c : Chain = record { bound = bound_of floor o history; places = places_of (kept.chains o) } in c) ≡ (let c : Chain = record { bound = bound_of floor o (i ∷ history); places = places_of (with_held i w (kept.plan o) (kept.chains o)) } in c)
 joined-chain floor kept history i o slot (Some words) e h =
     let above : bound_of floor o history ≤ i.point = (h words refl).0 in
@@ -140,7 +140,7 @@ joined-chain floor kept history i o slot None e h =
 
 -- ---- all of it
 
-pub join_turned : {M : Type 0} → (x : Setting M) (base : Base) (last : Option Entry) (g : Ghost) (words : Words) (s : State M) (n : ℕ) (i : Item) → IsLawful x.steps (sizes_in x) base s → StandsFor (sizes_in x) base g.floor s g.kept (slots_in x words) → get_or s.cores n Idle ≡ Committing i zero →
+pub join_turned : {M : Type 0} → (x : Setting M) (base : DeviceState) (last : Option Entry) (g : Ghost) (words : Words) (s : State M) (n : ℕ) (i : FinishRecord) → IsLawful x.steps (sizes_in x) base s → StandsFor (sizes_in x) base g.floor s g.kept (slots_in x words) → get_or s.cores n Idle ≡ Committing i zero →
     Turned x base last g words s n (Committing i zero) (record { floor = g.floor; kept = with_finished (Some i) g.kept; root = root_with x (held_of x base last g s) g.kept.plan (Some i) })
 join_turned {M} x base last g words s n i h f at = record {
   line = refl;

@@ -15,8 +15,8 @@ use Rattle.std.specs.Prelude.{option_map, unwrap_or}
 use Rattle.std.specs.List.{AllByRecursion}
 use Rattle.std.proofs.lemmas.Bool.{ne_eqb}
 use Rattle.kernel_model.specs.Runs.{Reads}
-use Rattle.kernel_model.specs.Items.{Entry, Item}
-use Rattle.kernel_model.specs.Replay.{Base, clock_of}
+use Rattle.kernel_model.specs.Items.{Entry, FinishRecord}
+use Rattle.kernel_model.specs.Replay.{DeviceState, clock_of}
 use Rattle.kernel_model.specs.Versions.{Read, Version, chosen, versions}
 use Rattle.kernel_model.specs.Intervals.{Interval, is_empty, read_interval}
 use Rattle.kernel_model.specs.OpenTasks.{open_tasks}
@@ -55,21 +55,21 @@ answer_at x words t n c =
     record { tables = record u { seats = set u.seats n turn.seat }; writes = written_by x t c; line = turn.line }
 
 -- the next state, by the core
-abbrev pub state_at : {M : Type 0} → Setting M → Base → State M → ℕ → Core M → State M
+abbrev pub state_at : {M : Type 0} → Setting M → DeviceState → State M → ℕ → Core M → State M
 state_at x base s n c = record s { history = with_finish (finished_by c) s.history; cores = set s.cores n (core_turn x.steps (sizes_in x) base s.history (all_but n s.cores) n c).core }
 
 -- the tables of a state with power on
-abbrev pub now_of : {M : Type 0} → Setting M → Base → Option Entry → Ghost → State M → Tables M
+abbrev pub now_of : {M : Type 0} → Setting M → DeviceState → Option Entry → Ghost → State M → Tables M
 now_of x base last g s = tables_on x base last g s On
 
 -- a step of core n that does this is seen by the tables
-pub record Turned {M : Type 0} (x : Setting M) (base : Base) (last : Option Entry) (g : Ghost) (words : Words) (s : State M) (n : ℕ) (c : Core M) (after : Ghost) : Type 0 where
+pub record Turned {M : Type 0} (x : Setting M) (base : DeviceState) (last : Option Entry) (g : Ghost) (words : Words) (s : State M) (n : ℕ) (c : Core M) (after : Ghost) : Type 0 where
   pub line : (answer_at x words (now_of x base last g s) n (seat_of base s.history g.kept (index_of x base last g.kept s.history) n c)).line ≡ (core_turn x.steps (sizes_in x) base s.history (all_but n s.cores) n c).line
   pub writes : length (answer_at x words (now_of x base last g s) n (seat_of base s.history g.kept (index_of x base last g.kept s.history) n c)).writes ≡ core_writes c
   pub tables : (answer_at x words (now_of x base last g s) n (seat_of base s.history g.kept (index_of x base last g.kept s.history) n c)).tables ≡ now_of x base last after (state_at x base s n c)
 
 -- so it follows
-pub turned_follows : {M : Type 0} → (x : Setting M) (base : Base) (last : Option Entry) (g : Ghost) (words : Words) (s : State M) (n : ℕ) (after : Ghost) → s.power ≡ On → Turned x base last g words s n (get_or s.cores n Idle) after → Follows x base last g words s (CoreStep n) after
+pub turned_follows : {M : Type 0} → (x : Setting M) (base : DeviceState) (last : Option Entry) (g : Ghost) (words : Words) (s : State M) (n : ℕ) (after : Ghost) → s.power ≡ On → Turned x base last g words s n (get_or s.cores n Idle) after → Follows x base last g words s (CoreStep n) after
 turned_follows {M} x base last g words s n after e t = subst (λ p. Follows x base last g words (record s { power = p }) (CoreStep n) after) (sym e) at
   where
     on : State M
@@ -89,7 +89,7 @@ turned_follows {M} x base last g words s n after e t = subst (λ p. Follows x ba
     }
 
 -- with other pins and another plan, and another seat for core n, where the other seats stay
-pub quiet_tables : {M : Type 0} → (x : Setting M) (base : Base) (last : Option Entry) (g : Ghost) (s : State M) (n : ℕ) (d : Core M) (kept : Kept) → kept.chains ≡ g.kept.chains →
+pub quiet_tables : {M : Type 0} → (x : Setting M) (base : DeviceState) (last : Option Entry) (g : Ghost) (s : State M) (n : ℕ) (d : Core M) (kept : Kept) → kept.chains ≡ g.kept.chains →
     ((k : ℕ) → (k ≡ n → ⊥) → seat_of base s.history g.kept (index_of x base last g.kept s.history) k (get_or s.cores k Idle) ≡ seat_of base s.history kept (index_of x base last g.kept s.history) k (get_or s.cores k Idle)) →
     (let t = now_of x base last g s in record t { seats = set t.seats n (seat_of base s.history kept (index_of x base last g.kept s.history) n d) }) ≡ now_of x base last (record g { kept = kept }) (record s { cores = set s.cores n d })
 quiet_tables {M} x base last g s n d kept e stay =
@@ -105,7 +105,7 @@ quiet_tables {M} x base last g s n d kept e stay =
     moved = subst (λ chains. (let t = now_of x base last g s in record t { seats = seats_of base s.history (with_chains chains) index (set s.cores n d) }) ≡ now_of x base last (record g { kept = with_chains chains }) (record s { cores = set s.cores n d })) (sym e) refl
 
 -- a step that joins nothing, by its seat's turn
-pub quiet_turned : {M : Type 0} → (x : Setting M) (base : Base) (last : Option Entry) (g : Ghost) (words : Words) (s : State M) (n : ℕ) (c : Core M) (kept : Kept) → kept.chains ≡ g.kept.chains → finished_by c ≡ None →
+pub quiet_turned : {M : Type 0} → (x : Setting M) (base : DeviceState) (last : Option Entry) (g : Ghost) (words : Words) (s : State M) (n : ℕ) (c : Core M) (kept : Kept) → kept.chains ≡ g.kept.chains → finished_by c ≡ None →
     joined x (seat_of base s.history g.kept (index_of x base last g.kept s.history) n c) (now_of x base last g s) ≡ now_of x base last g s →
     length (written_by x (now_of x base last g s) (seat_of base s.history g.kept (index_of x base last g.kept s.history) n c)) ≡ core_writes c →
     seat_turn x (now_of x base last g s) words (all_but n (seats_of base s.history g.kept (index_of x base last g.kept s.history) s.cores)) n (seat_of base s.history g.kept (index_of x base last g.kept s.history) n c)
@@ -119,7 +119,7 @@ quiet_turned {M} x base last g words s n c kept e none join writes turn stay = r
       ap (λ (u : Tables M). let w : Tables M = record u { seats = set u.seats n (seat_turn x (now_of x base last g s) words (all_but n (seats_of base s.history g.kept index s.cores)) n (seat_of base s.history g.kept index n c)).seat } in w) join
       ∙ ap (λ (t : SeatTurn M). let u = now_of x base last g s in let w : Tables M = record u { seats = set u.seats n t.seat } in w) turn
       ∙ quiet_tables x base last g s n d kept e stay
-      ∙ ap (λ (f : Option Item). let w : State M = record s { history = with_finish f s.history; cores = set s.cores n d } in now_of x base last (record g { kept = kept }) w) (sym none);
+      ∙ ap (λ (f : Option FinishRecord). let w : State M = record s { history = with_finish f s.history; cores = set s.cores n d } in now_of x base last (record g { kept = kept }) w) (sym none);
 }
   where
     index : Index
@@ -129,7 +129,7 @@ quiet_turned {M} x base last g words s n c kept e none join writes turn stay = r
     d = (core_turn x.steps (sizes_in x) base s.history (all_but n s.cores) n c).core
 
 -- a commit makes as many writes as the event machine counts
-pub counted : {M : Type 0} → (x : Setting M) (base : Base) (last : Option Entry) (kept : Kept) (history : List Item) (h : decoding.Held) → h.index ≡ index_of x base last kept history → (plan : ℕ → ℕ) (i : Item) → AllByRecursion (IsWrite (sizes_in x)) i.run.writes →
+pub counted : {M : Type 0} → (x : Setting M) (base : DeviceState) (last : Option Entry) (kept : Kept) (history : List FinishRecord) (h : decoding.Held) → h.index ≡ index_of x base last kept history → (plan : ℕ → ℕ) (i : FinishRecord) → AllByRecursion (IsWrite (sizes_in x)) i.run.writes →
     length (commits.commit_writes x.layout x.set h (commit_of i (index_after plan h.index i))) ≡ commit_writes (sizes_in x) base history i
 counted x base last kept history h same plan i ws =
     length-commit x.layout x.set h (commit_of i (index_after plan h.index i))
@@ -143,7 +143,7 @@ counted x base last kept history h same plan i ws =
     length-slots_after plan ws o (slot ∷ slots) = ap suc (length-slots_after plan ws (o + 1) slots)
 
 -- what a verdict and a reader look at
-pub are_tables : {M : Type 0} → (x : Setting M) (base : Base) (last : Option Entry) (g : Ghost) (history : List Item) → AreTables (sizes_in x) base g.floor history g.kept (seen_in (index_of x base last g.kept history) (chains_of x g history))
+pub are_tables : {M : Type 0} → (x : Setting M) (base : DeviceState) (last : Option Entry) (g : Ghost) (history : List FinishRecord) → AreTables (sizes_in x) base g.floor history g.kept (seen_in (index_of x base last g.kept history) (chains_of x g history))
 are_tables x base last g history = record {
   places = λ o l. ap (λ (c : Chain). c.places) (chain-each (chain_of g history) (length x.set.objects) o l);
   bounds = λ o l. ap (λ (c : Chain). c.bound) (chain-each (chain_of g history) (length x.set.objects) o l);
@@ -155,7 +155,7 @@ are_tables x base last g history = record {
 
 -- ---- the arms
 
-pub idle_turned : {M : Type 0} → (x : Setting M) (base : Base) (last : Option Entry) (g : Ghost) (words : Words) (s : State M) (n : ℕ) → Turned x base last g words s n Idle g
+pub idle_turned : {M : Type 0} → (x : Setting M) (base : DeviceState) (last : Option Entry) (g : Ghost) (words : Words) (s : State M) (n : ℕ) → Turned x base last g words s n Idle g
 idle_turned x base last g words s n =
     quiet_turned x base last g words s n Idle g.kept refl refl refl refl
     (ap (start_try x.steps (clock_of base s.history) n) (next-same base s.history g.kept index s.cores n (open_tasks base s.history)) ∙ start_seen x.steps base s.history g.kept index n (next_task (all_but n s.cores) (open_tasks base s.history)))
@@ -164,11 +164,11 @@ idle_turned x base last g words s n =
     index : Index
     index = index_of x base last g.kept s.history
 
-pub write_turned : {M : Type 0} → (x : Setting M) (base : Base) (last : Option Entry) (g : Ghost) (words : Words) (s : State M) (n : ℕ) (i : Item) (left : ℕ) → Turned x base last g words s n (Committing i (suc left)) g
+pub write_turned : {M : Type 0} → (x : Setting M) (base : DeviceState) (last : Option Entry) (g : Ghost) (words : Words) (s : State M) (n : ℕ) (i : FinishRecord) (left : ℕ) → Turned x base last g words s n (Committing i (suc left)) g
 write_turned x base last g words s n i left = quiet_turned x base last g words s n (Committing i (suc left)) g.kept refl refl refl refl refl (λ k ne. refl)
 
 -- the seat of another core, where its pin is the same
-other_pins : {M : Type 0} → (base : Base) (history : List Item) (kept : Kept) (index : Index) (n slot k : ℕ) (c : Core M) → (k ≡ n → ⊥) → seat_of base history kept index k c ≡ seat_of base history (record kept { pins = put_at n slot kept.pins }) index k c
+other_pins : {M : Type 0} → (base : DeviceState) (history : List FinishRecord) (kept : Kept) (index : Index) (n slot k : ℕ) (c : Core M) → (k ≡ n → ⊥) → seat_of base history kept index k c ≡ seat_of base history (record kept { pins = put_at n slot kept.pins }) index k c
 other_pins base history kept index n slot k Idle ne = refl
 other_pins base history kept index n slot k (Running a) ne = refl
 other_pins {M} base history kept index n slot k (Copying a copied) ne = ap (λ (b : Bool). let c : Seat M = Copies (try_of base history a (begun_copies base history copied a.reads)) (cond b slot (kept.pins k)) in c) (sym (ne_eqb k n ne))
@@ -176,7 +176,7 @@ other_pins base history kept index n slot k (Ready a outcome) ne = refl
 other_pins base history kept index n slot k (Committing i left) ne = refl
 
 -- what is kept after a running core's turn: the same, or another pin
-pub run_keeps : {M : Type 0} → (base : Base) (history : List Item) (n : ℕ) (a : Attempt M) (d : Core M) (kept : Kept) → (kept_run base history n a d kept ≡ kept) ⊎ ((slot : ℕ) × (kept_run base history n a d kept ≡ record kept { pins = put_at n slot kept.pins }))
+pub run_keeps : {M : Type 0} → (base : DeviceState) (history : List FinishRecord) (n : ℕ) (a : Attempt M) (d : Core M) (kept : Kept) → (kept_run base history n a d kept ≡ kept) ⊎ ((slot : ℕ) × (kept_run base history n a d kept ≡ record kept { pins = put_at n slot kept.pins }))
 run_keeps base history n a Idle kept = inl refl
 run_keeps base history n a (Running b) kept = inl refl
 run_keeps base history n a (Ready b outcome) kept = inl refl
@@ -195,7 +195,7 @@ place_slot hi chain p e = go (chosen_held hi chain) (sym (choose_places hi chain
     go None f = absurd (cc f)
     go (Some h) f = let same : place_of h ≡ p = cc f in ap (λ (q : Place). q.slot) (sym same)
 
-pub run_turned : {M : Type 0} → (x : Setting M) (base : Base) (last : Option Entry) (g : Ghost) (words : Words) (s : State M) (n : ℕ) (a : Attempt M) → IsLawful x.steps (sizes_in x) base s → StandsFor (sizes_in x) base g.floor s g.kept (slots_in x words) → get_or s.cores n Idle ≡ Running a →
+pub run_turned : {M : Type 0} → (x : Setting M) (base : DeviceState) (last : Option Entry) (g : Ghost) (words : Words) (s : State M) (n : ℕ) (a : Attempt M) → IsLawful x.steps (sizes_in x) base s → StandsFor (sizes_in x) base g.floor s g.kept (slots_in x words) → get_or s.cores n Idle ≡ Running a →
     Turned x base last g words s n (Running a) (record g { kept = kept_run base s.history n a (core_turn x.steps (sizes_in x) base s.history (all_but n s.cores) n (Running a)).core g.kept })
 run_turned {M} x base last g words s n a h f at = quiet_turned x base last g words s n (Running a) kept (chains (run_keeps base s.history n a d g.kept)) refl refl refl turn (stay (run_keeps base s.history n a d g.kept))
   where
@@ -233,7 +233,7 @@ run_turned {M} x base last g words s n a h f at = quiet_turned x base last g wor
     turn : seat_turn x (now_of x base last g s) words (all_but n (seats_of base s.history g.kept index s.cores)) n (seat_of base s.history g.kept index n (Running a)) ≡ seen_turn base s.history kept index n (core_turn x.steps (sizes_in x) base s.history (all_but n s.cores) n (Running a))
     turn = run_seen x.steps base s.history g.kept index (chains_of x g s.history) n a (x.steps.step a.state) (λ m o e. fetch_seen base s.history g.kept index (chains_of x g s.history) n a m o (fetch m o e))
 
-pub copy_turned : {M : Type 0} → (x : Setting M) (base : Base) (last : Option Entry) (g : Ghost) (words : Words) (s : State M) (n : ℕ) (a : Attempt M) (copied : ℕ) → IsLawful x.steps (sizes_in x) base s → StandsFor (sizes_in x) base g.floor s g.kept (slots_in x words) → get_or s.cores n Idle ≡ Copying a copied →
+pub copy_turned : {M : Type 0} → (x : Setting M) (base : DeviceState) (last : Option Entry) (g : Ghost) (words : Words) (s : State M) (n : ℕ) (a : Attempt M) (copied : ℕ) → IsLawful x.steps (sizes_in x) base s → StandsFor (sizes_in x) base g.floor s g.kept (slots_in x words) → get_or s.cores n Idle ≡ Copying a copied →
     copied < (sizes_in x).size (newest_object a.reads) → Turned x base last g words s n (Copying a copied) g
 copy_turned {M} x base last g words s n a copied h f at inside = quiet_turned x base last g words s n (Copying a copied) g.kept refl refl refl refl turn (λ k ne. refl)
   where
@@ -251,7 +251,7 @@ copy_turned {M} x base last g words s n a copied h f at inside = quiet_turned x 
         (λ r rest e. (subst (λ reads. copied < (sizes_in x).size (newest_object reads)) e inside, (copied_stands (sizes_in x) base g.floor s.history s.cores g.kept (slots_in x words) h.sound.history.numbered f.stands n a copied r rest at e (of_reads r rest e)).1))
 
 -- the seat of a core that does not commit, by another plan
-other_plan : {M : Type 0} → (base : Base) (history : List Item) (kept : Kept) (index : Index) (plan : ℕ → ℕ) (k : ℕ) (c : Core M) → commits c ≡ false → seat_of base history kept index k c ≡ seat_of base history (record kept { plan = plan }) index k c
+other_plan : {M : Type 0} → (base : DeviceState) (history : List FinishRecord) (kept : Kept) (index : Index) (plan : ℕ → ℕ) (k : ℕ) (c : Core M) → commits c ≡ false → seat_of base history kept index k c ≡ seat_of base history (record kept { plan = plan }) index k c
 other_plan base history kept index plan k Idle e = refl
 other_plan base history kept index plan k (Running a) e = refl
 other_plan base history kept index plan k (Copying a copied) e = refl
@@ -259,14 +259,14 @@ other_plan base history kept index plan k (Ready a outcome) e = refl
 other_plan base history kept index plan k (Committing i left) e = absurd (cc e)
 
 -- what is kept after a verdict has the same chains
-verdict_chains : {M : Type 0} → (sizes : Sizes) (base : Base) (history : List Item) (others : List (Core M)) (d : Core M) (kept : Kept) → (kept_verdict sizes base history others d kept).chains ≡ kept.chains
+verdict_chains : {M : Type 0} → (sizes : Sizes) (base : DeviceState) (history : List FinishRecord) (others : List (Core M)) (d : Core M) (kept : Kept) → (kept_verdict sizes base history others d kept).chains ≡ kept.chains
 verdict_chains sizes base history others Idle kept = refl
 verdict_chains sizes base history others (Running a) kept = refl
 verdict_chains sizes base history others (Copying a copied) kept = refl
 verdict_chains sizes base history others (Ready a outcome) kept = refl
 verdict_chains sizes base history others (Committing i left) kept = refl
 
-verdict_stays : {M : Type 0} → (sizes : Sizes) (base : Base) (history : List Item) (others : List (Core M)) (d : Core M) (kept : Kept) (index : Index) (k : ℕ) (c : Core M) → commits c ≡ false → seat_of base history kept index k c ≡ seat_of base history (kept_verdict sizes base history others d kept) index k c
+verdict_stays : {M : Type 0} → (sizes : Sizes) (base : DeviceState) (history : List FinishRecord) (others : List (Core M)) (d : Core M) (kept : Kept) (index : Index) (k : ℕ) (c : Core M) → commits c ≡ false → seat_of base history kept index k c ≡ seat_of base history (kept_verdict sizes base history others d kept) index k c
 verdict_stays sizes base history others Idle kept index k c e = refl
 verdict_stays sizes base history others (Running a) kept index k c e = refl
 verdict_stays sizes base history others (Copying a copied) kept index k c e = refl
@@ -282,7 +282,7 @@ in_range : (sizes : Sizes) (ws : List Write) → AllByRecursion (IsWrite sizes) 
 in_range sizes [] h = tt
 in_range sizes (w ∷ ws) h = (h.0.object, in_range sizes ws h.1)
 
-pub ready_turned : {M : Type 0} → (x : Setting M) (base : Base) (last : Option Entry) (g : Ghost) (words : Words) (s : State M) (n : ℕ) (a : Attempt M) (outcome : Outcome) → IsSetting x → IsLawful x.steps (sizes_in x) base s → StandsFor (sizes_in x) base g.floor s g.kept (slots_in x words) → get_or s.cores n Idle ≡ Ready a outcome →
+pub ready_turned : {M : Type 0} → (x : Setting M) (base : DeviceState) (last : Option Entry) (g : Ghost) (words : Words) (s : State M) (n : ℕ) (a : Attempt M) (outcome : Outcome) → IsSetting x → IsLawful x.steps (sizes_in x) base s → StandsFor (sizes_in x) base g.floor s g.kept (slots_in x words) → get_or s.cores n Idle ≡ Ready a outcome →
     AllByRecursion (IsWrite (sizes_in x)) a.writes →
     Turned x base last g words s n (Ready a outcome) (record g { kept = kept_verdict (sizes_in x) base s.history (all_but n s.cores) (core_turn x.steps (sizes_in x) base s.history (all_but n s.cores) n (Ready a outcome)).core g.kept })
 ready_turned {M} x base last g words s n a outcome fit h f at ws =
@@ -336,11 +336,11 @@ ready_turned {M} x base last g words s n a outcome fit h f at ws =
         ∙ ap (free_place (sizes.slots o) o (views_of base s.history g.kept.pins 0 (set s.cores n Idle))) ((are_tables x base last g s.history).places o l)
         ∙ free_at sizes base g.floor s.history s.cores g.kept (slots_in x words) h.sound.history.numbered f.stands n o l)
 
-    slots : (i : Item) → index_after (plan_in sizes seats t.chains) index i ≡ index_after (planned sizes base s.history others g.kept).plan index i
+    slots : (i : FinishRecord) → index_after (plan_in sizes seats t.chains) index i ≡ index_after (planned sizes base s.history others g.kept).plan index i
     slots i = ap (commits.index_after index i)
         (slots-same (plan_in sizes seats t.chains) (planned sizes base s.history others g.kept).plan i.run.writes 0 index.slots (λ k l m. plan k (omega (arith, m, length-each (λ o. newest_slot (g.kept.chains o)) 0 (length x.set.objects)))))
 
-    count : (i : Item) → v ≡ Granted i → length (writes_in x t i (index_after (plan_in sizes seats t.chains) index i)) ≡ commit_writes sizes base s.history i
+    count : (i : FinishRecord) → v ≡ Granted i → length (writes_in x t i (index_after (plan_in sizes seats t.chains) index i)) ≡ commit_writes sizes base s.history i
     count i e = counted x base last g.kept s.history (held_in t) refl (plan_in sizes seats t.chains) i (subst (λ (r : Run). AllByRecursion (IsWrite sizes) r.writes) (sym (granted sizes base s.history others a (run_of a outcome) i e).1) (run_writes (IsWrite sizes) a outcome ws))
 
     turn : seat_turn x t words seats n (seat_of base s.history g.kept index n (Ready a outcome)) ≡ seen_turn base s.history (kept_by (is_committing others)) index n (now (is_committing others))

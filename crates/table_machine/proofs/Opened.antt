@@ -1,8 +1,8 @@
 -- What stands for the state before the first event, and the device of format 1.
 use Rattle.std.proofs.Common.{◌≡◌, ℕ, suc, ◌+◌, ◌<◌, ◌≤◌, List, [], ◌∷◌, get_or, length, None, refl, sym, ap, ap₂, ◌∙◌, subst, arith, slice_index}
-use Rattle.kernel_model.specs.Effects.{words_of}
-use Rattle.kernel_model.specs.Runs.{Steps}
-use Rattle.kernel_model.specs.Replay.{Base, max_id}
+use Rattle.kernel_model.specs.Effects.{object_words}
+use Rattle.kernel_model.specs.Runs.{TaskMachine}
+use Rattle.kernel_model.specs.Replay.{DeviceState, max_id}
 use Rattle.kernel_model.specs.Cores.{Idle}
 use Rattle.kernel_model.specs.Events.{Power, On, Boot, State, opened}
 use Rattle.kernel_model.specs.Fit.{IsBase, IsMachine, IsSetUp}
@@ -33,10 +33,10 @@ use Rattle.table_machine.proofs.CommitLists.{commit-idle}
 -- ---- the kinds of device
 
 -- on a device of format 1 the numbers are those of the set
-pub plain-sizes : {M : Type 0} → (steps : Steps M) (set : TaskSet) → sizes_in (let x : Setting M = record { steps = steps; set = set; layout = layout_of Plain set } in x) ≡ sizes_of set
+pub plain-sizes : {M : Type 0} → (steps : TaskMachine M) (set : TaskSet) → sizes_in (let x : Setting M = record { steps = steps; set = set; layout = layout_of Plain set } in x) ≡ sizes_of set
 plain-sizes steps set = plain_sizes set
 
-pub kind_setting : {M : Type 0} → (steps : Steps M) (kind : Kind) (set : TaskSet) → IsTaskSet set → IsSetting (let x : Setting M = record { steps = steps; set = set; layout = layout_of kind set } in x)
+pub kind_setting : {M : Type 0} → (steps : TaskMachine M) (kind : Kind) (set : TaskSet) → IsTaskSet set → IsSetting (let x : Setting M = record { steps = steps; set = set; layout = layout_of kind set } in x)
 kind_setting steps kind set h = record { set = h; laid_out = laid_out_set kind set h }
 
 -- ---- before the first event
@@ -50,7 +50,7 @@ each-of xs n e = subst (λ n. each_from 0 n (slice_index xs) ≡ xs) e (from 0 (
     from k f (y ∷ ys) h = ap₂ (λ (a : ℕ) (b : List ℕ). a ∷ b) ((let z : k ≡ k + 0 = omega arith in ap f z) ∙ h 0 (omega arith)) (from (k + 1) f ys (λ i l. (let z : k + 1 + i ≡ k + suc i = omega arith in ap f z) ∙ h (suc i) (omega (arith, l))))
 
 -- a base by the numbers of the setting
-base-in : {M : Type 0} → (x : Setting M) (b : Base) → IsBase (sizes_of x.set) b → IsBase (sizes_in x) b
+base-in : {M : Type 0} → (x : Setting M) (b : DeviceState) → IsBase (sizes_of x.set) b → IsBase (sizes_in x) b
 base-in x b k = record { objects = k.objects; words = k.words; in_order = k.in_order; positive = k.positive; old = k.old; programs = k.programs; records = k.records; clock = k.clock; next = k.next }
 
 -- words that keep a state stand for it, where no core does anything
@@ -68,7 +68,7 @@ opened_represents {M} x h words cores power fit machine k ids = (
   },
 )
   where
-    base : Base
+    base : DeviceState
     base = base_of h.index h.objects
 
     named : ℕ → ℕ
@@ -98,9 +98,9 @@ opened_represents {M} x h words cores power fit machine k ids = (
     held : held_of x base h.index.last g s ≡ h
     held = ap (λ (y : Index). let q : Held = record { index = y; objects = h.objects; boots = h.boots; root = h.root } in q) index
 
-    stands : (o : ℕ) → o < length x.set.objects → slots_in x words o (named o) ≡ words_of h.objects o
+    stands : (o : ℕ) → o < length x.set.objects → slots_in x words o (named o) ≡ object_words h.objects o
     stands o l = ap (words_from words (slot_place x.layout x.set o (named o))) (sym (k.held.words o l))
-        ∙ words_are words (slot_place x.layout x.set o (named o)) (words_of h.objects o) (λ i b. k.objects o i l (omega (arith, b, k.held.words o l)))
+        ∙ words_are words (slot_place x.layout x.set o (named o)) (object_words h.objects o) (λ i b. k.objects o i l (omega (arith, b, k.held.words o l)))
 
     chains : reopened x.set h.index ≡ chains_of x g []
     chains = each-same _ _ (length x.set.objects) (λ o l. ap (λ (b : ℕ). let c : Chain = record { bound = b; places = (one_version (named o) h.index.clock).places } in c) (sym (bound_at_clock base [] o)))

@@ -1,8 +1,8 @@
 -- Failures of power and turns of a boot.
 use Rattle.std.proofs.Common.{◌≡◌, ℕ, zero, suc, ◌+◌, ◌<◌, Bool, true, false, cond, eqb, List, [], ◌∷◌, get_or, length, Option, None, refl, sym, ap, ap₂, ◌∙◌, subst, arith, slice_index, Some}
 use Rattle.std.specs.Prelude.{replicate}
-use Rattle.kernel_model.specs.Items.{Entry, Item, listing}
-use Rattle.kernel_model.specs.Replay.{Base, clock_of}
+use Rattle.kernel_model.specs.Items.{Entry, FinishRecord, listing}
+use Rattle.kernel_model.specs.Replay.{DeviceState, clock_of}
 use Rattle.kernel_model.specs.Cores.{Idle}
 use Rattle.kernel_model.specs.Turns.{Line, Nothing}
 use Rattle.kernel_model.specs.Events.{Power, On, Boot, State, CoreStep, Fail, boot_turn, durable_commit, event_step, still_owed, with_finish}
@@ -28,18 +28,18 @@ use Rattle.table_machine.proofs.SeatLists.{each-same, length-seats, saved-same, 
 use Rattle.table_machine.proofs.Joins.{slot-each}
 
 -- power fails
-pub fail_follows : {M : Type 0} → (x : Setting M) (base : Base) (last : Option Entry) (g : Ghost) (words : Words) (s : State M) (after : Ghost) → Follows x base last g words s Fail after
+pub fail_follows : {M : Type 0} → (x : Setting M) (base : DeviceState) (last : Option Entry) (g : Ghost) (words : Words) (s : State M) (after : Ghost) → Follows x base last g words s Fail after
 fail_follows {M} x base last g words s after = record { line = refl; writes = refl; tables = go s.power }
   where
-    now : List Entry → Option Item → List (Seat M) → Tables M
+    now : List Entry → Option FinishRecord → List (Seat M) → Tables M
     now entries found seats = record { power = Boot (sizes_in x).boot_turns; boots = s.boots; owed = still_owed found s.owed; entries = entries; seats = seats; index = no_index; root = 0; chains = [] }
 
-    listed : (j : Option Item) → with_entry j (listing s.history) ≡ listing (with_finish j s.history)
+    listed : (j : Option FinishRecord) → with_entry j (listing s.history) ≡ listing (with_finish j s.history)
     listed None = refl
     listed (Some i) = refl
 
     at : (index : Index) → (let seats = seats_of base s.history g.kept index s.cores in now (with_entry (saved_in seats) (listing s.history)) (saved_in seats) (replicate (length seats) Vacant)) ≡ now (listing (with_finish (durable_commit s.cores) s.history)) (durable_commit s.cores) (seats_of base (with_finish (durable_commit s.cores) s.history) after.kept no_index (replicate (length s.cores) Idle))
-    at index = ap₂ (λ (found : Option Item) (seats : List (Seat M)). now (with_entry found (listing s.history)) found seats) (saved-same base s.history g.kept index s.cores)
+    at index = ap₂ (λ (found : Option FinishRecord) (seats : List (Seat M)). now (with_entry found (listing s.history)) found seats) (saved-same base s.history g.kept index s.cores)
         (ap (λ (n : ℕ). replicate n Vacant) (length-seats (seat_of base s.history g.kept index) s.cores) ∙ vacant-seats (seat_of base (with_finish (durable_commit s.cores) s.history) after.kept no_index) (λ k. refl) (length s.cores))
         ∙ ap (λ (entries : List Entry). now entries (durable_commit s.cores) (seats_of base (with_finish (durable_commit s.cores) s.history) after.kept no_index (replicate (length s.cores) Idle))) (listed (durable_commit s.cores))
 
@@ -48,7 +48,7 @@ fail_follows {M} x base last g words s after = record { line = refl; writes = re
     go (Boot left) = at no_index
 
 -- the index names the same slots when each object has one version alone
-pub fresh-index : {M : Type 0} → (x : Setting M) (base : Base) (last : Option Entry) (clock : ℕ) (kept : Kept) (history : List Item) → index_of x base last (afresh clock kept) history ≡ index_of x base last kept history
+pub fresh-index : {M : Type 0} → (x : Setting M) (base : DeviceState) (last : Option Entry) (clock : ℕ) (kept : Kept) (history : List FinishRecord) → index_of x base last (afresh clock kept) history ≡ index_of x base last kept history
 fresh-index x base last clock kept history =
     ap (λ (slots : List ℕ). let index : Index = index_of x base last kept history in let y : Index = record { clock = index.clock; number = index.number; next = index.next; last = index.last; slots = slots; tasks = index.tasks } in y)
     (each-same _ _ (length x.set.objects) (λ o l. at (kept.chains o)))
@@ -58,7 +58,7 @@ fresh-index x base last clock kept history =
     at (h ∷ hs) = refl
 
 -- the objects after a boot
-fresh-chains : {M : Type 0} → (x : Setting M) (base : Base) (last : Option Entry) (g : Ghost) (words : Words) (s : State M) → ((k : ℕ) → get_or s.cores k Idle ≡ Idle) → StandsFor (sizes_in x) base g.floor s g.kept (slots_in x words) →
+fresh-chains : {M : Type 0} → (x : Setting M) (base : DeviceState) (last : Option Entry) (g : Ghost) (words : Words) (s : State M) → ((k : ℕ) → get_or s.cores k Idle ≡ Idle) → StandsFor (sizes_in x) base g.floor s g.kept (slots_in x words) →
     reopened x.set (index_of x base last g.kept s.history) ≡ chains_of x (fresh_ghost base g s) s.history
 fresh-chains x base last g words s idle f = each-same _ _ (length x.set.objects) (λ o l. ap₂ (λ (b : ℕ) (places : List Place). let c : Chain = record { bound = b; places = places } in c) (sym (bound_at_clock base s.history o)) (at o l))
   where
@@ -71,7 +71,7 @@ fresh-chains x base last g words s idle f = each-same _ _ (length x.set.objects)
         ∙ began.places o l
 
 -- what a turn of a boot leaves as it is
-pub same_ghost : {M : Type 0} → (x : Setting M) (base : Base) (last : Option Entry) (g : Ghost) (words : Words) (s : State M) (n left : ℕ) → s.power ≡ Boot left → (eqb n 0 ≡ true → left ≡ 1 → ⊥) → Follows x base last g words s (CoreStep n) g
+pub same_ghost : {M : Type 0} → (x : Setting M) (base : DeviceState) (last : Option Entry) (g : Ghost) (words : Words) (s : State M) (n left : ℕ) → s.power ≡ Boot left → (eqb n 0 ≡ true → left ≡ 1 → ⊥) → Follows x base last g words s (CoreStep n) g
 same_ghost {M} x base last g words s n left off more = subst (λ p. Follows x base last g words (record s { power = p }) (CoreStep n) g) (sym off) (go left (eqb n 0) refl more)
   where
     -- by the turns left, and whether core 0 steps
@@ -92,7 +92,7 @@ same_ghost {M} x base last g words s n left off more = subst (λ p. Follows x ba
     go left b e h = let k = of left (eqb n 0) h in record { line = k.0; writes = k.1 ∙ (let z : cond (eqb n 0) (turn_boots left) 0 ≡ 0 + cond (eqb n 0) (turn_boots left) 0 = omega arith in z); tables = k.2 }
 
 -- the last turn of a boot
-pub booted_follows : {M : Type 0} → (x : Setting M) (base : Base) (last : Option Entry) (g : Ghost) (words : Words) (s : State M) → IsLaidOut x.set x.layout → IsLawful x.steps (sizes_in x) base s → StandsFor (sizes_in x) base g.floor s g.kept (slots_in x words) → s.power ≡ Boot 1 →
+pub booted_follows : {M : Type 0} → (x : Setting M) (base : DeviceState) (last : Option Entry) (g : Ghost) (words : Words) (s : State M) → IsLaidOut x.set x.layout → IsLawful x.steps (sizes_in x) base s → StandsFor (sizes_in x) base g.floor s g.kept (slots_in x words) → s.power ≡ Boot 1 →
     KeepsIn x.set x.layout (held_of x base last g s) words → Follows x base last g words s (CoreStep 0) (fresh_ghost base g s)
 booted_follows {M} x base last g words s d h f off k = subst (λ p. Follows x base last g words (record s { power = p }) (CoreStep 0) (fresh_ghost base g s)) (sym off) (record { line = refl; writes = refl; tables = tables })
   where

@@ -1,7 +1,7 @@
 -- Room for ids by the tables, and one event seen from outside.
 use Rattle.std.proofs.Common.{◌≡◌, ℕ, zero, suc, ◌+◌, ◌≤◌, ◌⊎◌, inl, inr, true, get_or, length, Option, Some, None, refl, sym, ap, ◌∙◌, subst, arith}
-use Rattle.kernel_model.specs.Items.{Entry, Item}
-use Rattle.kernel_model.specs.Replay.{Base, max_id, next_id}
+use Rattle.kernel_model.specs.Items.{Entry, FinishRecord}
+use Rattle.kernel_model.specs.Replay.{DeviceState, max_id, next_id}
 use Rattle.kernel_model.specs.Runs.{max_spawns}
 use Rattle.kernel_model.specs.Cores.{Core, Idle, Committing, finished_by}
 use Rattle.kernel_model.specs.Cores as cores
@@ -21,20 +21,20 @@ use Rattle.table_machine.proofs.CommitLists.{find-commit, finish-none, finish-on
 use Rattle.table_machine.proofs.Simulated.{event_simulates}
 
 -- the finish that joins has few spawns, and power was on
-pub joins_few : {M : Type 0} → (x : Setting M) (base : Base) (s : State M) (e : Event) (i : Item) → IsLawful x.steps (sizes_in x) base s → joining s e ≡ Some i → (s.power ≡ On) × (length i.run.spawns ≤ max_spawns)
+pub joins_few : {M : Type 0} → (x : Setting M) (base : DeviceState) (s : State M) (e : Event) (i : FinishRecord) → IsLawful x.steps (sizes_in x) base s → joining s e ≡ Some i → (s.power ≡ On) × (length i.run.spawns ≤ max_spawns)
 joins_few {M} x base s Fail i h e = go (find-commit s.cores)
   where
-    on : (n : ℕ) (j : Item) (left : ℕ) → get_or s.cores n Idle ≡ Committing j left → (p : Power) → s.power ≡ p → s.power ≡ On
+    on : (n : ℕ) (j : FinishRecord) (left : ℕ) → get_or s.cores n Idle ≡ Committing j left → (p : Power) → s.power ≡ p → s.power ≡ On
     on n j left at On q = q
     on n j left at (Boot m) q = absurd (let idle = boot_idle x.steps (sizes_in x) base s m h q n in cc (idle, at))
 
-    one : (n : ℕ) (j : Item) (left : ℕ) → get_or s.cores n Idle ≡ Committing j left → (s.power ≡ On) × (length i.run.spawns ≤ max_spawns)
+    one : (n : ℕ) (j : FinishRecord) (left : ℕ) → get_or s.cores n Idle ≡ Committing j left → (s.power ≡ On) × (length i.run.spawns ≤ max_spawns)
     one n j zero at =
         let same : j ≡ i = (let p = (finish-one s.cores n j zero at h.sound.one_commits).1 in let q : Some j ≡ Some i = sym p ∙ e in cc q) in
-        (on n j zero at s.power refl, subst (λ (k : Item). length k.run.spawns ≤ max_spawns) same (runs_of x.steps (sizes_in x) base s h.set_up h.sound n j zero at).spawns)
+        (on n j zero at s.power refl, subst (λ (k : FinishRecord). length k.run.spawns ≤ max_spawns) same (runs_of x.steps (sizes_in x) base s h.set_up h.sound n j zero at).spawns)
     one n j (suc left) at = absurd (let p = (finish-one s.cores n j (suc left) at h.sound.one_commits).1 in let q : None ≡ Some i = sym p ∙ e in cc q)
 
-    go : ((k : ℕ) → cores.commits (get_or s.cores k Idle) ≡ true → ⊥) ⊎ ((n : ℕ) × (j : Item) × (left : ℕ) × (get_or s.cores n Idle ≡ Committing j left)) → (s.power ≡ On) × (length i.run.spawns ≤ max_spawns)
+    go : ((k : ℕ) → cores.commits (get_or s.cores k Idle) ≡ true → ⊥) ⊎ ((n : ℕ) × (j : FinishRecord) × (left : ℕ) × (get_or s.cores n Idle ≡ Committing j left)) → (s.power ≡ On) × (length i.run.spawns ≤ max_spawns)
     go (inl none) = absurd (let p = finish-none s.cores none in let q : None ≡ Some i = sym p ∙ e in cc q)
     go (inr p) = one p.0 p.1 p.2 p.3
 joins_few {M} x base s (CoreStep n) i h e = by s.power refl e
@@ -44,7 +44,7 @@ joins_few {M} x base s (CoreStep n) i h e = by s.power refl e
     by (Boot left) q f = absurd (cc f)
 
 -- room in the tables is room for the next state
-pub room_suffices : {M : Type 0} → (x : Setting M) (base : Base) (last : Option Entry) (t : Tables M) (words : Words) (s : State M) (e : Event) → Represents x base last t words s → HasRoom t → next_id base (event_step x.steps (sizes_in x) base s e).0.history ≤ max_id
+pub room_suffices : {M : Type 0} → (x : Setting M) (base : DeviceState) (last : Option Entry) (t : Tables M) (words : Words) (s : State M) (e : Event) → Represents x base last t words s → HasRoom t → next_id base (event_step x.steps (sizes_in x) base s e).0.history ≤ max_id
 room_suffices {M} x base last t words s e (g, a) room = subst (λ history. next_id base history ≤ max_id) (sym (history-joined x.steps (sizes_in x) base s e)) (go (joining s e) refl)
   where
     next_is : s.power ≡ On → t.index.next ≡ next_id base s.history
@@ -57,7 +57,7 @@ room_suffices {M} x base last t words s e (g, a) room = subst (λ history. next_
         same On = refl
         same (Boot left) = refl
 
-    go : (j : Option Item) → joining s e ≡ j → next_id base (with_finish j s.history) ≤ max_id
+    go : (j : Option FinishRecord) → joining s e ≡ j → next_id base (with_finish j s.history) ≤ max_id
     go None q = a.lawful.ids
     go (Some i) q =
         let few = joins_few x base s e i a.lawful q in

@@ -4,8 +4,8 @@ use Rattle.std.specs.Prelude.{replicate, is_some}
 use Rattle.std.specs.Option.{option_or}
 use Rattle.std.specs.List.{list_any}
 use Rattle.kernel_model.specs.Effects.{Write, written}
-use Rattle.kernel_model.specs.Items.{Item}
-use Rattle.kernel_model.specs.Replay.{Base, TaskRec}
+use Rattle.kernel_model.specs.Items.{FinishRecord}
+use Rattle.kernel_model.specs.Replay.{DeviceState, TaskRec}
 use Rattle.kernel_model.specs.Cores.{Core, Idle, Running, Copying, Ready, Committing, all_but, commits, held_by, is_committing, is_task, next_task, finished_by}
 use Rattle.kernel_model.specs.Events.{durable_commit}
 use Rattle.kernel_model.specs.Versions.{Read}
@@ -51,7 +51,7 @@ any-others {M} f p q h (c ∷ cores) zero = any-seats (λ k. f (suc k)) (λ k. h
 any-others {M} f p q h (c ∷ cores) (suc n) = ap₂ (λ a b. a || b) (h zero c) (any-others (λ k. f (suc k)) p q (λ k. h (suc k)) cores n)
 
 -- the task of a seat is its core's
-pub task-same : {M : Type 0} → (base : Base) (history : List Item) (kept : Kept) (index : Index) (k : ℕ) (c : Core M) → task_on (seat_of base history kept index k c) ≡ held_by c
+pub task-same : {M : Type 0} → (base : DeviceState) (history : List FinishRecord) (kept : Kept) (index : Index) (k : ℕ) (c : Core M) → task_on (seat_of base history kept index k c) ≡ held_by c
 task-same base history kept index k Idle = refl
 task-same base history kept index k (Running a) = refl
 task-same base history kept index k (Copying a copied) = refl
@@ -59,7 +59,7 @@ task-same base history kept index k (Ready a outcome) = refl
 task-same base history kept index k (Committing i left) = refl
 
 -- the next task
-pub next-same : {M : Type 0} → (base : Base) (history : List Item) (kept : Kept) (index : Index) (cores : List (Core M)) (n : ℕ) (tasks : List TaskRec) →
+pub next-same : {M : Type 0} → (base : DeviceState) (history : List FinishRecord) (kept : Kept) (index : Index) (cores : List (Core M)) (n : ℕ) (tasks : List TaskRec) →
     next_ready (all_but n (seats_of base history kept index cores)) tasks ≡ next_task (all_but n cores) tasks
 next-same base history kept index cores n [] = refl
 next-same base history kept index cores n (t ∷ tasks) =
@@ -67,7 +67,7 @@ next-same base history kept index cores n (t ∷ tasks) =
     (next-same base history kept index cores n tasks)
 
 -- whether a core is committing
-pub saves-same : {M : Type 0} → (base : Base) (history : List Item) (kept : Kept) (index : Index) (cores : List (Core M)) (n : ℕ) → list_any saves (all_but n (seats_of base history kept index cores)) ≡ is_committing (all_but n cores)
+pub saves-same : {M : Type 0} → (base : DeviceState) (history : List FinishRecord) (kept : Kept) (index : Index) (cores : List (Core M)) (n : ℕ) → list_any saves (all_but n (seats_of base history kept index cores)) ≡ is_committing (all_but n cores)
 saves-same {M} base history kept index cores n = any-others (seat_of base history kept index) saves commits at cores n
   where
     at : (k : ℕ) (c : Core M) → saves (seat_of base history kept index k c) ≡ commits c
@@ -78,7 +78,7 @@ saves-same {M} base history kept index cores n = any-others (seat_of base histor
     at k (Committing i left) = refl
 
 -- the finish that has not joined
-pub saved-same : {M : Type 0} → (base : Base) (history : List Item) (kept : Kept) (index : Index) (cores : List (Core M)) → saved_in (seats_of base history kept index cores) ≡ durable_commit cores
+pub saved-same : {M : Type 0} → (base : DeviceState) (history : List FinishRecord) (kept : Kept) (index : Index) (cores : List (Core M)) → saved_in (seats_of base history kept index cores) ≡ durable_commit cores
 saved-same {M} base history kept index cores = go (seat_of base history kept index) at cores
   where
     at : (k : ℕ) (c : Core M) → saved_by (seat_of base history kept index k c) ≡ finished_by c
@@ -91,7 +91,7 @@ saved-same {M} base history kept index cores = go (seat_of base history kept ind
 
     go : (f : ℕ → Core M → Seat M) → ((k : ℕ) (c : Core M) → saved_by (f k c) ≡ finished_by c) → (cores : List (Core M)) → saved_in (seats_by f cores) ≡ durable_commit cores
     go f h [] = refl
-    go f h (c ∷ cores) = ap₂ (λ (x y : Option Item). option_or x y) (h zero c) (go (λ k. f (suc k)) (λ k. h (suc k)) cores)
+    go f h (c ∷ cores) = ap₂ (λ (x y : Option FinishRecord). option_or x y) (h zero c) (go (λ k. f (suc k)) (λ k. h (suc k)) cores)
 
 -- seats after a failure
 pub vacant-seats : {M : Type 0} → (f : ℕ → Core M → Seat M) → ((k : ℕ) → f k Idle ≡ Vacant) → (n : ℕ) → replicate n Vacant ≡ seats_by f (replicate n Idle)
@@ -99,12 +99,12 @@ vacant-seats {M} f v zero = refl
 vacant-seats {M} f v (suc n) = ap₂ (λ (x : Seat M) (xs : List (Seat M)). x ∷ xs) (sym (v zero)) (vacant-seats (λ k. f (suc k)) (λ k. v (suc k)) n)
 
 -- pins by number
-views-shift : {M : Type 0} → (base : Base) (history : List Item) (pins : ℕ → ℕ) (k : ℕ) (cores : List (Core M)) → views_of base history pins (suc k) cores ≡ views_of base history (λ j. pins (suc j)) k cores
+views-shift : {M : Type 0} → (base : DeviceState) (history : List FinishRecord) (pins : ℕ → ℕ) (k : ℕ) (cores : List (Core M)) → views_of base history pins (suc k) cores ≡ views_of base history (λ j. pins (suc j)) k cores
 views-shift base history pins k [] = refl
 views-shift base history pins k (c ∷ cores) = ap (with_view (view_of base history (pins (suc k)) c)) (views-shift base history pins (suc k) cores)
 
 -- what a seat needs is what its core needs
-pub view-same : {M : Type 0} → (base : Base) (history : List Item) (kept : Kept) (index : Index) (k : ℕ) (c : Core M) → view_by (seat_of base history kept index k c) ≡ view_of base history (kept.pins k) c
+pub view-same : {M : Type 0} → (base : DeviceState) (history : List FinishRecord) (kept : Kept) (index : Index) (k : ℕ) (c : Core M) → view_by (seat_of base history kept index k c) ≡ view_of base history (kept.pins k) c
 view-same {M} base history kept index k Idle = refl
 view-same {M} base history kept index k (Running a) = refl
 view-same {M} base history kept index k (Copying a copied) = go a.reads refl
@@ -116,7 +116,7 @@ view-same {M} base history kept index k (Ready a outcome) = refl
 view-same {M} base history kept index k (Committing i left) = refl
 
 -- what the other seats need is what the cores but one need
-pub views-same : {M : Type 0} → (base : Base) (history : List Item) (kept : Kept) (index : Index) (cores : List (Core M)) (n : ℕ) →
+pub views-same : {M : Type 0} → (base : DeviceState) (history : List FinishRecord) (kept : Kept) (index : Index) (cores : List (Core M)) (n : ℕ) →
     views_in (all_but n (seats_of base history kept index cores)) ≡ views_of base history kept.pins 0 (set cores n Idle)
 views-same {M} base history kept index cores n = others (seat_of base history kept index) kept.pins (view-same base history kept index) cores n
   where

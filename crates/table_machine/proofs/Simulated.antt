@@ -2,8 +2,8 @@
 use Rattle.std.proofs.Common.{◌≡◌, ℕ, zero, suc, ◌+◌, ◌-◌, ◌≤◌, Bool, true, false, cond, eqb, List, [], get_or, length, Option, None, refl, sym, ap, ◌∙◌, subst, arith}
 use Rattle.std.specs.List.{AllByRecursion}
 use Rattle.std.proofs.lemmas.Bool.{eqb-true}
-use Rattle.kernel_model.specs.Items.{Entry, Item}
-use Rattle.kernel_model.specs.Replay.{Base, clock_of, max_id, next_id}
+use Rattle.kernel_model.specs.Items.{Entry, FinishRecord}
+use Rattle.kernel_model.specs.Replay.{DeviceState, clock_of, max_id, next_id}
 use Rattle.kernel_model.specs.Cores.{Core, Idle, Running, Copying, Ready, Committing, all_but}
 use Rattle.kernel_model.specs.Turns.{Line, Nothing, commit_writes, core_turn}
 use Rattle.kernel_model.specs.Events.{Power, On, Boot, State, Event, CoreStep, Fail, boot_turn, durable_commit, event_step, with_finish}
@@ -41,11 +41,11 @@ use Rattle.table_machine.proofs.SlotWords.{boot-same, write-same}
 use Rattle.table_machine.proofs.DeviceSteps.{device_turned, words_at}
 
 -- the next state is lawful
-lawful_next : {M : Type 0} → (x : Setting M) (base : Base) (s : State M) (e : Event) → IsLawful x.steps (sizes_in x) base s → next_id base (event_step x.steps (sizes_in x) base s e).0.history ≤ max_id → IsLawful x.steps (sizes_in x) base (event_step x.steps (sizes_in x) base s e).0
+lawful_next : {M : Type 0} → (x : Setting M) (base : DeviceState) (s : State M) (e : Event) → IsLawful x.steps (sizes_in x) base s → next_id base (event_step x.steps (sizes_in x) base s e).0.history ≤ max_id → IsLawful x.steps (sizes_in x) base (event_step x.steps (sizes_in x) base s e).0
 lawful_next x base s e h ids = record { set_up = h.set_up; sound = next_sound x.steps (sizes_in x) base h.set_up s h.sound h.ids e; ids = ids }
 
 -- what stands in slots after a turn, by the words of the device
-slots_turned : {M : Type 0} → (x : Setting M) (base : Base) (last : Option Entry) (g : Ghost) (words : Words) (s : State M) (n : ℕ) → IsSetting x → IsLawful x.steps (sizes_in x) base s → StandsFor (sizes_in x) base g.floor s g.kept (slots_in x words) →
+slots_turned : {M : Type 0} → (x : Setting M) (base : DeviceState) (last : Option Entry) (g : Ghost) (words : Words) (s : State M) (n : ℕ) → IsSetting x → IsLawful x.steps (sizes_in x) base s → StandsFor (sizes_in x) base g.floor s g.kept (slots_in x words) →
     (c : Core M) → get_or s.cores n Idle ≡ c → (floor : ℕ) (next : State M) (kept : Kept) → IsLawful x.steps (sizes_in x) base next → StandsFor (sizes_in x) base floor next kept (image_turn (sizes_in x) base s.history g.kept.plan c (slots_in x words)) →
     StandsFor (sizes_in x) base floor next kept (slots_in x (words_at x base last g words s n c))
 slots_turned x base last g words s n fit h f Idle at floor next kept l q = q
@@ -78,7 +78,7 @@ slots_turned {M} x base last g words s n fit h f (Committing i (suc left)) at fl
     count = counted x base last g.kept s.history before refl g.kept.plan i writes
 
 -- a step of a core with power on
-on_simulates : {M : Type 0} → (x : Setting M) (base : Base) (last : Option Entry) (g : Ghost) (words : Words) (s : State M) (n : ℕ) → IsSetting x → (let on = record s { power = On } in Agrees x base last g (tables_of x base last g on) words on → next_id base (event_step x.steps (sizes_in x) base on (CoreStep n)).0.history ≤ max_id →
+on_simulates : {M : Type 0} → (x : Setting M) (base : DeviceState) (last : Option Entry) (g : Ghost) (words : Words) (s : State M) (n : ℕ) → IsSetting x → (let on = record s { power = On } in Agrees x base last g (tables_of x base last g on) words on → next_id base (event_step x.steps (sizes_in x) base on (CoreStep n)).0.history ≤ max_id →
     Simulates x base last (tables_of x base last g on) words on (CoreStep n))
 on_simulates {M} x base last g words s n fit a ids = record { line = follows.line; writes = follows.writes; state = (after, agrees) }
   where
@@ -125,14 +125,14 @@ on_simulates {M} x base last g words s n fit a ids = record { line = follows.lin
 -- ---- a failure
 
 -- the words keep what is durable then
-failed_device : {M : Type 0} → (x : Setting M) (base : Base) (last : Option Entry) (g : Ghost) (words : Words) (s : State M) → IsSetting x → Agrees x base last g (tables_of x base last g s) words s →
+failed_device : {M : Type 0} → (x : Setting M) (base : DeviceState) (last : Option Entry) (g : Ghost) (words : Words) (s : State M) → IsSetting x → Agrees x base last g (tables_of x base last g s) words s →
     (let after = ghost_after x base last g s Fail in KeepsIn x.set x.layout (held_of x base last after (event_step x.steps (sizes_in x) base s Fail).0) words)
 failed_device {M} x base last g words s fit a = subst (λ (h : decoding.Held). KeepsIn x.set x.layout h words) same (durable_device x base last g words s fit a.lawful a.device)
   where
-    found : Option Item
+    found : Option FinishRecord
     found = durable_commit s.cores
 
-    history : List Item
+    history : List FinishRecord
     history = with_finish found s.history
 
     held : decoding.Held
@@ -141,7 +141,7 @@ failed_device {M} x base last g words s fit a = subst (λ (h : decoding.Held). K
     same : held ≡ held_of x base last (ghost_after x base last g s Fail) (event_step x.steps (sizes_in x) base s Fail).0
     same = ap (λ (y : Index). let h : decoding.Held = record { index = y; objects = held.objects; boots = held.boots; root = held.root } in h) (sym (fresh-index x base last (clock_of base history) (with_finished found g.kept) history))
 
-pub fail_simulates : {M : Type 0} → (x : Setting M) (base : Base) (last : Option Entry) (g : Ghost) (words : Words) (s : State M) → IsSetting x → Agrees x base last g (tables_of x base last g s) words s → next_id base (event_step x.steps (sizes_in x) base s Fail).0.history ≤ max_id →
+pub fail_simulates : {M : Type 0} → (x : Setting M) (base : DeviceState) (last : Option Entry) (g : Ghost) (words : Words) (s : State M) → IsSetting x → Agrees x base last g (tables_of x base last g s) words s → next_id base (event_step x.steps (sizes_in x) base s Fail).0.history ≤ max_id →
     Simulates x base last (tables_of x base last g s) words s Fail
 fail_simulates {M} x base last g words s fit a ids = record { line = follows.line; writes = follows.writes; state = (after, agrees) }
   where
@@ -170,7 +170,7 @@ fail_simulates {M} x base last g words s fit a ids = record { line = follows.lin
 -- ---- a boot
 
 -- the last turn
-last_turn : {M : Type 0} → (x : Setting M) (base : Base) (last : Option Entry) (g : Ghost) (words : Words) (s : State M) → IsSetting x → (let off = record s { power = Boot 1 } in Agrees x base last g (tables_of x base last g off) words off → next_id base (event_step x.steps (sizes_in x) base off (CoreStep 0)).0.history ≤ max_id →
+last_turn : {M : Type 0} → (x : Setting M) (base : DeviceState) (last : Option Entry) (g : Ghost) (words : Words) (s : State M) → IsSetting x → (let off = record s { power = Boot 1 } in Agrees x base last g (tables_of x base last g off) words off → next_id base (event_step x.steps (sizes_in x) base off (CoreStep 0)).0.history ≤ max_id →
     Simulates x base last (tables_of x base last g off) words off (CoreStep 0))
 last_turn {M} x base last g words s fit a ids = record { line = follows.line; writes = follows.writes; state = (after, agrees) }
   where
@@ -215,7 +215,7 @@ last_turn {M} x base last g words s fit a ids = record { line = follows.line; wr
     }
 
 -- any other turn
-other_turn : {M : Type 0} → (x : Setting M) (base : Base) (last : Option Entry) (g : Ghost) (words : Words) (s : State M) (n left : ℕ) → IsSetting x → (n ≡ 0 → left ≡ 1 → ⊥) → (let off = record s { power = Boot left } in Agrees x base last g (tables_of x base last g off) words off → next_id base (event_step x.steps (sizes_in x) base off (CoreStep n)).0.history ≤ max_id →
+other_turn : {M : Type 0} → (x : Setting M) (base : DeviceState) (last : Option Entry) (g : Ghost) (words : Words) (s : State M) (n left : ℕ) → IsSetting x → (n ≡ 0 → left ≡ 1 → ⊥) → (let off = record s { power = Boot left } in Agrees x base last g (tables_of x base last g off) words off → next_id base (event_step x.steps (sizes_in x) base off (CoreStep n)).0.history ≤ max_id →
     Simulates x base last (tables_of x base last g off) words off (CoreStep n))
 other_turn {M} x base last g words s n left fit more a ids = record { line = follows.line; writes = follows.writes; state = (g, agrees) }
   where
@@ -263,7 +263,7 @@ other_turn {M} x base last g words s n left fit more a ids = record { line = fol
     }
 
 -- each turn of a boot
-boot_simulates : {M : Type 0} → (x : Setting M) (base : Base) (last : Option Entry) (g : Ghost) (words : Words) (s : State M) (n left : ℕ) → IsSetting x → (let off = record s { power = Boot left } in Agrees x base last g (tables_of x base last g off) words off → next_id base (event_step x.steps (sizes_in x) base off (CoreStep n)).0.history ≤ max_id →
+boot_simulates : {M : Type 0} → (x : Setting M) (base : DeviceState) (last : Option Entry) (g : Ghost) (words : Words) (s : State M) (n left : ℕ) → IsSetting x → (let off = record s { power = Boot left } in Agrees x base last g (tables_of x base last g off) words off → next_id base (event_step x.steps (sizes_in x) base off (CoreStep n)).0.history ≤ max_id →
     Simulates x base last (tables_of x base last g off) words off (CoreStep n))
 boot_simulates x base last g words s zero zero fit = other_turn x base last g words s zero zero fit (λ e f. absurd (omega (arith, f)))
 boot_simulates x base last g words s zero (suc zero) fit = last_turn x base last g words s fit
@@ -272,7 +272,7 @@ boot_simulates x base last g words s (suc n) left fit = other_turn x base last g
 
 -- ---- each event
 
-pub event_simulates : {M : Type 0} → (x : Setting M) (base : Base) (last : Option Entry) (t : Tables M) (words : Words) (s : State M) (e : Event) → IsSetting x → Represents x base last t words s → next_id base (event_step x.steps (sizes_in x) base s e).0.history ≤ max_id → Simulates x base last t words s e
+pub event_simulates : {M : Type 0} → (x : Setting M) (base : DeviceState) (last : Option Entry) (t : Tables M) (words : Words) (s : State M) (e : Event) → IsSetting x → Represents x base last t words s → next_id base (event_step x.steps (sizes_in x) base s e).0.history ≤ max_id → Simulates x base last t words s e
 event_simulates {M} x base last t words s e fit (g, a) ids = subst (λ (u : Tables M). Simulates x base last u words s e) (sym a.tables) (by e (subst (λ (u : Tables M). Agrees x base last g u words s) a.tables a) ids)
   where
     Goal : Event → Power → Type 0

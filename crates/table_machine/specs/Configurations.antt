@@ -1,7 +1,7 @@
 -- Tables and words beside a state of the event machine, as the laws speak of them. This project's own.
 use Rattle.std.specs.Prelude.{◌≡◌, ℕ, ◌+◌, ◌≤◌, List, length, get_or, take, Option}
 use Rattle.kernel_model.specs.Items.{Entry}
-use Rattle.kernel_model.specs.Replay.{Base, max_id, next_id}
+use Rattle.kernel_model.specs.Replay.{DeviceState, max_id, next_id}
 use Rattle.kernel_model.specs.Cores.{Core, Idle}
 use Rattle.kernel_model.specs.Events.{State, Event, CoreStep, event_step, state_after}
 use Rattle.kernel_model.specs.Durable.{Durable, durable, writes_after}
@@ -18,7 +18,7 @@ use Rattle.table_machine.specs.Simulates.{Follows, IsSetting, Simulates, ghost_a
 -- a kernel on its device, beside a state of the event machine over the base where the history begins
 pub record Configuration (M : Type 0) : Type 0 where
   pub setting : Setting M
-  pub base : Base
+  pub base : DeviceState
   pub last : Option Entry  -- the last finish before the base
   pub tables : Tables M
   pub words : Words
@@ -75,7 +75,7 @@ pub record Holds {M : Type 0} (c : Configuration M) (words : Words) (s : State M
 -- one moment of the event machine, with what stands beside its state: the tables are a function of both
 pub record Moment (M : Type 0) : Type 0 where
   pub setting : Setting M
-  pub base : Base
+  pub base : DeviceState
   pub last : Option Entry
   pub ghost : Ghost
   pub words : Words

@@ -4,7 +4,7 @@ use Rattle.std.specs.List.{list_any}
 use Rattle.std.specs.Option.{option_or}
 use Rattle.object_sets.specs.ObjectSets.{is_among}
 use Rattle.kernel_model.specs.Effects.{written}
-use Rattle.kernel_model.specs.Items.{Item, Entry, entry_of}
+use Rattle.kernel_model.specs.Items.{FinishRecord, Entry, entry_of}
 use Rattle.kernel_model.specs.Chain.{cut}
 use Rattle.kernel_model.specs.Cores.{all_but}
 use Rattle.kernel_model.specs.Turns.{Line, Nothing, Failed, Booted}
@@ -30,20 +30,20 @@ abbrev pub one_version : (slot p : ℕ) → Chain
 one_version slot p = record { bound = p; places = record { slot = slot; begin = p; end = None } ∷ [] }
 
 -- an object after a finish, which wrote these words to it, if any, and may have read it
-abbrev pub touched : Item → (o slot : ℕ) → Option (List ℕ) → Chain → Chain
+abbrev pub touched : FinishRecord → (o slot : ℕ) → Option (List ℕ) → Chain → Chain
 touched i o slot (Some words) c = record { bound = i.point; places = installed i.point slot c.places }
 touched i o slot None c = if is_among o i.run.reads then record { bound = max i.point c.bound; places = c.places } else c
 
 -- the objects from number o on
-abbrev pub all_touched : Item → (slots : List ℕ) → ℕ → List Chain → List Chain
+abbrev pub all_touched : FinishRecord → (slots : List ℕ) → ℕ → List Chain → List Chain
 all_touched i slots o [] = []
 all_touched i slots o (c ∷ chains) = touched i o (slice_index slots o) (written i.run.writes o) c ∷ all_touched i slots (o + 1) chains
 
 -- a try that copied what a finish writes can't stand behind it
-abbrev pub cut_try : {M : Type 0} → Item → Try M → Try M
+abbrev pub cut_try : {M : Type 0} → FinishRecord → Try M → Try M
 cut_try i a = record a { interval = cut i.point (list_any (λ c. is_some (written i.run.writes c.object)) a.copies) a.interval }
 
-abbrev pub cut_seat : {M : Type 0} → Item → Seat M → Seat M
+abbrev pub cut_seat : {M : Type 0} → FinishRecord → Seat M → Seat M
 cut_seat i Vacant = Vacant
 cut_seat i (Runs a) = Runs (cut_try i a)
 cut_seat i (Copies a slot) = Copies (cut_try i a) slot
@@ -101,16 +101,16 @@ boot_answer x words t (suc zero) =
 boot_answer x words t (suc (suc left)) = record { tables = record t { power = Boot (suc left) }; writes = []; line = Nothing }
 
 -- the finish whose writes are all made, and which has not joined
-abbrev pub saved_by : {M : Type 0} → Seat M → Option Item
+abbrev pub saved_by : {M : Type 0} → Seat M → Option FinishRecord
 saved_by (Saves i after zero) = Some i
 saved_by _ = None
 
-abbrev pub saved_in : {M : Type 0} → List (Seat M) → Option Item
+abbrev pub saved_in : {M : Type 0} → List (Seat M) → Option FinishRecord
 saved_in [] = None
 saved_in (c ∷ seats) = option_or (saved_by c) (saved_in seats)
 
 -- the entries with that of a finish, if there is one
-abbrev pub with_entry : Option Item → List Entry → List Entry
+abbrev pub with_entry : Option FinishRecord → List Entry → List Entry
 with_entry None entries = entries
 with_entry (Some i) entries = entries ++ entry_of i ∷ []
 

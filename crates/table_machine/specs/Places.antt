@@ -3,7 +3,7 @@ use Rattle.std.specs.Prelude.{ℕ, ◌+◌, List, [], ◌∷◌, length, Option,
 use Rattle.object_sets.specs.ObjectSets.{with_object}
 use Rattle.kernel_model.specs.Sizes.{Sizes}
 use Rattle.kernel_model.specs.Effects.{Outcome, Write, Run, written, ended}
-use Rattle.kernel_model.specs.Items.{Item}
+use Rattle.kernel_model.specs.Items.{FinishRecord}
 use Rattle.kernel_model.specs.Verdicts.{Verdict}
 use Rattle.slot_model.specs.Tabled.{Pin, View, Place, with_view, free_place, table_verdict}
 use Rattle.slot_model.specs.Tabled as tabled
@@ -60,5 +60,5 @@ slots_after plan ws o [] = []
 slots_after plan ws o (slot ∷ slots) = (if is_some (written ws o) then plan o else slot) ∷ slots_after plan ws (o + 1) slots
 
 -- the index after a finish, where the slots of a plan are taken
-abbrev pub index_after : (plan : ℕ → ℕ) → Index → Item → Index
+abbrev pub index_after : (plan : ℕ → ℕ) → Index → FinishRecord → Index
 index_after plan x i = commits.index_after x i (slots_after plan i.run.writes 0 x.slots)

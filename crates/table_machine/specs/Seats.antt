@@ -2,8 +2,8 @@
 use Rattle.std.specs.Prelude.{ℕ, zero, suc, ◌+◌, ◌==◌, nat_lt, Bool, true, false, List, [], ◌∷◌, ◌++◌, Option, Some, None, unwrap_or, if◌then◌else◌, length, find}
 use Rattle.std.specs.List.{list_any}
 use Rattle.kernel_model.specs.Effects.{Trap, also_written, written, with_write}
-use Rattle.kernel_model.specs.Runs.{Reads, Spawns, Writes, Step, Went, Ends, Steps, max_spawns, spawns_cause}
-use Rattle.kernel_model.specs.Items.{Item, entry_of}
+use Rattle.kernel_model.specs.Runs.{Reads, Spawns, Writes, Step, Went, Ends, TaskMachine, max_spawns, spawns_cause}
+use Rattle.kernel_model.specs.Items.{FinishRecord, entry_of}
 use Rattle.kernel_model.specs.Replay.{TaskRec}
 use Rattle.kernel_model.specs.Intervals.{is_empty}
 use Rattle.kernel_model.specs.Cores.{is_task}
@@ -42,7 +42,7 @@ next_ready seats [] = None
 next_ready seats (t ∷ tasks) = if list_any (λ c. is_task (task_on c) t.id) seats then next_ready seats tasks else Some t
 
 -- Vacant: the try of a task begins at the clock
-abbrev pub start_try : {M : Type 0} → Steps M → (clock n : ℕ) → Option TaskRec → SeatTurn M
+abbrev pub start_try : {M : Type 0} → TaskMachine M → (clock n : ℕ) → Option TaskRec → SeatTurn M
 start_try steps clock n None = still Vacant
 start_try steps clock n (Some t) = record {
   seat = Runs (record { task = t.id; interval = record { lo = clock; hi = None }; copies = []; writes = []; spawns = []; state = steps.load t.program t.arg });
@@ -50,7 +50,7 @@ start_try steps clock n (Some t) = record {
 }
 
 -- after a read of an object, of which the try sees these words
-abbrev pub given_words : {M : Type 0} → Steps M → Try M → M → ℕ → List ℕ → Try M
+abbrev pub given_words : {M : Type 0} → TaskMachine M → Try M → M → ℕ → List ℕ → Try M
 given_words steps a m o words = record a { writes = also_written o (steps.rewrites m words) a.writes; state = steps.given m words }
 
 -- the newest copy of an object
@@ -68,13 +68,13 @@ fetch_version chains n a m o =
     if is_empty a.interval then record { seat = Vacant; line = Stale n a.task a.interval.lo (unwrap_or a.interval.hi 0) } else open_copy a m o (chosen_place a.interval.hi (places_at chains o))
 
 -- a read gives the try's own last write, else its earlier copy, else it is an outside read
-abbrev pub read_object : {M : Type 0} → Steps M → List Chain → ℕ → Try M → M → ℕ → Option (List ℕ) → Option Copy → SeatTurn M
+abbrev pub read_object : {M : Type 0} → TaskMachine M → List Chain → ℕ → Try M → M → ℕ → Option (List ℕ) → Option Copy → SeatTurn M
 read_object steps chains n a m o (Some words) copy = still (Runs (given_words steps a m o words))
 read_object steps chains n a m o None (Some c) = still (Runs (given_words steps a m o c.words))
 read_object steps chains n a m o None None = fetch_version chains n a m o
 
 -- Runs: one step of the machine
-abbrev pub run_step : {M : Type 0} → Steps M → List Chain → ℕ → Try M → Step M → SeatTurn M
+abbrev pub run_step : {M : Type 0} → TaskMachine M → List Chain → ℕ → Try M → Step M → SeatTurn M
 run_step steps chains n a (Went m) = still (Runs (record a { state = m }))
 run_step steps chains n a (Reads m o) = read_object steps chains n a m o (written a.writes o) (copy_of o a.copies)
 run_step steps chains n a (Writes m w) = still (Runs (record a { writes = with_write w a.writes; state = m }))
@@ -96,11 +96,11 @@ abbrev pub held_in : {M : Type 0} → Tables M → Held
 held_in t = record { index = t.index; objects = []; boots = t.boots; root = t.root }
 
 -- a finish as a commit
-abbrev pub commit_of : Item → Index → Commit
+abbrev pub commit_of : FinishRecord → Index → Commit
 commit_of i after = record { writes = i.run.writes; after = after }
 
 -- its writes
-abbrev pub writes_in : {M : Type 0} → Setting M → Tables M → Item → Index → List Change
+abbrev pub writes_in : {M : Type 0} → Setting M → Tables M → FinishRecord → Index → List Change
 writes_in x t i after = commit_writes x.layout x.set (held_in t) (commit_of i after)
 
 -- Waits: as the verdict says

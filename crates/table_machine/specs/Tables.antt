@@ -2,8 +2,8 @@
 use Rattle.std.specs.Prelude.{ℕ, zero, suc, ◌+◌, List, [], ◌∷◌, Option, get_or}
 use Rattle.kernel_model.specs.Sizes.{Sizes}
 use Rattle.kernel_model.specs.Effects.{Outcome, Spawn, Write}
-use Rattle.kernel_model.specs.Runs.{Steps}
-use Rattle.kernel_model.specs.Items.{Item, Entry}
+use Rattle.kernel_model.specs.Runs.{TaskMachine}
+use Rattle.kernel_model.specs.Items.{FinishRecord, Entry}
 use Rattle.kernel_model.specs.Intervals.{Interval}
 use Rattle.kernel_model.specs.Events.{Power}
 use Rattle.slot_model.specs.Tabled.{Place}
@@ -14,7 +14,7 @@ use Rattle.device_model.specs.Counting.{sizes_on}
 
 -- what never changes: the machine of the tasks, their set, and how the set lies on the device
 pub record Setting (M : Type 0) : Type 0 where
-  pub steps : Steps M
+  pub steps : TaskMachine M
   pub set : TaskSet
   pub layout : Layout
 
@@ -47,7 +47,7 @@ pub data Seat (M : Type 0) : Type 0 where
   Runs : Try M → Seat M
   Copies : Try M → (slot : ℕ) → Seat M  -- to its newest copy, word by word, from this slot
   Waits : Try M → Outcome → Seat M  -- for a verdict
-  Saves : Item → (after : Index) → (left : ℕ) → Seat M  -- a finish, with the index after it and so many writes left
+  Saves : FinishRecord → (after : Index) → (left : ℕ) → Seat M  -- a finish, with the index after it and so many writes left
 
 -- all that the kernel keeps. In a boot the last three are blank
 pub record Tables (M : Type 0) : Type 0 where

@@ -5,7 +5,7 @@ use Rattle.kernel_model.specs.Turns.{Line, Start, Stale, RefuseEmpty, RefuseSlot
 use Rattle.kernel_model.specs.Events.{Power, On, Boot, Event, Fail}
 use Rattle.kernel_model.specs.WorkedTasks.{Scene, Task, machine_of, shown, steps, entry, task}
 use Rattle.kernel_model.specs.WorkedRuns.{adding, copy_and_put, skewing, putting, summing, no_slot, doomed, forking, resumed}
-use Rattle.set_model.specs.Sets.{TaskSet, ObjectPart}
+use Rattle.set_model.specs.Sets.{TaskSet, ObjPart}
 use Rattle.device_model.specs.Words.{Words, made}
 use Rattle.device_model.specs.Layouts.{Kind, Plain, Paged, Migrated, Layout, layout_of}
 use Rattle.device_model.specs.IndexWords.{Index}
@@ -15,10 +15,10 @@ use Rattle.table_machine.specs.Tables.{Vacant, Setting, Tables}
 use Rattle.table_machine.specs.Events.{no_index, reopened, one_version, Course, course}
 
 -- objects with so many slots, programs with so many words in all, and so many records
-abbrev pub object : ℕ → ℕ → List ℕ → ObjectPart
+abbrev pub object : ℕ → ℕ → List ℕ → ObjPart
 object size slots first = record { name = codes "x"; size = size; slots = slots; first = first }
 
-abbrev pub set_with : (code programs records : ℕ) → List ObjectPart → TaskSet
+abbrev pub set_with : (code programs records : ℕ) → List ObjPart → TaskSet
 set_with code programs records objects = record {
   format = 1;
   cores = 1;

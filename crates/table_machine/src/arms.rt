@@ -2,7 +2,7 @@
 
 ghost use Rattle.std.specs.Prelude.{ℕ, ◌≡◌, suc, zero};
 ghost use Rattle.kernel_model.specs.Effects.{Outcome};
-ghost use Rattle.kernel_model.specs.Items.{Item};
+ghost use Rattle.kernel_model.specs.Items.{FinishRecord};
 ghost use Rattle.kernel_model.specs.Cores.{Attempt, Core};
 ghost use Rattle.kernel_model.specs.Events.{Event, Power};
 ghost use Rattle.device_model.specs.Keeping.{KeepsIn};
@@ -35,13 +35,13 @@ pub fn verdict_follows<M>()
 
 /// A commit makes one write.
 pub fn write_follows<M>()
-    ensures { (m : Moment M) (n left : ℕ) (i : Item) → IsMoment m → m.state.power ≡ Power.On
+    ensures { (m : Moment M) (n left : ℕ) (i : FinishRecord) → IsMoment m → m.state.power ≡ Power.On
         → core_at m n ≡ Core.Committing i (suc left) → FollowsCore m n }
 {}
 
 /// A finish whose writes are all made joins: chains, bounds, the intervals of the other tries, and the index.
 pub fn join_follows<M>()
-    ensures { (m : Moment M) (n : ℕ) (i : Item) → IsMoment m → m.state.power ≡ Power.On
+    ensures { (m : Moment M) (n : ℕ) (i : FinishRecord) → IsMoment m → m.state.power ≡ Power.On
         → core_at m n ≡ Core.Committing i zero → FollowsCore m n }
 {}
 

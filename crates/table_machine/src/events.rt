@@ -2,7 +2,7 @@
 
 ghost use Rattle.std.specs.Prelude.{ℕ, ◌≡◌, ◌≤◌, List, length};
 ghost use Rattle.kernel_model.specs.Replay.{max_id};
-ghost use Rattle.kernel_model.specs.Runs.{Steps};
+ghost use Rattle.kernel_model.specs.Runs.{TaskMachine};
 ghost use Rattle.kernel_model.specs.Events.{Event, Power, opened};
 ghost use Rattle.kernel_model.specs.Fit.{IsMachine};
 ghost use Rattle.set_model.specs.Sets.{TaskSet};
@@ -64,8 +64,8 @@ pub fn write_changes_no_table<M>()
 
 /// A device of each kind is laid out for its set; with one of format 1 the numbers are those of the set.
 pub fn device_is_setting<M>()
-    ensures setting { (steps : Steps M) (kind : Kind) (set : TaskSet) → IsTaskSet set
+    ensures setting { (steps : TaskMachine M) (kind : Kind) (set : TaskSet) → IsTaskSet set
         → IsSetting (record { steps = steps; set = set; layout = layout_of kind set }) }
-    ensures sizes { (steps : Steps M) (set : TaskSet)
+    ensures sizes { (steps : TaskMachine M) (set : TaskSet)
         → sizes_in {M = M} (record { steps = steps; set = set; layout = layout_of Kind.Plain set }) ≡ sizes_of set }
 {}

@@ -10,7 +10,7 @@ use Rattle.std.proofs.lemmas.Slice.Eq.{slice_eq-Decides}
 use Rattle.byteorder.specs.Endian.{little_bytes}
 use Rattle.kernel_model.specs.Effects.{Spawn}
 use Rattle.nv_base.specs.declared.limits.TheConstants.{MAX_CODE, MAX_FUEL, MAX_NAME, MAX_SIZE, MAX_SLOTS, MIN_SLOTS}
-use Rattle.set_model.specs.Sets.{ObjectPart, ProgramPart}
+use Rattle.set_model.specs.Sets.{ObjPart, ProgPart}
 use Rattle.task_image.specs.Packed.{packed_object, packed_program, packed_task}
 use Rattle.task_image.specs.Reading.{number, literal, new_name, is_name, is_new}
 use Rattle.task_image.specs.Unpacked.{words, object, program, task}
@@ -54,7 +54,7 @@ in_range low high n e = let t = both _ _ e in (leb-true low n t.0, leb-true n hi
 
 -- ---- objects
 
-pub record IsObjectAfter (taken : List (List ℕ)) (o : ObjectPart) : Type 0 where
+pub record IsObjectAfter (taken : List (List ℕ)) (o : ObjPart) : Type 0 where
   pub long : IsNumber 1 (is_in_range 1 MAX_NAME) (length o.name)
   pub name : IsNewName taken (length o.name) o.name
   pub size : IsNumber 1 (is_in_range 1 MAX_SIZE) o.size
@@ -68,16 +68,16 @@ pub object_reads : (taken : List (List ℕ)) → Reads (object taken) packed_obj
 unfolding object packed_object
 object_reads taken =
     reworded packed_object (IsObjectAfter taken) 275
-    (then (λ (o : ObjectPart). length o.name) (number_reads 1 (is_in_range 1 MAX_NAME) (omega arith)) (λ n h.
-    then (λ (o : ObjectPart). o.name) (name_reads taken n (in_range 1 MAX_NAME n h.kept).1) (λ name g.
-    then (λ (o : ObjectPart). o.size) (number_reads 1 (is_in_range 1 MAX_SIZE) (omega arith)) (λ size s.
-    then (λ (o : ObjectPart). o.slots) (number_reads 1 (is_in_range MIN_SLOTS MAX_SLOTS) (omega arith)) (λ slots t.
-    then (λ (o : ObjectPart). o.first) (words_read size MAX_SIZE (in_range 1 MAX_SIZE size s.kept).1) (λ first w.
-    let made : ObjectPart = record { name = name; size = size; slots = slots; first = first } in nothing_more made)
-    (λ first o w q. ap (λ (p : ObjectPart). p.first) q))
-    (λ slots o t q. ap (λ (p : ObjectPart). p.slots) q.1))
-    (λ size o s q. ap (λ (p : ObjectPart). p.size) q.1.1))
-    (λ name o g q. ap (λ (p : ObjectPart). p.name) q.1.1.1))
+    (then (λ (o : ObjPart). length o.name) (number_reads 1 (is_in_range 1 MAX_NAME) (omega arith)) (λ n h.
+    then (λ (o : ObjPart). o.name) (name_reads taken n (in_range 1 MAX_NAME n h.kept).1) (λ name g.
+    then (λ (o : ObjPart). o.size) (number_reads 1 (is_in_range 1 MAX_SIZE) (omega arith)) (λ size s.
+    then (λ (o : ObjPart). o.slots) (number_reads 1 (is_in_range MIN_SLOTS MAX_SLOTS) (omega arith)) (λ slots t.
+    then (λ (o : ObjPart). o.first) (words_read size MAX_SIZE (in_range 1 MAX_SIZE size s.kept).1) (λ first w.
+    let made : ObjPart = record { name = name; size = size; slots = slots; first = first } in nothing_more made)
+    (λ first o w q. ap (λ (p : ObjPart). p.first) q))
+    (λ slots o t q. ap (λ (p : ObjPart). p.slots) q.1))
+    (λ size o s q. ap (λ (p : ObjPart). p.size) q.1.1))
+    (λ name o g q. ap (λ (p : ObjPart). p.name) q.1.1.1))
     (λ n o h q. q.0.long))
     (λ o q. five (little_bytes 1 (length o.name)) o.name (little_bytes 1 o.size) (little_bytes 1 o.slots) (flat_map (little_bytes 4) o.first))
     (λ o q. record { long = q.0; name = q.1.0; size = q.1.1.0; slots = q.1.1.1.0; first = q.1.1.1.1.0 })
@@ -89,7 +89,7 @@ object_reads taken =
 abbrev pub most_words : ℕ → ℕ
 most_words memory = min MAX_CODE (memory / 4)
 
-pub record IsProgramAfter (memory : ℕ) (taken : List (List ℕ)) (p : ProgramPart) : Type 0 where
+pub record IsProgramAfter (memory : ℕ) (taken : List (List ℕ)) (p : ProgPart) : Type 0 where
   pub long : IsNumber 1 (is_in_range 1 MAX_NAME) (length p.name)
   pub name : IsNewName taken (length p.name) p.name
   pub fuel : IsNumber 4 (is_in_range 1 MAX_FUEL) p.fuel
@@ -106,16 +106,16 @@ pub program_reads : (memory : ℕ) (taken : List (List ℕ)) → Reads (program 
 unfolding program packed_program
 program_reads memory taken =
     reworded packed_program (IsProgramAfter memory taken) 4119
-    (then (λ (p : ProgramPart). length p.name) (number_reads 1 (is_in_range 1 MAX_NAME) (omega arith)) (λ n h.
-    then (λ (p : ProgramPart). p.name) (name_reads taken n (in_range 1 MAX_NAME n h.kept).1) (λ name g.
-    then (λ (p : ProgramPart). p.fuel) (number_reads 4 (is_in_range 1 MAX_FUEL) (omega arith)) (λ fuel s.
-    then (λ (p : ProgramPart). length p.code) (number_reads 2 (is_in_range 0 (most_words memory)) (omega arith)) (λ k t.
-    then (λ (p : ProgramPart). p.code) (words_read k MAX_CODE (omega (arith, (in_range 0 (most_words memory) k t.kept).1))) (λ code w.
-    let made : ProgramPart = record { name = name; fuel = fuel; code = code } in nothing_more made)
-    (λ code p w q. ap (λ (r : ProgramPart). r.code) q))
+    (then (λ (p : ProgPart). length p.name) (number_reads 1 (is_in_range 1 MAX_NAME) (omega arith)) (λ n h.
+    then (λ (p : ProgPart). p.name) (name_reads taken n (in_range 1 MAX_NAME n h.kept).1) (λ name g.
+    then (λ (p : ProgPart). p.fuel) (number_reads 4 (is_in_range 1 MAX_FUEL) (omega arith)) (λ fuel s.
+    then (λ (p : ProgPart). length p.code) (number_reads 2 (is_in_range 0 (most_words memory)) (omega arith)) (λ k t.
+    then (λ (p : ProgPart). p.code) (words_read k MAX_CODE (omega (arith, (in_range 0 (most_words memory) k t.kept).1))) (λ code w.
+    let made : ProgPart = record { name = name; fuel = fuel; code = code } in nothing_more made)
+    (λ code p w q. ap (λ (r : ProgPart). r.code) q))
     (λ k p t q. each_length (λ _. IsNumber 4 (λ _. true)) k [] p.code q.0))
-    (λ fuel p s q. ap (λ (r : ProgramPart). r.fuel) q.1.1))
-    (λ name p g q. ap (λ (r : ProgramPart). r.name) q.1.1.1))
+    (λ fuel p s q. ap (λ (r : ProgPart). r.fuel) q.1.1))
+    (λ name p g q. ap (λ (r : ProgPart). r.name) q.1.1.1))
     (λ n p h q. q.0.long))
     (λ p q. five (little_bytes 1 (length p.name)) p.name (little_bytes 4 p.fuel) (little_bytes 2 (length p.code)) (flat_map (little_bytes 4) p.code))
     (λ p q. record { long = q.0; name = q.1.0; fuel = q.1.1.0; number_of_words = q.1.1.1.0; code = q.1.1.1.1.0 })

@@ -9,7 +9,7 @@ use Rattle.kernel_model.specs.Effects.{Spawn}
 use Rattle.nv_base.specs.declared.limits.TheConstants.{MAX_CODE, MAX_CORES, MAX_FORMAT, MAX_FUEL, MAX_MEMORY, MAX_NAME, MAX_PROGRAMS, MAX_SIZE, MAX_SLOTS, MIN_MEMORY, MIN_SLOTS}
 use Rattle.set_model.specs.Limits.{IsWord, IsObject, IsProgram, IsTask, IsTaskSet, max_objects, max_records}
 use Rattle.set_model.specs.Names.{IsName, IsNamed}
-use Rattle.set_model.specs.Sets.{ObjectPart, ProgramPart, TaskSet}
+use Rattle.set_model.specs.Sets.{ObjPart, ProgPart, TaskSet}
 use Rattle.set_model.proofs.LimitFacts.{most_objects, most_records}
 use Rattle.task_image.specs.Unpacked.{is_memory}
 use Rattle.task_image.proofs.Formats.{in_range, each_length, IsNewName, AreWordsOf, IsObjectAfter, IsProgramAfter, IsTaskOf, most_words}
@@ -38,13 +38,13 @@ words_told before (x ∷ xs) h = (record { kept = refl; small = h.0 }, words_tol
 
 -- ---- objects
 
-abbrev object_names : List ObjectPart → List (List ℕ)
+abbrev object_names : List ObjPart → List (List ℕ)
 object_names = map (λ o. o.name)
 
-abbrev Objects : List ObjectPart → ObjectPart → Type 0
+abbrev Objects : List ObjPart → ObjPart → Type 0
 Objects before = IsObjectAfter (object_names before)
 
-object_is : (taken : List (List ℕ)) (o : ObjectPart) → IsObjectAfter taken o → IsObject o
+object_is : (taken : List (List ℕ)) (o : ObjPart) → IsObjectAfter taken o → IsObject o
 object_is taken o q = record {
   size = in_range 1 MAX_SIZE o.size q.size.kept;
   slots = in_range MIN_SLOTS MAX_SLOTS o.slots q.slots.kept;
@@ -52,7 +52,7 @@ object_is taken o q = record {
   words = words_are o.size [] o.first q.first;
 }
 
-object_told : (taken : List (List ℕ)) (o : ObjectPart) → IsObject o → IsName o.name → (new : IsNewName taken (length o.name) o.name) → IsObjectAfter taken o
+object_told : (taken : List (List ℕ)) (o : ObjPart) → IsObject o → IsName o.name → (new : IsNewName taken (length o.name) o.name) → IsObjectAfter taken o
 object_told taken o h n new = record {
   long = number 1 1 MAX_NAME (length o.name) n.size.0 n.size.1 (omega (arith, n.size.1));
   name = new;
@@ -61,7 +61,7 @@ object_told taken o h n new = record {
   first = subst (λ (k : ℕ). AreWordsOf k o.first) h.first (words_told [] o.first h.words);
 }
 
-objects_are : (n : ℕ) (before xs : List ObjectPart) → Each Objects n before xs → AllByRecursion IsObject xs × AllByRecursion IsName (object_names xs) × AreNew (object_names before) (object_names xs)
+objects_are : (n : ℕ) (before xs : List ObjPart) → Each Objects n before xs → AllByRecursion IsObject xs × AllByRecursion IsName (object_names xs) × AreNew (object_names before) (object_names xs)
 objects_are zero before [] q = (tt, tt, tt)
 objects_are zero before (x ∷ xs) q = absurd q
 objects_are (suc n) before [] q = (tt, tt, tt)
@@ -70,7 +70,7 @@ objects_are (suc n) before (x ∷ xs) q =
     let new = subst (λ (taken : List (List ℕ)). AreNew taken (object_names xs)) (map_push (λ o. o.name) before x) t.2 in
     ((object_is _ x q.0, t.0), (is_name_means x.name (in_range 1 MAX_NAME (length x.name) q.0.long.kept) q.0.name.form, t.1), (q.0.name.fresh, new))
 
-objects_told : (before xs : List ObjectPart) → AllByRecursion IsObject xs → AllByRecursion IsName (object_names xs) → AreNew (object_names before) (object_names xs) → Each Objects (length xs) before xs
+objects_told : (before xs : List ObjPart) → AllByRecursion IsObject xs → AllByRecursion IsName (object_names xs) → AreNew (object_names before) (object_names xs) → Each Objects (length xs) before xs
 objects_told before [] h n f = tt
 objects_told before (x ∷ xs) h n f =
     let new = subst (λ (taken : List (List ℕ)). AreNew taken (object_names xs)) (sym (map_push (λ o. o.name) before x)) f.1 in
@@ -78,10 +78,10 @@ objects_told before (x ∷ xs) h n f =
 
 -- ---- programs
 
-abbrev program_names : List ProgramPart → List (List ℕ)
+abbrev program_names : List ProgPart → List (List ℕ)
 program_names = map (λ p. p.name)
 
-abbrev Programs : ℕ → List ProgramPart → ProgramPart → Type 0
+abbrev Programs : ℕ → List ProgPart → ProgPart → Type 0
 Programs memory before = IsProgramAfter memory (program_names before)
 
 few_words : (memory n : ℕ) → n ≤ min MAX_CODE (memory / 4) → (n ≤ MAX_CODE) × (4 * n ≤ memory)
@@ -90,12 +90,12 @@ few_words memory n h = (omega arith, omega arith)
 most_told : (memory n : ℕ) → n ≤ MAX_CODE → 4 * n ≤ memory → n ≤ min MAX_CODE (memory / 4)
 most_told memory n h k = omega arith
 
-program_is : (memory : ℕ) (taken : List (List ℕ)) (p : ProgramPart) → IsProgramAfter memory taken p → IsProgram memory p
+program_is : (memory : ℕ) (taken : List (List ℕ)) (p : ProgPart) → IsProgramAfter memory taken p → IsProgram memory p
 program_is memory taken p q =
     let few = few_words memory (length p.code) (in_range 0 (most_words memory) (length p.code) q.number_of_words.kept).1 in
     record { fuel = in_range 1 MAX_FUEL p.fuel q.fuel.kept; code = few.0; fits = few.1; words = words_are (length p.code) [] p.code q.code }
 
-program_told : (memory : ℕ) (taken : List (List ℕ)) (p : ProgramPart) → IsProgram memory p → IsName p.name → IsNewName taken (length p.name) p.name → IsProgramAfter memory taken p
+program_told : (memory : ℕ) (taken : List (List ℕ)) (p : ProgPart) → IsProgram memory p → IsName p.name → IsNewName taken (length p.name) p.name → IsProgramAfter memory taken p
 program_told memory taken p h n new = record {
   long = number 1 1 MAX_NAME (length p.name) n.size.0 n.size.1 (omega (arith, n.size.1));
   name = new;
@@ -104,7 +104,7 @@ program_told memory taken p h n new = record {
   code = words_told [] p.code h.words;
 }
 
-programs_are : (memory n : ℕ) (before xs : List ProgramPart) → Each (Programs memory) n before xs → AllByRecursion (IsProgram memory) xs × AllByRecursion IsName (program_names xs) × AreNew (program_names before) (program_names xs)
+programs_are : (memory n : ℕ) (before xs : List ProgPart) → Each (Programs memory) n before xs → AllByRecursion (IsProgram memory) xs × AllByRecursion IsName (program_names xs) × AreNew (program_names before) (program_names xs)
 programs_are memory zero before [] q = (tt, tt, tt)
 programs_are memory zero before (x ∷ xs) q = absurd q
 programs_are memory (suc n) before [] q = (tt, tt, tt)
@@ -113,7 +113,7 @@ programs_are memory (suc n) before (x ∷ xs) q =
     let new = subst (λ (taken : List (List ℕ)). AreNew taken (program_names xs)) (map_push (λ p. p.name) before x) t.2 in
     ((program_is memory _ x q.0, t.0), (is_name_means x.name (in_range 1 MAX_NAME (length x.name) q.0.long.kept) q.0.name.form, t.1), (q.0.name.fresh, new))
 
-programs_told : (memory : ℕ) (before xs : List ProgramPart) → AllByRecursion (IsProgram memory) xs → AllByRecursion IsName (program_names xs) → AreNew (program_names before) (program_names xs) → Each (Programs memory) (length xs) before xs
+programs_told : (memory : ℕ) (before xs : List ProgPart) → AllByRecursion (IsProgram memory) xs → AllByRecursion IsName (program_names xs) → AreNew (program_names before) (program_names xs) → Each (Programs memory) (length xs) before xs
 programs_told memory before [] h n f = tt
 programs_told memory before (x ∷ xs) h n f =
     let new = subst (λ (taken : List (List ℕ)). AreNew taken (program_names xs)) (sym (map_push (λ p. p.name) before x)) f.1 in

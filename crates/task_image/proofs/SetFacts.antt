@@ -9,18 +9,18 @@ use Rattle.nv_base.specs.declared.lines.Spawn as base
 use Rattle.set_model.proofs.LimitFacts.{few_records}
 use Rattle.set_model.specs.Limits.{IsTaskSet}
 use Rattle.set_model.specs.Names.{IsName, IsNamed}
-use Rattle.set_model.specs.Sets.{ObjectPart, ProgramPart, TaskSet, object_at, program_at}
+use Rattle.set_model.specs.Sets.{ObjPart, ProgPart, TaskSet, object_at, program_at}
 use Rattle.set_model.specs.Views.{spawn_of}
 
 pub one_byte : (n : ℕ) → n < 256 → little_bytes 1 n ≡ n ∷ []
 one_byte n h = let e : n % 256 ≡ n = omega arith in ap (λ (b : ℕ). b ∷ []) e
 
-object_name : (objects : List ObjectPart) (none : ObjectPart) (o : ℕ) → AllByRecursion IsName (map (λ p. p.name) objects) → o < length objects → length (get_or objects o none).name ≤ 16
+object_name : (objects : List ObjPart) (none : ObjPart) (o : ℕ) → AllByRecursion IsName (map (λ p. p.name) objects) → o < length objects → length (get_or objects o none).name ≤ 16
 object_name [] none o h l = absurd (omega (arith, l))
 object_name (p ∷ objects) none zero h l = h.0.size.1
 object_name (p ∷ objects) none (suc o) h l = object_name objects none o h.1 (omega arith)
 
-program_name : (programs : List ProgramPart) (none : ProgramPart) (p : ℕ) → AllByRecursion IsName (map (λ q. q.name) programs) → p < length programs → length (get_or programs p none).name ≤ 16
+program_name : (programs : List ProgPart) (none : ProgPart) (p : ℕ) → AllByRecursion IsName (map (λ q. q.name) programs) → p < length programs → length (get_or programs p none).name ≤ 16
 program_name [] none p h l = absurd (omega (arith, l))
 program_name (q ∷ programs) none zero h l = h.0.size.1
 program_name (q ∷ programs) none (suc p) h l = program_name programs none p h.1 (omega arith)

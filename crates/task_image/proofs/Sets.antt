@@ -8,7 +8,7 @@ use Rattle.byteorder.specs.Endian.{little_bytes}
 use Rattle.kernel_model.specs.Effects.{Spawn}
 use Rattle.nv_base.specs.declared.limits.TheConstants.{MAX_CORES, MAX_FORMAT, MAX_OBJECTS, MAX_PROGRAMS, MAX_RECORDS}
 use Rattle.set_model.specs.Limits.{max_objects, max_records}
-use Rattle.set_model.specs.Sets.{ObjectPart, ProgramPart, TaskSet}
+use Rattle.set_model.specs.Sets.{ObjPart, ProgPart, TaskSet}
 use Rattle.set_model.proofs.LimitFacts.{most_objects, most_records}
 use Rattle.task_image.specs.Packed.{packed_object, packed_program, packed_task, packed_header, packed}
 use Rattle.task_image.specs.Reading.{several}
@@ -73,10 +73,10 @@ header_reads =
 abbrev pub header_from : TaskSet → Header
 header_from s = record { format = s.format; cores = s.cores; objects = length s.objects; programs = length s.programs; tasks = length s.tasks; memory = s.memory; records = s.records }
 
-abbrev pub AreObjects : ℕ → List ObjectPart → Type 0
+abbrev pub AreObjects : ℕ → List ObjPart → Type 0
 AreObjects n = Each (λ before. IsObjectAfter (map (λ o. o.name) before)) n []
 
-abbrev pub ArePrograms : ℕ → ℕ → List ProgramPart → Type 0
+abbrev pub ArePrograms : ℕ → ℕ → List ProgPart → Type 0
 ArePrograms memory n = Each (λ before. IsProgramAfter memory (map (λ p. p.name) before)) n []
 
 abbrev pub AreTasks : ℕ → ℕ → List Spawn → Type 0

@@ -3,10 +3,10 @@ use Rattle.std.specs.Prelude.{ℕ, List, ◌++◌, length, codes}
 use Rattle.std.specs.List.{flat_map}
 use Rattle.byteorder.specs.Endian.{little_bytes}
 use Rattle.kernel_model.specs.Effects.{Spawn}
-use Rattle.set_model.specs.Sets.{ObjectPart, ProgramPart, TaskSet}
+use Rattle.set_model.specs.Sets.{ObjPart, ProgPart, TaskSet}
 
 -- name length, name, size, slots, first values
-unfoldable pub packed_object : ObjectPart → List ℕ
+unfoldable pub packed_object : ObjPart → List ℕ
 packed_object o =
     little_bytes 1 (length o.name)
     ++ o.name
@@ -15,7 +15,7 @@ packed_object o =
     ++ flat_map (little_bytes 4) o.first
 
 -- name length, name, fuel, number of words, words
-unfoldable pub packed_program : ProgramPart → List ℕ
+unfoldable pub packed_program : ProgPart → List ℕ
 packed_program p =
     little_bytes 1 (length p.name)
     ++ p.name

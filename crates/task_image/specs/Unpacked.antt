@@ -5,7 +5,7 @@ use Rattle.byteorder.specs.Endian.{little_bytes}
 use Rattle.kernel_model.specs.Effects.{Spawn}
 use Rattle.nv_base.specs.declared.limits.TheConstants.{MAX_CODE, MAX_CORES, MAX_FORMAT, MAX_FUEL, MAX_MEMORY, MAX_NAME, MAX_PROGRAMS, MAX_SIZE, MAX_SLOTS, MIN_MEMORY, MIN_SLOTS}
 use Rattle.set_model.specs.Limits.{max_objects, max_records}
-use Rattle.set_model.specs.Sets.{ObjectPart, ProgramPart, TaskSet}
+use Rattle.set_model.specs.Sets.{ObjPart, ProgPart, TaskSet}
 use Rattle.task_image.specs.Reading.{Here, Reader, ◌>>=◌, done, number, literal, new_name, several, end}
 
 -- words of 32 bits
@@ -13,7 +13,7 @@ abbrev pub words : ℕ → Reader (List ℕ)
 words n = several n (λ _. number 4 (λ _. true)) []
 
 -- with a name that no object before it has
-unfoldable pub object : List (List ℕ) → Reader ObjectPart
+unfoldable pub object : List (List ℕ) → Reader ObjPart
 object taken = do
   length_of_name ← number 1 (is_in_range 1 MAX_NAME)
   name ← new_name taken length_of_name
@@ -23,7 +23,7 @@ object taken = do
   done (record { name = name; size = size; slots = slots; first = first })
 
 -- that fits so much private memory, with a name that no program before it has
-unfoldable pub program : ℕ → List (List ℕ) → Reader ProgramPart
+unfoldable pub program : ℕ → List (List ℕ) → Reader ProgPart
 program memory taken = do
   length_of_name ← number 1 (is_in_range 1 MAX_NAME)
   name ← new_name taken length_of_name

@@ -6,7 +6,7 @@ ghost use Rattle.task_image.specs.Answers.{Gives};
 ghost use Rattle.task_image.specs.Reading.{number, literal, new_name, end, past};
 ghost use Rattle.task_image.specs.Unpacked.{is_memory};
 
-use crate::names::take_name;
+use crate::new_name::take_name;
 use crate::refusal::Stop;
 use byteorder::{ByteOrder, LittleEndian};
 use indexmap::IndexSet;

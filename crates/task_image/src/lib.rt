@@ -4,7 +4,7 @@
 mod cursor;
 mod header;
 pub mod laws;
-mod names;
+mod new_name;
 mod parts;
 mod reading;
 mod refusal;

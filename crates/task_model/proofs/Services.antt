@@ -11,7 +11,7 @@ use Rattle.nv_base.specs.declared.causes.TrapCause.TheVariants as cause
 use Rattle.nv_base.specs.declared.lines.Outcome.TheVariants as outcome
 use Rattle.nv_base.specs.declared.lines.Outcome.{Outcome}
 use Rattle.nv_base.specs.declared.lines.Spawn.{Spawn}
-use Rattle.kernel_model.specs.Effects.{Effects, Objects, Write, ended, put, with_write, words_of}
+use Rattle.kernel_model.specs.Effects.{Effects, Objects, Write, ended, put, with_write, object_words}
 use Rattle.kernel_model.specs.Effects as model
 use Rattle.kernel_model.specs.Runs.{Ends, Spawns, Writes, run_from, max_spawns}
 use Rattle.set_model.specs.Sets.{TaskSet, object_at}
@@ -48,14 +48,14 @@ refused_write programs p s o at failed r = λ set objects e k h.
 
 -- the words at the address are the object's from now on
 pub writes : (programs : ℕ) (p : Progress) (s m : MachineState) (o at : ℕ) (v : List (List ℕ)) (w : List ℕ) → TestsTo p s o at None → o < length p.values
-    → v ≡ set p.values o (words_at s.memory at (length (words_of p.values o))) → w ≡ with_object o p.written → IsIncreasing w → m ≡ past s
-    → length (words_at s.memory at (length (words_of p.values o))) ≡ length (words_of p.values o)
+    → v ≡ set p.values o (words_at s.memory at (length (object_words p.values o))) → w ≡ with_object o p.written → IsIncreasing w → m ≡ past s
+    → length (words_at s.memory at (length (object_words p.values o))) ≡ length (object_words p.values o)
     → Turns programs p (Calls s (Puts o at)) None m (record p { values = v; written = w })
 unfolding Turns
 writes programs p s m o at v w t l a b i g size = λ all objects e k h.
     let write : Write = record { object = o; words = words_at s.memory at (object_at all o).size } in
     let f : Effects = record e { writes = with_write write e.writes } in
-    let fits : length (words_of p.values o) ≡ (object_at all o).size = h.shape.sizes o l in
+    let fits : length (object_words p.values o) ≡ (object_at all o).size = h.shape.sizes o l in
     let same : v ≡ set p.values o write.words = a ∙ ap (λ n. set p.values o (words_at s.memory at n)) fits in
     let ordered : IsIncreasing (objects_in e.writes) = subst IsIncreasing h.written h.increasing in
     let now : w ≡ objects_in f.writes = b ∙ ap (λ x. with_object o x) h.written ∙ sym (objects_in-with_write write e.writes ordered) in
@@ -122,11 +122,11 @@ tested : (p : Progress) (s : MachineState) (o x at : ℕ) → x ≡ o → TestsT
 tested p s o x at e t = λ set h. t set h ∙ ap (λ y. refusal set s y at) (sym e)
 
 pub writes_object : (programs : ℕ) (p : Progress) (s m : MachineState) (o x at : ℕ) (v : List (List ℕ)) (w : List ℕ) → x ≡ o → TestsTo p s o at None → o < length p.values
-    → v ≡ set p.values x (words_at s.memory at (length (words_of p.values x))) → w ≡ with_object x p.written → IsIncreasing w → Next (past s) ≡ Next m
+    → v ≡ set p.values x (words_at s.memory at (length (object_words p.values x))) → w ≡ with_object x p.written → IsIncreasing w → Next (past s) ≡ Next m
     → Turns programs p (Calls s (Puts o at)) None m (record p { values = v; written = w })
 writes_object programs p s m o x at v w e t l a b i goes =
     subst (λ y. Turns programs p (Calls s (Puts y at)) None m (record p { values = v; written = w })) e
-    (writes programs p s m x at v w (tested p s o x at e t) (omega (arith, l, e)) a b i (next_is (past s) m goes) (length-words_at s.memory at (length (words_of p.values x))))
+    (writes programs p s m x at v w (tested p s o x at e t) (omega (arith, l, e)) a b i (next_is (past s) m goes) (length-words_at s.memory at (length (object_words p.values x))))
 
 pub spawns_task : (programs : ℕ) (p : Progress) (s m : MachineState) (program arg index : ℕ) (x : List Spawn) (spawn : Spawn) → program < programs → index < max_spawns
     → index ≡ length p.spawns → spawn_of spawn ≡ record { program = program; arg = arg } → x ≡ p.spawns ++ spawn ∷ [] → Next (given_index s index) ≡ Next m

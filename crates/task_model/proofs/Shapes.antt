@@ -2,7 +2,7 @@
 use Rattle.std.proofs.Common.{◌≡◌, ◌≢◌, ℕ, ◌<◌, Bool, true, false, eqb, List, length, set, get_or-set_other, get_or-set_same, refl, sym, ◌∙◌, subst, arith}
 use Rattle.std.proofs.Math.ListN.{length-set}
 use Rattle.std.proofs.lemmas.Bool.{eqb-true, eqb-false}
-use Rattle.kernel_model.specs.Effects.{Objects, words_of}
+use Rattle.kernel_model.specs.Effects.{Objects, object_words}
 use Rattle.set_model.specs.Sets.{TaskSet, object_at}
 use Rattle.task_model.specs.Shape.{AreAlike, HasShape}
 
@@ -13,10 +13,10 @@ shape-set s objects o words h k = record {
   sizes = λ i l. at i (let m : i < length objects = omega (arith, l, length-set objects o words) in m) (eqb i o) refl;
 }
   where
-    at : (i : ℕ) → i < length objects → (b : Bool) → eqb i o ≡ b → length (words_of (set objects o words) i) ≡ (object_at s i).size
+    at : (i : ℕ) → i < length objects → (b : Bool) → eqb i o ≡ b → length (object_words (set objects o words) i) ≡ (object_at s i).size
     at i l true e =
         let same : i ≡ o = eqb-true i o e in
-        subst (λ j. length (words_of (set objects o words) j) ≡ (object_at s j).size) (sym same)
+        subst (λ j. length (object_words (set objects o words) j) ≡ (object_at s j).size) (sym same)
         (let inside : o < length objects = omega (arith, l, same) in rw get_or-set_same k)
     at i l false e = let other : i ≢ o = eqb-false i o e in rw get_or-set_other (h.sizes i l)
 

@@ -7,7 +7,7 @@ use Rattle.rv_core.specs.declared.services.Service.{Service}
 use Rattle.rv_core.specs.declared.services.Service.TheVariants.{Read, ReadPart, WritePart}
 use Rattle.nv_base.specs.declared.causes.TrapCause.{TrapCause}
 use Rattle.nv_base.specs.declared.lines.Outcome.TheVariants as outcome
-use Rattle.kernel_model.specs.Effects.{Effects, Objects, Write, also_written, reads_after, seen, with_write, words_of, written}
+use Rattle.kernel_model.specs.Effects.{Effects, Objects, Write, also_written, reads_after, seen, with_write, object_words, written}
 use Rattle.kernel_model.specs.Runs.{Ends, Reads, Step, run_from}
 use Rattle.set_model.specs.Sets.{TaskSet}
 use Rattle.set_model.specs.Views.{trap_of}
@@ -38,8 +38,8 @@ pub read_refused : (p : Progress) (s : MachineState) (o at : ℕ) (failed : Trap
 read_refused p s o at failed t = λ all h. ap (λ f. unless f (Reads s o)) (sym (t all h))
 
 -- what the task sees of an object is what the progress has
-inside : (all : TaskSet) (objects : Objects) (e : Effects) (p : Progress) (o : ℕ) → Stands all objects e p → o < length p.values → words_of p.values o ≡ seen e.writes objects o
-inside all objects e p o h l = ap (λ v. words_of v o) h.values ∙ put-seen e.writes objects o (omega (arith, l, ap length h.values ∙ length-put_from 0 e.writes objects))
+inside : (all : TaskSet) (objects : Objects) (e : Effects) (p : Progress) (o : ℕ) → Stands all objects e p → o < length p.values → object_words p.values o ≡ seen e.writes objects o
+inside all objects e p o h l = ap (λ v. object_words v o) h.values ∙ put-seen e.writes objects o (omega (arith, l, ap length h.values ∙ length-put_from 0 e.writes objects))
 
 noted : (all : TaskSet) (objects : Objects) (e : Effects) (p : Progress) (o : ℕ) → Stands all objects e p → reads_noted p o ≡ reads_after (written e.writes o) o e.reads
 noted all objects e p o h =
@@ -48,7 +48,7 @@ noted all objects e p o h =
 
 -- the words that the task sees are given
 pub given : (programs : ℕ) (p : Progress) (s m : MachineState) (service : Service) (o : ℕ) (r : List ℕ) → r ≡ reads_noted p o → ComesTo p s service (Reads s o) → o < length p.values
-    → ((words : List ℕ) → rewritten_words s words ≡ None) → m ≡ given_words s (words_of p.values o) → Turns programs p (Calls s service) None m (record p { reads = r })
+    → ((words : List ℕ) → rewritten_words s words ≡ None) → m ≡ given_words s (object_words p.values o) → Turns programs p (Calls s service) None m (record p { reads = r })
 unfolding Turns
 given programs p s m service o r q to l none g = λ all objects e k h.
     let words : List ℕ = seen e.writes objects o in
@@ -63,12 +63,12 @@ given programs p s m service o r q to l none g = λ all objects e k h.
 
 -- the object has new words, made of those that the task sees
 pub rewritten : (programs : ℕ) (p : Progress) (s m : MachineState) (service : Service) (o : ℕ) (new r : List ℕ) (v : List (List ℕ)) (w : List ℕ) → r ≡ reads_noted p o → ComesTo p s service (Reads s o) → o < length p.values
-    → rewritten_words s (words_of p.values o) ≡ Some new → length new ≡ length (words_of p.values o) → m ≡ given_words s (words_of p.values o)
+    → rewritten_words s (object_words p.values o) ≡ Some new → length new ≡ length (object_words p.values o) → m ≡ given_words s (object_words p.values o)
     → v ≡ set p.values o new → w ≡ with_object o p.written → IsIncreasing w → Turns programs p (Calls s service) None m (record p { values = v; reads = r; written = w })
 unfolding Turns
 rewritten programs p s m service o new r v w q to l is size g a b i = λ all objects e k h.
     let words : List ℕ = seen e.writes objects o in
-    let same : words_of p.values o ≡ words = inside all objects e p o h l in
+    let same : object_words p.values o ≡ words = inside all objects e p o h l in
     let there : m ≡ given_words s words = g ∙ ap (given_words s) same in
     let write : Write = record { object = o; words = new } in
     let makes : rewritten_words s words ≡ Some new = ap (rewritten_words s) (sym same) ∙ is in
@@ -98,28 +98,28 @@ pub rewritten_as : (s : MachineState) (service : Service) (words : List ℕ) →
 rewritten_as s service words e = ap (λ x. rewritten_by x s.memory words) e
 
 pub reads_object : (programs : ℕ) (p : Progress) (s g m : MachineState) (o x at : ℕ) (words r : List ℕ) → r ≡ reads_noted p x → x ≡ o → TestsTo p s o at None → o < length p.values → service_of s ≡ Some (Read o at)
-    → words ≡ words_of p.values x → g ≡ record s { memory = put_words s.memory at words } → Next (past g) ≡ Next m
+    → words ≡ object_words p.values x → g ≡ record s { memory = put_words s.memory at words } → Next (past g) ≡ Next m
     → Turns programs p (Calls s (Read o at)) None m (record p { reads = r })
 reads_object programs p s g m o x at words r q e t l called w gives goes =
     given programs p s m (Read o at) x r q (λ all h. ap (λ f. unless f (Reads s o)) (sym (t all h)) ∙ ap (Reads s) (sym e)) (omega (arith, l, e)) (λ ws. rewritten_as s (Read o at) ws called)
-    (next_is (past g) m goes ∙ ap past gives ∙ ap (λ y. past (record s { memory = put_words s.memory at y })) w ∙ sym (given_as s (Read o at) (words_of p.values x) called))
+    (next_is (past g) m goes ∙ ap past gives ∙ ap (λ y. past (record s { memory = put_words s.memory at y })) w ∙ sym (given_as s (Read o at) (object_words p.values x) called))
 
 pub reads_part : (programs : ℕ) (p : Progress) (s g m : MachineState) (o x at first count : ℕ) (words r : List ℕ) → r ≡ reads_noted p x → x ≡ o → PartTestsTo p s o at first count None → o < length p.values → service_of s ≡ Some (ReadPart o at first count)
-    → words ≡ words_of p.values x → g ≡ record s { memory = put_words s.memory at (take (first + count - first) (drop first words)) } → Next (past g) ≡ Next m
+    → words ≡ object_words p.values x → g ≡ record s { memory = put_words s.memory at (take (first + count - first) (drop first words)) } → Next (past g) ≡ Next m
     → Turns programs p (Calls s (ReadPart o at first count)) None m (record p { reads = r })
 reads_part programs p s g m o x at first count words r q e t l called w gives goes =
     given programs p s m (ReadPart o at first count) x r q (λ all h. ap (λ f. unless f (Reads s o)) (sym (t all h)) ∙ ap (Reads s) (sym e)) (omega (arith, l, e)) (λ ws. rewritten_as s (ReadPart o at first count) ws called)
-    (next_is (past g) m goes ∙ ap past gives ∙ ap (λ n. past (record s { memory = put_words s.memory at (take n (drop first words)) })) (let same : first + count - first ≡ count = omega arith in same) ∙ ap (λ y. past (record s { memory = put_words s.memory at (part_of first count y) })) w ∙ sym (given_as s (ReadPart o at first count) (words_of p.values x) called))
+    (next_is (past g) m goes ∙ ap past gives ∙ ap (λ n. past (record s { memory = put_words s.memory at (take n (drop first words)) })) (let same : first + count - first ≡ count = omega arith in same) ∙ ap (λ y. past (record s { memory = put_words s.memory at (part_of first count y) })) w ∙ sym (given_as s (ReadPart o at first count) (object_words p.values x) called))
 
 pub writes_part : (programs : ℕ) (p : Progress) (s m : MachineState) (o x at first count : ℕ) (r : List ℕ) (v : List (List ℕ)) (w : List ℕ) → r ≡ reads_noted p x → x ≡ o → PartTestsTo p s o at first count None → o < length p.values → service_of s ≡ Some (WritePart o at first count)
-    → first + count ≤ length (words_of p.values o) → v ≡ set p.values x (with_part first (words_at s.memory at count) (words_of p.values x)) → w ≡ with_object x p.written → IsIncreasing w → Next (past s) ≡ Next m
+    → first + count ≤ length (object_words p.values o) → v ≡ set p.values x (with_part first (words_at s.memory at count) (object_words p.values x)) → w ≡ with_object x p.written → IsIncreasing w → Next (past s) ≡ Next m
     → Turns programs p (Calls s (WritePart o at first count)) None m (record p { values = v; reads = r; written = w })
 writes_part programs p s m o x at first count r v w q e t l called fits a b i goes =
-    let new : List ℕ = with_part first (words_at s.memory at count) (words_of p.values x) in
-    let long : first + length (words_at s.memory at count) ≤ length (words_of p.values x) = omega (arith, fits, length-words_at s.memory at count, ap (λ y. length (words_of p.values y)) e) in
+    let new : List ℕ = with_part first (words_at s.memory at count) (object_words p.values x) in
+    let long : first + length (words_at s.memory at count) ≤ length (object_words p.values x) = omega (arith, fits, length-words_at s.memory at count, ap (λ y. length (object_words p.values y)) e) in
     rewritten programs p s m (WritePart o at first count) x new r v w q (λ all h. ap (λ f. unless f (Reads s o)) (sym (t all h)) ∙ ap (Reads s) (sym e)) (omega (arith, l, e))
-    (rewritten_as s (WritePart o at first count) (words_of p.values x) called) (length-with_part first (words_at s.memory at count) (words_of p.values x) long)
-    (next_is (past s) m goes ∙ sym (given_as s (WritePart o at first count) (words_of p.values x) called)) a b i
+    (rewritten_as s (WritePart o at first count) (object_words p.values x) called) (length-with_part first (words_at s.memory at count) (object_words p.values x) long)
+    (next_is (past s) m goes ∙ sym (given_as s (WritePart o at first count) (object_words p.values x) called)) a b i
 
 pub part_refused : (p : Progress) (s : MachineState) (o at first count : ℕ) (failed : TrapCause) → PartTestsTo p s o at first count (Some failed) → (ComesTo p s (ReadPart o at first count) (Ends (trap_of failed))) × (ComesTo p s (WritePart o at first count) (Ends (trap_of failed)))
 part_refused p s o at first count failed t = ((λ all h. ap (λ f. unless f (Reads s o)) (sym (t all h))), (λ all h. ap (λ f. unless f (Reads s o)) (sym (t all h))))

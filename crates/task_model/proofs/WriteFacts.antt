@@ -3,7 +3,7 @@ use Rattle.std.proofs.Common.{◌≡◌, ℕ, zero, suc, add-zero, zero-add, ◌
 use Rattle.std.specs.List.{AllByRecursion}
 use Rattle.std.proofs.lemmas.Bool.{eqb-true, eqb-false, ltb-true, ltb-false}
 use Rattle.object_sets.specs.ObjectSets.{inserted, is_among, with_object, IsIncreasing}
-use Rattle.kernel_model.specs.Effects.{Objects, Write, put, put_from, reads_after, with_write, words_of, written}
+use Rattle.kernel_model.specs.Effects.{Objects, Write, put, put_from, reads_after, with_write, object_words, written}
 use Rattle.kernel_model.proofs.RunFacts.{written-with_write}
 
 -- nothing is put in
@@ -16,15 +16,15 @@ length-put_from k ws [] = refl
 length-put_from k ws (x ∷ xs) = ap suc (length-put_from (k + 1) ws xs)
 
 -- what the task sees of an object
-pub seen_from : (k : ℕ) (ws : List Write) (m : Objects) (o : ℕ) → o < length m → words_of (put_from k ws m) o ≡ unwrap_or (written ws (k + o)) (words_of m o)
+pub seen_from : (k : ℕ) (ws : List Write) (m : Objects) (o : ℕ) → o < length m → object_words (put_from k ws m) o ≡ unwrap_or (written ws (k + o)) (object_words m o)
 seen_from k ws [] o h = absurd (omega arith)
 seen_from k ws (x ∷ xs) zero h = ap (λ i. unwrap_or (written ws i) x) (sym (add-zero k))
 seen_from k ws (x ∷ xs) (suc o) h =
     let e : k + 1 + o ≡ k + suc o = omega arith in
-    seen_from (k + 1) ws xs o (omega arith) ∙ ap (λ i. unwrap_or (written ws i) (words_of xs o)) e
+    seen_from (k + 1) ws xs o (omega arith) ∙ ap (λ i. unwrap_or (written ws i) (object_words xs o)) e
 
-pub seen : (ws : List Write) (m : Objects) (o : ℕ) → o < length m → words_of (put ws m) o ≡ unwrap_or (written ws o) (words_of m o)
-seen ws m o h = seen_from 0 ws m o h ∙ ap (λ i. unwrap_or (written ws i) (words_of m o)) (zero-add o)
+pub seen : (ws : List Write) (m : Objects) (o : ℕ) → o < length m → object_words (put ws m) o ≡ unwrap_or (written ws o) (object_words m o)
+seen ws m o h = seen_from 0 ws m o h ∙ ap (λ i. unwrap_or (written ws i) (object_words m o)) (zero-add o)
 
 -- a write of an object before k leaves those from k on
 put_from-behind : (k : ℕ) (w : Write) (ws : List Write) (m : Objects) → w.object < k → put_from k (with_write w ws) m ≡ put_from k ws m

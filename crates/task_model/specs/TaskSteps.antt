@@ -8,7 +8,7 @@ use Rattle.nv_base.specs.declared.causes.TrapCause.TheVariants as cause
 use Rattle.rv_core.specs.State.{MachineState, StepResult, Next, Calls, Traps}
 use Rattle.rv_core.specs.Machine.{step_of, first_state, misfit, service_of, words_at, with_register}
 use Rattle.kernel_model.specs.Effects.{Exit}
-use Rattle.kernel_model.specs.Runs.{Step, Steps, Went, Reads, Writes, Spawns, Ends}
+use Rattle.kernel_model.specs.Runs.{Step, TaskMachine, Went, Reads, Writes, Spawns, Ends}
 use Rattle.set_model.specs.Sets.{TaskSet, object_at, program_at}
 use Rattle.set_model.specs.Views.{trap_of}
 
@@ -90,7 +90,7 @@ abbrev pub given_index : MachineState → ℕ → MachineState
 given_index s index = past (with_register s 10 index)
 
 -- the machine of a set's tasks, of which the kernel's model speaks
-abbrev pub task_steps : TaskSet → Steps MachineState
+abbrev pub task_steps : TaskSet → TaskMachine MachineState
 task_steps set = record {
   load = λ p arg. first_state (program_at set p).code arg (program_at set p).fuel set.memory;
   step = λ s. served set (step_of s);

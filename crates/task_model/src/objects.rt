@@ -2,7 +2,7 @@
 
 ghost use Rattle.std.specs.Prelude.{◌≡◌, ◌<◌, ◌≤◌, ◌+◌, ◌++◌, ◌∷◌, [], IfOk, MatchResult, length, slice_set};
 ghost use Rattle.rv_core.specs.Machine.{words_at, IsPlace};
-ghost use Rattle.kernel_model.specs.Effects.{words_of};
+ghost use Rattle.kernel_model.specs.Effects.{object_words};
 ghost use Rattle.set_model.specs.Formatted.{formatted};
 ghost use Rattle.task_model.specs.TaskSteps.{with_part};
 ghost use Rattle.task_model.specs.Shape.{AreAlike, HasShape};
@@ -113,7 +113,7 @@ impl Objects {
     /// The words of an object.
     pub fn get(&self, object: usize) -> &[u32]
         requires { object < length self.now }
-        ensures exact { result.now ≡ words_of self.now object }
+        ensures exact { result.now ≡ object_words self.now object }
         ensures small { length result.now ≤ MAX_SIZE }
     {
         self.items[object].as_slice()
@@ -144,8 +144,8 @@ impl Objects {
     /// Takes an object's words from an address of a machine's memory.
     pub(crate) fn take_from(&mut self, object: usize, machine: &Machine, at: u32)
         requires inside { object < length self.old }
-        requires place { IsPlace machine.now at (length (words_of self.old object)) }
-        ensures { self.new ≡ slice_set self.old object (words_at machine.now.memory at (length (words_of self.old object))) }
+        requires place { IsPlace machine.now at (length (object_words self.old object)) }
+        ensures { self.new ≡ slice_set self.old object (words_at machine.now.memory at (length (object_words self.old object))) }
     {
         self.items[object].take_from(machine, at);
     }
@@ -161,8 +161,8 @@ impl Objects {
     )
         requires inside { object < length self.old }
         requires place { IsPlace machine.now at count }
-        requires range { first + count ≤ length (words_of self.old object) }
-        ensures { self.new ≡ slice_set self.old object (with_part first (words_at machine.now.memory at count) (words_of self.old object)) }
+        requires range { first + count ≤ length (object_words self.old object) }
+        ensures { self.new ≡ slice_set self.old object (with_part first (words_at machine.now.memory at count) (object_words self.old object)) }
     {
         self.items[object].take_part(first, count, machine, at);
     }

@@ -5,7 +5,7 @@ ghost use Rattle.std.specs.Result.{result_err};
 ghost use Rattle.rv_core.specs.State.{Calls};
 ghost use Rattle.rv_core.specs.Machine.{put_words, service_of, step_of, IsPlace, Keeps};
 ghost use Rattle.rv_core.specs.declared.services.Service.TheVariants.{Read, ReadPart, Write, WritePart, Spawn as AsksFor};
-ghost use Rattle.kernel_model.specs.Effects.{words_of};
+ghost use Rattle.kernel_model.specs.Effects.{object_words};
 ghost use Rattle.set_model.specs.Sets.{TaskSet};
 ghost use Rattle.task_model.specs.TaskSteps.{part_refusal, refusal};
 ghost use Rattle.task_model.specs.Shape.{HasShape};
@@ -96,7 +96,7 @@ impl Progress {
         ensures object { IfOk result (λ o. o.0 ≡ object) }
         ensures inside { OnOk result (object < length self.now.values) }
         ensures few { OnOk result (object < MAX_OBJECTS) }
-        ensures place { OnOk result (IsPlace machine.now at (length (words_of self.now.values object))) }
+        ensures place { OnOk result (IsPlace machine.now at (length (object_words self.now.values object))) }
     {
         if object as usize >= self.values.len() {
             return Err(TrapCause::Object);
@@ -119,7 +119,7 @@ impl Progress {
         ensures object { IfOk result (λ o. o.0 ≡ object) }
         ensures inside { OnOk result (object < length self.now.values) }
         ensures few { OnOk result (object < MAX_OBJECTS) }
-        ensures range { OnOk result (first + count ≤ length (words_of self.now.values object)) }
+        ensures range { OnOk result (first + count ≤ length (object_words self.now.values object)) }
         ensures place { OnOk result (IsPlace machine.now at count) }
     {
         if self.values.len() <= object as usize {

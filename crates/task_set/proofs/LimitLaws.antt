@@ -7,7 +7,7 @@ use Rattle.std.proofs.lemmas.Bool.{leb-true, le-leb, ltb-true, lt-ltb, eqb-true}
 use Rattle.std.proofs.Common.{eq-eqb}
 use Rattle.kernel_model.specs.Effects.{Spawn}
 use Rattle.nv_base.specs.declared.limits.TheConstants.{MAX_CODE, MAX_CORES, MAX_FORMAT, MAX_FUEL, MAX_MEMORY, MAX_PROGRAMS, MAX_SIZE, MAX_SLOTS, MIN_MEMORY, MIN_SLOTS}
-use Rattle.set_model.specs.Sets.{ObjectPart, ProgramPart, TaskSet}
+use Rattle.set_model.specs.Sets.{ObjPart, ProgPart, TaskSet}
 use Rattle.set_model.specs.Limits.{IsWithin, IsWord, IsObject, IsProgram, IsTask, IsTaskSet, max_objects, max_records}
 use Rattle.task_set.specs.declared.refusals.LimitKind.{LimitKind}
 use Rattle.task_set.specs.declared.refusals.LimitKind.TheVariants.{Format, Cores, Memory, Records, Objects, Size, Slots, First, Programs, Fuel, Code, Tasks, TaskProgram}
@@ -79,7 +79,7 @@ within low high n e = let h = both (nat_le low n) (nat_le n high) e in (leb-true
 in_range : (low high n : ℕ) → IsWithin low high n → is_in_range low high n ≡ true
 in_range low high n h = both_true (le-leb low n h.0) (le-leb n high h.1)
 
-each_object : (objects : List ObjectPart) → list_all (λ o. is_in_range 1 MAX_SIZE o.size) objects ≡ true → list_all (λ o. is_in_range MIN_SLOTS MAX_SLOTS o.slots) objects ≡ true → list_all (λ o. length o.first == o.size) objects ≡ true
+each_object : (objects : List ObjPart) → list_all (λ o. is_in_range 1 MAX_SIZE o.size) objects ≡ true → list_all (λ o. is_in_range MIN_SLOTS MAX_SLOTS o.slots) objects ≡ true → list_all (λ o. length o.first == o.size) objects ≡ true
     → AllByRecursion (λ o. AllByRecursion IsWord o.first) objects → AllByRecursion IsObject objects
 each_object [] e f g w = tt
 each_object (o ∷ objects) e f g w =
@@ -88,7 +88,7 @@ each_object (o ∷ objects) e f g w =
     let j = both (length o.first == o.size) (list_all (λ p. length p.first == p.size) objects) g in
     (record { size = within 1 MAX_SIZE o.size h.0; slots = within MIN_SLOTS MAX_SLOTS o.slots i.0; first = eqb-true (length o.first) o.size j.0; words = w.0 }, each_object objects h.1 i.1 j.1 w.1)
 
-each_program : (memory : ℕ) (programs : List ProgramPart) → list_all (λ p. is_in_range 1 MAX_FUEL p.fuel) programs ≡ true
+each_program : (memory : ℕ) (programs : List ProgPart) → list_all (λ p. is_in_range 1 MAX_FUEL p.fuel) programs ≡ true
     → list_all (λ p. nat_le (length p.code) MAX_CODE && nat_le (4 * length p.code) memory) programs ≡ true → AllByRecursion (λ p. AllByRecursion IsWord p.code) programs
     → AllByRecursion (IsProgram memory) programs
 each_program memory [] e f w = tt
@@ -123,23 +123,23 @@ within_if_none set w e =
       each_task = each_task (length set.programs) set.tasks h.task_programs w.tasks;
     }
 
-sizes_all : (objects : List ObjectPart) → AllByRecursion IsObject objects → list_all (λ o. is_in_range 1 MAX_SIZE o.size) objects ≡ true
+sizes_all : (objects : List ObjPart) → AllByRecursion IsObject objects → list_all (λ o. is_in_range 1 MAX_SIZE o.size) objects ≡ true
 sizes_all [] h = refl
 sizes_all (o ∷ objects) h = both_true (in_range 1 MAX_SIZE o.size h.0.size) (sizes_all objects h.1)
 
-slots_all : (objects : List ObjectPart) → AllByRecursion IsObject objects → list_all (λ o. is_in_range MIN_SLOTS MAX_SLOTS o.slots) objects ≡ true
+slots_all : (objects : List ObjPart) → AllByRecursion IsObject objects → list_all (λ o. is_in_range MIN_SLOTS MAX_SLOTS o.slots) objects ≡ true
 slots_all [] h = refl
 slots_all (o ∷ objects) h = both_true (in_range MIN_SLOTS MAX_SLOTS o.slots h.0.slots) (slots_all objects h.1)
 
-firsts_all : (objects : List ObjectPart) → AllByRecursion IsObject objects → list_all (λ o. length o.first == o.size) objects ≡ true
+firsts_all : (objects : List ObjPart) → AllByRecursion IsObject objects → list_all (λ o. length o.first == o.size) objects ≡ true
 firsts_all [] h = refl
 firsts_all (o ∷ objects) h = both_true (eq-eqb (length o.first) o.size h.0.first) (firsts_all objects h.1)
 
-fuels_all : (memory : ℕ) (programs : List ProgramPart) → AllByRecursion (IsProgram memory) programs → list_all (λ p. is_in_range 1 MAX_FUEL p.fuel) programs ≡ true
+fuels_all : (memory : ℕ) (programs : List ProgPart) → AllByRecursion (IsProgram memory) programs → list_all (λ p. is_in_range 1 MAX_FUEL p.fuel) programs ≡ true
 fuels_all memory [] h = refl
 fuels_all memory (p ∷ programs) h = both_true (in_range 1 MAX_FUEL p.fuel h.0.fuel) (fuels_all memory programs h.1)
 
-codes_all : (memory : ℕ) (programs : List ProgramPart) → AllByRecursion (IsProgram memory) programs
+codes_all : (memory : ℕ) (programs : List ProgPart) → AllByRecursion (IsProgram memory) programs
     → list_all (λ p. nat_le (length p.code) MAX_CODE && nat_le (4 * length p.code) memory) programs ≡ true
 codes_all memory [] h = refl
 codes_all memory (p ∷ programs) h =

@@ -3,7 +3,7 @@ use Rattle.std.proofs.Common.{◌≡◌, ℕ, suc, ◌+◌, ◌^◌, ◌<◌, �
 use Rattle.std.specs.List.{AllByRecursion}
 use Rattle.std.proofs.lemmas.List.{take_more, take_all}
 use Rattle.nv_base.specs.declared.lines.Spawn as base_spawn
-use Rattle.set_model.specs.Sets.{ObjectPart, ProgramPart, TaskSet}
+use Rattle.set_model.specs.Sets.{ObjPart, ProgPart, TaskSet}
 use Rattle.set_model.specs.Limits.{IsWord}
 use Rattle.set_model.specs.Views.{spawn_of}
 use Rattle.task_set.specs.Ranges.{HasWords}
@@ -30,7 +30,7 @@ pub all_mapped : {X Y : Type 0} (P : Y → Type 0) (f : X → Y) (xs : List X) �
 all_mapped P f [] h = tt
 all_mapped P f (x ∷ xs) h = (h.0, all_mapped P f xs h.1)
 
-pub has_all_words : (set : TaskSet) (objects : List ObjectPart) (programs : List ProgramPart) (tasks : List base_spawn.Spawn) → objects ≡ set.objects → programs ≡ set.programs → map spawn_of tasks ≡ set.tasks
+pub has_all_words : (set : TaskSet) (objects : List ObjPart) (programs : List ProgPart) (tasks : List base_spawn.Spawn) → objects ≡ set.objects → programs ≡ set.programs → map spawn_of tasks ≡ set.tasks
     → AllByRecursion (λ o. AllByRecursion IsWord o.first) objects → AllByRecursion (λ p. AllByRecursion IsWord p.code) programs → AllByRecursion (λ t. IsWord t.arg) tasks → HasWords set
 has_all_words set objects programs tasks e f g h i j = record {
   objects = subst (AllByRecursion (λ o. AllByRecursion IsWord o.first)) e h;

@@ -5,7 +5,7 @@ mod formats;
 pub mod laws;
 mod limits;
 mod lists;
-mod names;
+mod distinct_names;
 mod parts;
 mod ranges;
 mod refusals;

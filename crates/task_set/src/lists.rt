@@ -127,9 +127,9 @@ pub struct ObjectParts {
 
 impl Model for ObjectParts {
     ghost use Rattle.std.specs.Prelude.{List, ℕ};
-    ghost use Rattle.set_model.specs.Sets.{ObjectPart};
+    ghost use Rattle.set_model.specs.Sets.{ObjPart};
 
-    ghost Value = { List ObjectPart };
+    ghost Value = { List ObjPart };
 
     ghost view = { λ a. a.items.items };
 }
@@ -179,9 +179,9 @@ pub struct ProgramParts {
 
 impl Model for ProgramParts {
     ghost use Rattle.std.specs.Prelude.{List, ℕ};
-    ghost use Rattle.set_model.specs.Sets.{ProgramPart};
+    ghost use Rattle.set_model.specs.Sets.{ProgPart};
 
-    ghost Value = { List ProgramPart };
+    ghost Value = { List ProgPart };
 
     ghost view = { λ a. a.items.items };
 }

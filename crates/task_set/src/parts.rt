@@ -21,9 +21,9 @@ pub struct ObjPart {
 }
 
 impl Model for ObjPart {
-    ghost use Rattle.set_model.specs.Sets.{ObjectPart};
+    ghost use Rattle.set_model.specs.Sets.{ObjPart};
 
-    ghost Value = { ObjectPart };
+    ghost Value = { ObjPart };
 
     ghost view = { λ o. record { name = o.name; size = o.size; slots = o.slots; first = o.first } };
 }
@@ -54,9 +54,9 @@ pub struct ProgPart {
 }
 
 impl Model for ProgPart {
-    ghost use Rattle.set_model.specs.Sets.{ProgramPart};
+    ghost use Rattle.set_model.specs.Sets.{ProgPart};
 
-    ghost Value = { ProgramPart };
+    ghost Value = { ProgPart };
 
     ghost view = { λ p. record { name = p.name; fuel = p.fuel; code = p.code } };
 }

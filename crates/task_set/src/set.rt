@@ -8,7 +8,7 @@ ghost use Rattle.set_model.specs.Sets.{object_at, program_at};
 ghost use Rattle.set_model.specs.Views.{spawn_of};
 
 use crate::limits::first_broken;
-use crate::names::are_named;
+use crate::distinct_names::are_named;
 use crate::parts::{ObjPart, ProgPart, SetParts};
 use crate::ranges::has_words;
 use crate::refusals::SetRefusal;

@@ -3,9 +3,9 @@ use Rattle.std.proofs.Common.{◌≡◌, ℕ, ◌+◌, Bool, true, false, cond, 
 use Rattle.std.specs.Prelude.{find}
 use Rattle.std.specs.List.{AllByRecursion, list_any}
 use Rattle.std.specs.Option.{option_map}
-use Rattle.interval.specs.declared.names.Pin.{Pin}
-use Rattle.kernel_model.specs.Items.{Item}
-use Rattle.kernel_model.specs.Replay.{Base}
+use Rattle.interval.specs.declared.version.Pin.{Pin}
+use Rattle.kernel_model.specs.Items.{FinishRecord}
+use Rattle.kernel_model.specs.Replay.{DeviceState}
 use Rattle.kernel_model.specs.Versions.{Version, chosen, older}
 use Rattle.kernel_model.specs.Intervals.{Interval}
 use Rattle.kernel_model.specs.Cores.{Core}
@@ -46,7 +46,7 @@ any-or {A} p q (x ∷ xs) = at (p x) (q x) (list_any p xs) (list_any q xs) (any-
     at false false c d e = e
 
 -- the cores' intervals are those that they have
-any-intervals : {M : Type 0} → (base : Base) (history : List Item) (v : Version) (cores : List (Core M)) → list_any (meet v) (intervals_of base history cores) ≡ list_any (λ c. meets v (interval_of base history c)) cores
+any-intervals : {M : Type 0} → (base : DeviceState) (history : List FinishRecord) (v : Version) (cores : List (Core M)) → list_any (meet v) (intervals_of base history cores) ≡ list_any (λ c. meets v (interval_of base history c)) cores
 any-intervals base history v [] = refl
 any-intervals {M} base history v (c ∷ cores) = at (interval_of base history c) (any-intervals base history v cores)
   where
@@ -56,18 +56,18 @@ any-intervals {M} base history v (c ∷ cores) = at (interval_of base history c)
     at (Some j) e = ap (λ (b : Bool). meet v j || b) e
 
 -- what a slot holds is needed by the table's word where it is by the model's
-pub need_of : {M : Type 0} → (base : Base) (history : List Item) (o : ℕ) (cores : List (Core M)) (others : List Interval) (pins : List Pin) (h : Held) → others ≡ intervals_of base history cores → is_pinned o pins h.slot ≡ list_any (is_copied_by o h.version) cores
+pub need_of : {M : Type 0} → (base : DeviceState) (history : List FinishRecord) (o : ℕ) (cores : List (Core M)) (others : List Interval) (pins : List Pin) (h : Held) → others ≡ intervals_of base history cores → is_pinned o pins h.slot ≡ list_any (is_copied_by o h.version) cores
     → is_needed o others pins (stored_of h) ≡ is_needed_in base history o cores h.version
 need_of base history o cores others pins h e p =
     ap₂ (λ (a b : Bool). a || b) p (ap (list_any (meet h.version)) e ∙ any-intervals base history h.version cores)
     ∙ sym (any-or (is_copied_by o h.version) (λ c. meets h.version (interval_of base history c)) cores)
 
-pub needs_of : {M : Type 0} → (base : Base) (history : List Item) (o : ℕ) (cores : List (Core M)) (others : List Interval) (pins : List Pin) (held : List Held) → others ≡ intervals_of base history cores → AllByRecursion (λ h. is_pinned o pins h.slot ≡ list_any (is_copied_by o h.version) cores) held
+pub needs_of : {M : Type 0} → (base : DeviceState) (history : List FinishRecord) (o : ℕ) (cores : List (Core M)) (others : List Interval) (pins : List Pin) (held : List Held) → others ≡ intervals_of base history cores → AllByRecursion (λ h. is_pinned o pins h.slot ≡ list_any (is_copied_by o h.version) cores) held
     → AllByRecursion (λ h. is_needed o others pins (stored_of h) ≡ is_needed_in base history o cores h.version) held
 needs_of base history o cores others pins [] e p = tt
 needs_of base history o cores others pins (h ∷ held) e p = (need_of base history o cores others pins h e p.0, needs_of base history o cores others pins held e p.1)
 
-count_held : {M : Type 0} → (base : Base) (history : List Item) (o : ℕ) (cores : List (Core M)) (needed : Stored → Bool) (held : List Held) → AllByRecursion (λ h. needed (stored_of h) ≡ is_needed_in base history o cores h.version) held
+count_held : {M : Type 0} → (base : DeviceState) (history : List FinishRecord) (o : ℕ) (cores : List (Core M)) (needed : Stored → Bool) (held : List Held) → AllByRecursion (λ h. needed (stored_of h) ≡ is_needed_in base history o cores h.version) held
     → count needed (map stored_of held) ≡ count_needed base history o cores (versions_of held)
 count_held base history o cores needed [] n = refl
 count_held base history o cores needed (h ∷ held) n =
@@ -75,7 +75,7 @@ count_held base history o cores needed (h ∷ held) n =
     ap₂ (λ (b : Bool) (m : ℕ). cond b (m + 1) m) n.0 rest
 
 -- the older versions that are needed are as many
-pub count_older : {M : Type 0} → (base : Base) (history : List Item) (o : ℕ) (cores : List (Core M)) (needed : Stored → Bool) (held : List Held) → AllByRecursion (λ h. needed (stored_of h) ≡ is_needed_in base history o cores h.version) held
+pub count_older : {M : Type 0} → (base : DeviceState) (history : List FinishRecord) (o : ℕ) (cores : List (Core M)) (needed : Stored → Bool) (held : List Held) → AllByRecursion (λ h. needed (stored_of h) ≡ is_needed_in base history o cores h.version) held
     → count needed (all_older (map stored_of held)) ≡ count_needed base history o cores (older (versions_of held))
 count_older base history o cores needed [] n = refl
 count_older base history o cores needed (h ∷ held) n = count_held base history o cores needed held n.1
@@ -89,14 +89,14 @@ and-false true b f e = e
 and-false false b f e = absurd (cc f)
 
 -- what a slot that is not taken holds is not needed
-spare_rest : {M : Type 0} → (base : Base) (history : List Item) (o : ℕ) (cores : List (Core M)) (needed : Stored → Bool) (k : ℕ) (held : List Held) → AllByRecursion (λ h. needed (stored_of h) ≡ is_needed_in base history o cores h.version) held
+spare_rest : {M : Type 0} → (base : DeviceState) (history : List FinishRecord) (o : ℕ) (cores : List (Core M)) (needed : Stored → Bool) (k : ℕ) (held : List Held) → AllByRecursion (λ h. needed (stored_of h) ≡ is_needed_in base history o cores h.version) held
     → list_any (λ (u : Stored). eqb u.slot k && needed u) (map stored_of held) ≡ false → IsSpare base history o cores k held
 spare_rest base history o cores needed k [] n e = tt
 spare_rest base history o cores needed k (h ∷ held) n e =
     let s = or-false (eqb h.slot k && needed (stored_of h)) (list_any (λ (u : Stored). eqb u.slot k && needed u) (map stored_of held)) e in
     (λ g. sym n.0 ∙ and-false (eqb h.slot k) (needed (stored_of h)) g s.0, spare_rest base history o cores needed k held n.1 s.1)
 
-pub spare_of_free : {M : Type 0} → (base : Base) (history : List Item) (o : ℕ) (cores : List (Core M)) (needed : Stored → Bool) (k : ℕ) (held : List Held) → AllByRecursion (λ h. needed (stored_of h) ≡ is_needed_in base history o cores h.version) held
+pub spare_of_free : {M : Type 0} → (base : DeviceState) (history : List FinishRecord) (o : ℕ) (cores : List (Core M)) (needed : Stored → Bool) (k : ℕ) (held : List Held) → AllByRecursion (λ h. needed (stored_of h) ≡ is_needed_in base history o cores h.version) held
     → is_taken needed (map stored_of held) k ≡ false → (holds_newest k (map stored_of held) ≡ false) × IsSpare base history o cores k held
 spare_of_free base history o cores needed k [] n e = (refl, tt)
 spare_of_free base history o cores needed k (h ∷ held) n e =

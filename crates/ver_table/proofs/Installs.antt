@@ -3,7 +3,7 @@ use Rattle.std.proofs.Common.{◌≡◌, ℕ, ◌<◌, ◌≤◌, Bool, true, fa
 use Rattle.std.proofs.lemmas.List.{length-set}
 use Rattle.std.proofs.lemmas.Bool.{eqb-false}
 use Rattle.object_sets.specs.ObjectSets.{is_among}
-use Rattle.nv_base.specs.declared.names.Point.{Point}
+use Rattle.nv_base.specs.declared.ids.Point.{Point}
 use Rattle.interval.specs.Ranges.{number_of}
 use Rattle.ver_table.specs.Chains.{Stored, newest_ended, without}
 use Rattle.ver_table.specs.Slots.{AreSlots, begin_at, stored_at}

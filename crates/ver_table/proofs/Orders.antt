@@ -4,7 +4,7 @@ use Rattle.std.specs.Prelude.{find, is_some, IsSome}
 use Rattle.std.specs.List.{list_any}
 use Rattle.std.specs.Option.{option_map}
 use Rattle.std.proofs.lemmas.Bool.{eqb-true}
-use Rattle.nv_base.specs.declared.names.Point.{Point}
+use Rattle.nv_base.specs.declared.ids.Point.{Point}
 use Rattle.ver_table.specs.Chains.{Stored, in_slot}
 use Rattle.ver_table.specs.Slots.{AreSlots, stored_at}
 

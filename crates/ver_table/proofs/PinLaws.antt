@@ -3,10 +3,10 @@ use Rattle.std.proofs.Common.{◌≡◌, ℕ, ◌+◌, ◌≤◌, inl, inr, Bool
 use Rattle.std.specs.List.{AllByRecursion, list_any}
 use Rattle.std.proofs.lemmas.Bool.{eqb-true, eqb-false, eq-eqb, ne_eqb}
 use Rattle.object_sets.specs.ObjectSets.{is_among}
-use Rattle.interval.specs.declared.names.Pin.{Pin}
+use Rattle.interval.specs.declared.version.Pin.{Pin}
 use Rattle.kernel_model.specs.Effects.{written}
-use Rattle.kernel_model.specs.Items.{Item}
-use Rattle.kernel_model.specs.Replay.{Base}
+use Rattle.kernel_model.specs.Items.{FinishRecord}
+use Rattle.kernel_model.specs.Replay.{DeviceState}
 use Rattle.kernel_model.specs.Versions.{Read, Version, versions, versions_to}
 use Rattle.kernel_model.specs.Cores.{Committing, Copying, Core, Idle, Ready, Running}
 use Rattle.kernel_model.specs.Room.{is_copied_by, is_newest_read}
@@ -32,7 +32,7 @@ above_others : (n m : ℕ) (vs : List Version) → n ≡ m + 1 → AllByRecursio
 above_others n m [] e h = tt
 above_others n m (v ∷ vs) e h = (ne_eqb n v.writer (λ f. let l = h.0 in omega (arith, e, f, l)), above_others n m vs e h.1)
 
-apart_versions : (end : Option ℕ) (base : Base) (o : ℕ) (history : List Item) → IsNumbered base history → AreApart (versions_to end base o history)
+apart_versions : (end : Option ℕ) (base : DeviceState) (o : ℕ) (history : List FinishRecord) → IsNumbered base history → AreApart (versions_to end base o history)
 apart_versions end base o [] h = (tt, tt)
 apart_versions end base o (i ∷ history) h = go (λ e. apart_versions e base o history (h.0.2, h.1.1)) (written i.run.writes o)
   where
@@ -134,7 +134,7 @@ copies {M} n o held s a (Copying t copied ∷ cores) pins e = subst (λ (ps : Li
     at [] x rest = absurd x
     at (r ∷ reads) x rest = one_pin o e.0 r e.1 held (λ v. list_any (is_copied_by o v) cores) x.object (λ q. let k = x.holds q in each_same n e.0.slot r.writer held k.0 s a k.1 k.2) rest
 
-pub pins_are : {M : Type 0} → (base : Base) (floor o : ℕ) (history : List Item) (needed : Version → Bool) (c : Chain) (held : List Held) (cores : List (Core M)) (pins : List Pin) → IsNumbered base history → IsLaid c → StandsFor floor needed base o history c held → ArePins o held cores pins
+pub pins_are : {M : Type 0} → (base : DeviceState) (floor o : ℕ) (history : List FinishRecord) (needed : Version → Bool) (c : Chain) (held : List Held) (cores : List (Core M)) (pins : List Pin) → IsNumbered base history → IsLaid c → StandsFor floor needed base o history c held → ArePins o held cores pins
     → AllByRecursion (λ h. is_pinned o pins h.slot ≡ list_any (is_copied_by o h.version) cores) held
 pins_are base floor o history needed c held cores pins n laid st p =
     let slots = subst (AreSlots c.slots) (ap (λ (vs : List Stored). map (λ (v : Stored). v.slot) vs) st.stored ∙ slots_stored held) laid.are in

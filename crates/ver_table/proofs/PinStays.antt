@@ -3,13 +3,13 @@ use Rattle.std.proofs.Common.{◌≡◌, ℕ, Bool, true, false, cond, eqb, not,
 use Rattle.std.specs.Prelude.{find}
 use Rattle.std.proofs.lemmas.Bool.{eqb-true, eqb-false, eq-eqb, ne_eqb}
 use Rattle.object_sets.specs.ObjectSets.{is_among}
-use Rattle.interval.specs.declared.names.Pin.{Pin}
+use Rattle.interval.specs.declared.version.Pin.{Pin}
 use Rattle.kernel_model.specs.Effects.{written}
-use Rattle.kernel_model.specs.Items.{Item}
-use Rattle.kernel_model.specs.Replay.{Base}
+use Rattle.kernel_model.specs.Items.{FinishRecord}
+use Rattle.kernel_model.specs.Replay.{DeviceState}
 use Rattle.kernel_model.specs.Versions.{Read, Version}
 use Rattle.kernel_model.specs.Cores.{Attempt, Copying, Core, Idle}
-use Rattle.kernel_model.specs.Room.{interval_of, is_needed as is_needed_in, is_newest_read, meets}
+use Rattle.kernel_model.specs.Room.{interval_of, is_needed, is_newest_read, meets}
 use Rattle.kernel_model.proofs.NeededLaws.{at_needed}
 use Rattle.ver_table.specs.Chains.{Chain, Stored}
 use Rattle.ver_table.specs.Slots.{AreSlots, IsLaid}
@@ -43,7 +43,7 @@ found_in n p (x ∷ held) h s e = at (found_in n p held h s.2) (p x) (eqb x.slot
         absurd (let other = s.1 in cc (among, other))
     at rest false false f e = rest e
 
-pub pin_chosen : (base : Base) (floor o : ℕ) (history : List Item) (needed : Version → Bool) (hi : Option ℕ) (c : Chain) (held : List Held) (v : Version) (h : Held) (p : Pin) → IsLaid c → StandsFor floor needed base o history c held
+pub pin_chosen : (base : DeviceState) (floor o : ℕ) (history : List FinishRecord) (needed : Version → Bool) (hi : Option ℕ) (c : Chain) (held : List Held) (v : Version) (h : Held) (p : Pin) → IsLaid c → StandsFor floor needed base o history c held
     → IsHeldAs floor hi c held v h → p.object.0 ≡ o → p.slot ≡ h.slot → IsPinOf o held (record { object = o; writer = v.writer }) p
 pin_chosen base floor o history needed hi c held v h p laid st is e f =
     let slots = subst (AreSlots c.slots) (ap (λ (vs : List Stored). map (λ (u : Stored). u.slot) vs) st.stored ∙ slots_stored held) laid.are in
@@ -85,8 +85,8 @@ in_its_slot q needed (x ∷ held) h e u = at (in_its_slot q needed held h) (eqb 
     at rest false f e = rest e u.1
 
 -- a core needs what it copies
-copied_needed : {M : Type 0} → (base : Base) (o k copied : ℕ) (history : List Item) (cores : List (Core M)) (a : Attempt M) (r : Read) (reads : List Read) (v : Version) → get_or cores k Idle ≡ Copying a copied → a.reads ≡ r ∷ reads → r.object ≡ o → v.writer ≡ r.writer
-    → is_needed_in base history o cores v ≡ true
+copied_needed : {M : Type 0} → (base : DeviceState) (o k copied : ℕ) (history : List FinishRecord) (cores : List (Core M)) (a : Attempt M) (r : Read) (reads : List Read) (v : Version) → get_or cores k Idle ≡ Copying a copied → a.reads ≡ r ∷ reads → r.object ≡ o → v.writer ≡ r.writer
+    → is_needed base history o cores v ≡ true
 copied_needed {M} base o k copied history cores a r reads v at read e w =
     at_needed base history o v cores k (rw at (left (is_newest_read o v a.reads) (meets v (interval_of base history (Copying a copied))) (ap (is_newest_read o v) read ∙ both)))
   where
@@ -97,18 +97,18 @@ copied_needed {M} base o k copied history cores a r reads v at read e w =
     both : (eqb r.object o && eqb r.writer v.writer) ≡ true
     both = rw (eq-eqb r.object o e) (eq-eqb r.writer v.writer (sym w))
 
-pub pin_kept : {M : Type 0} → (base : Base) (o k copied : ℕ) (history : List Item) (cores : List (Core M)) (plan : ℕ → ℕ) (j : Option Item) (c : Chain) (held : List Held) (a : Attempt M) (r : Read) (reads : List Read) (p : Pin)
-    → IsPlanned (is_needed_in base history o cores) plan j o c held → get_or cores k Idle ≡ Copying a copied → a.reads ≡ r ∷ reads → IsPinOf o held r p → IsPinOf o (held_joining plan j o held) r p
+pub pin_kept : {M : Type 0} → (base : DeviceState) (o k copied : ℕ) (history : List FinishRecord) (cores : List (Core M)) (plan : ℕ → ℕ) (j : Option FinishRecord) (c : Chain) (held : List Held) (a : Attempt M) (r : Read) (reads : List Read) (p : Pin)
+    → IsPlanned (is_needed base history o cores) plan j o c held → get_or cores k Idle ≡ Copying a copied → a.reads ≡ r ∷ reads → IsPinOf o held r p → IsPinOf o (held_joining plan j o held) r p
 pin_kept base o k copied history cores plan None c held a r reads p planned at read pin = pin
 pin_kept {M} base o k copied history cores plan (Some i) c held a r reads p planned at read pin = go (written i.run.writes o) planned
   where
-    go : (w : Option (List ℕ)) → IsPlannedFor (is_needed_in base history o cores) plan o w c held → IsPinOf o (held_after plan i o w held) r p
+    go : (w : Option (List ℕ)) → IsPlannedFor (is_needed base history o cores) plan o w c held → IsPinOf o (held_after plan i o w held) r p
     go None free = pin
     go (Some words) free = record { object = pin.object; holds = λ e. there e (pin.holds e) }
       where
         there : r.object ≡ o → (h : Held) × (held_in p.slot held ≡ Some h) × (h.version.writer ≡ r.writer) → (g : Held) × (held_in p.slot (held_with (plan o) i words held) ≡ Some g) × (g.version.writer ≡ r.writer)
         there e f =
             let needed = copied_needed base o k copied history cores a r reads f.0.version at read e f.2 in
-            let other : p.slot ≡ plan o → ⊥ = λ g. let none = in_its_slot (plan o) (is_needed_in base history o cores) held f.0 (ap (λ (q : ℕ). held_in q held) (sym g) ∙ f.1) free.spare in (let same : true ≡ false = sym needed ∙ none in absurd (cc same)) in
+            let other : p.slot ≡ plan o → ⊥ = λ g. let none = in_its_slot (plan o) (is_needed base history o cores) held f.0 (ap (λ (q : ℕ). held_in q held) (sym g) ∙ f.1) free.spare in (let same : true ≡ false = sym needed ∙ none in absurd (cc same)) in
             let kept = ended_same i.point p.slot (held_without (plan o) held) f.0 (without_other (plan o) p.slot held other ∙ f.1) in
             (kept.0, rw (ne_eqb (plan o) p.slot (λ g. other (sym g))) kept.1, kept.2 ∙ f.2)

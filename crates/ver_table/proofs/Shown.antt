@@ -5,7 +5,7 @@ use Rattle.std.specs.List.{list_any}
 use Rattle.std.specs.Option.{option_map}
 use Rattle.std.proofs.lemmas.Bool.{eqb-true, eqb-false, ne_eqb}
 use Rattle.std.proofs.lemmas.List.{length-map}
-use Rattle.nv_base.specs.declared.names.Point.{Point}
+use Rattle.nv_base.specs.declared.ids.Point.{Point}
 use Rattle.kernel_model.specs.Room.{is_below}
 use Rattle.ver_table.specs.Chains.{Chain, Stored, holds_newest, in_slot, installed, newest_before}
 use Rattle.ver_table.specs.Places.{is_taken}

@@ -2,12 +2,12 @@
 use Rattle.std.proofs.Common.{◌≡◌, ℕ, zero, suc, ◌<◌, inl, inr, Bool, true, false, eqb, ◌||◌, List, [], ◌∷◌, length, set, map, refl, sym, ap, ◌∙◌, subst, arith}
 use Rattle.std.specs.List.{AllByRecursion, list_any}
 use Rattle.kernel_model.specs.Sizes.{Sizes}
-use Rattle.kernel_model.specs.Runs.{Steps}
-use Rattle.kernel_model.specs.Items.{Item}
-use Rattle.kernel_model.specs.Replay.{Base}
+use Rattle.kernel_model.specs.Runs.{TaskMachine}
+use Rattle.kernel_model.specs.Items.{FinishRecord}
+use Rattle.kernel_model.specs.Replay.{DeviceState}
 use Rattle.kernel_model.specs.Versions.{Version, older, versions}
 use Rattle.kernel_model.specs.Cores.{Committing, Core, all_but}
-use Rattle.kernel_model.specs.Room.{is_needed as is_needed_in, is_needed_by}
+use Rattle.kernel_model.specs.Room.{is_needed, is_needed_by}
 use Rattle.kernel_model.specs.Events.{Event, State, event_step}
 use Rattle.kernel_model.specs.Sound.{IsSound}
 use Rattle.kernel_model.specs.Chain.{IsChain, IsFloor, IsPart, floored}
@@ -44,12 +44,12 @@ chain_spare floor a b f g k (h ∷ held) (v ∷ vs) o less c s =
     let tails : versions_of held ≡ c.0 = let e = c.1 in cc e in
     (λ e. absurd (cc (e, o)), part_spare floor a b f g k held vs less (subst (λ (p : List Version). IsPart floor a p vs) (sym tails) c.2) s.1)
 
-pub spare_kept : {M : Type 0} → (steps : Steps M) (sizes : Sizes) (base : Base) (s : State M) (floor o k : ℕ) (e : Event) (c : Chain) (held : List Held) → IsSound steps sizes base s → IsFloor base floor s
+pub spare_kept : {M : Type 0} → (steps : TaskMachine M) (sizes : Sizes) (base : DeviceState) (s : State M) (floor o k : ℕ) (e : Event) (c : Chain) (held : List Held) → IsSound steps sizes base s → IsFloor base floor s
     → StandsIn floor base s o c held → holds_newest k c.stored ≡ false → IsSpare base s.history o s.cores k held
     → (let t = (event_step steps sizes base s e).0 in IsSpare base t.history o t.cores k held)
 spare_kept steps sizes base s floor o k e c held h f st n spare =
     let t = (event_step steps sizes base s e).0 in
-    chain_spare floor (is_needed_in base s.history o s.cores) (is_needed_in base t.history o t.cores) (λ v. floor_needs base s.history floor o s.cores v f.starts)
+    chain_spare floor (is_needed base s.history o s.cores) (is_needed base t.history o t.cores) (λ v. floor_needs base s.history floor o s.cores v f.starts)
     (λ v. floor_needs base t.history floor o t.cores v (floor_kept steps sizes base s h floor f e).starts) k held (versions base o s.history) (ap (holds_newest k) (sym st.stored) ∙ n) (never_needed_again steps sizes base s h e o) st.chain spare
 
 -- one that needs nothing counts for nothing
@@ -58,10 +58,10 @@ others_alone p [] n c e l = absurd (omega (arith, l))
 others_alone p (d ∷ cores) zero c e l = rw e refl
 others_alone p (d ∷ cores) (suc n) c e l = ap (λ (b : Bool). p d || b) (others_alone p cores n c e (omega (arith, l)))
 
-committing_needs : {M : Type 0} → (base : Base) (history : List Item) (o n : ℕ) (cores : List (Core M)) (i : Item) (left : ℕ) (v : Version) → n < length cores → is_needed_in base history o (set cores n (Committing i left)) v ≡ is_needed_in base history o (all_but n cores) v
+committing_needs : {M : Type 0} → (base : DeviceState) (history : List FinishRecord) (o n : ℕ) (cores : List (Core M)) (i : FinishRecord) (left : ℕ) (v : Version) → n < length cores → is_needed base history o (set cores n (Committing i left)) v ≡ is_needed base history o (all_but n cores) v
 committing_needs base history o n cores i left v l = others_alone (is_needed_by base history o v) cores n (Committing i left) refl l
 
 -- what the others do not need nobody needs once the core commits
-pub spare_committing : {M : Type 0} → (base : Base) (history : List Item) (o n k : ℕ) (cores : List (Core M)) (i : Item) (left : ℕ) (held : List Held) → n < length cores → IsSpare base history o (all_but n cores) k held → IsSpare base history o (set cores n (Committing i left)) k held
+pub spare_committing : {M : Type 0} → (base : DeviceState) (history : List FinishRecord) (o n k : ℕ) (cores : List (Core M)) (i : FinishRecord) (left : ℕ) (held : List Held) → n < length cores → IsSpare base history o (all_but n cores) k held → IsSpare base history o (set cores n (Committing i left)) k held
 spare_committing base history o n k cores i left [] l s = tt
 spare_committing base history o n k cores i left (h ∷ held) l s = (λ e. committing_needs base history o n cores i left h.version l ∙ s.0 e, spare_committing base history o n k cores i left held l s.1)

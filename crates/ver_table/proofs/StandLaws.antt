@@ -5,17 +5,17 @@ use Rattle.std.specs.List.{AllByRecursion}
 use Rattle.object_sets.specs.ObjectSets.{is_among}
 use Rattle.kernel_model.specs.Sizes.{Sizes}
 use Rattle.kernel_model.specs.Effects.{Programs, Run, Write, written}
-use Rattle.kernel_model.specs.Runs.{Steps}
-use Rattle.kernel_model.specs.Items.{Item}
-use Rattle.kernel_model.specs.Replay.{Base, clock_of}
+use Rattle.kernel_model.specs.Runs.{TaskMachine}
+use Rattle.kernel_model.specs.Items.{FinishRecord}
+use Rattle.kernel_model.specs.Replay.{DeviceState, clock_of}
 use Rattle.kernel_model.specs.Versions.{Version, chosen, versions}
 use Rattle.kernel_model.specs.Intervals.{Interval, touches}
 use Rattle.kernel_model.specs.Cores.{Idle}
-use Rattle.kernel_model.specs.Room.{is_needed as is_needed_in}
+use Rattle.kernel_model.specs.Room.{is_needed}
 use Rattle.kernel_model.specs.Events.{Event, State, event_step}
 use Rattle.kernel_model.specs.Fit.{HasOldTasks}
 use Rattle.kernel_model.specs.History.{IsAttempt, RestOnReads}
-use Rattle.kernel_model.specs.Live.{Live, Mark, added_by, begin_call, cores_of, fetch_call, finish_call}
+use Rattle.kernel_model.specs.Live.{CallState, Mark, added_by, begin_call, cores_of, fetch_call, finish_call}
 use Rattle.kernel_model.specs.LiveSound.{IsLiveState}
 use Rattle.kernel_model.specs.Sound.{IsSound}
 use Rattle.kernel_model.specs.Bounds.{bound_of, raised_by, with_touch}
@@ -81,25 +81,25 @@ ended_versions p [] = refl
 ended_versions p (h ∷ held) = refl
 
 -- what a step does to needs, chains and bounds of an object, by the finish that joins
-pub record HasJoined (floor : ℕ) (n m : Version → Bool) (base : Base) (o : ℕ) (j : Option Item) (g h : List Item) : Type 0 where
+pub record HasJoined (floor : ℕ) (n m : Version → Bool) (base : DeviceState) (o : ℕ) (j : Option FinishRecord) (g h : List FinishRecord) : Type 0 where
   pub same : (v : Version) → n (floored floor v) ≡ n v
   pub chain : (chain : List Version) → IsChain floor n chain (versions base o g) → IsChain floor m (with_joining j o chain) (versions base o h)
   pub bound : bound_of floor o h ≡ with_touch j o (bound_of floor o g)
 
 -- at an event
-pub at_event : {M : Type 0} → (steps : Steps M) (sizes : Sizes) (base : Base) (s : State M) (floor o : ℕ) (e : Event) (j : Option Item) → IsSound steps sizes base s → IsFloor base floor s → joining s e ≡ j
-    → (let t = (event_step steps sizes base s e).0 in HasJoined floor (is_needed_in base s.history o s.cores) (is_needed_in base t.history o t.cores) base o j s.history t.history)
+pub at_event : {M : Type 0} → (steps : TaskMachine M) (sizes : Sizes) (base : DeviceState) (s : State M) (floor o : ℕ) (e : Event) (j : Option FinishRecord) → IsSound steps sizes base s → IsFloor base floor s → joining s e ≡ j
+    → (let t = (event_step steps sizes base s e).0 in HasJoined floor (is_needed base s.history o s.cores) (is_needed base t.history o t.cores) base o j s.history t.history)
 at_event steps sizes base s floor o e j h f g =
     let t = (event_step steps sizes base s e).0 in
-    subst (λ (i : Option Item). HasJoined floor (is_needed_in base s.history o s.cores) (is_needed_in base t.history o t.cores) base o i s.history t.history) g (record {
+    subst (λ (i : Option FinishRecord). HasJoined floor (is_needed base s.history o s.cores) (is_needed base t.history o t.cores) base o i s.history t.history) g (record {
       same = λ v. floor_needs base s.history floor o s.cores v f.starts;
       chain = λ chain c. chain_kept steps sizes base s h floor f e o chain c;
       bound = bound_next steps sizes base s floor o e;
     })
 
 -- at a begin
-pub at_begin : (whole : Programs) (base : Base) (s : Live) (n o : ℕ) → IsLiveState whole base s
-    → (let t = (begin_call base s n s.loss).0 in HasJoined base.clock (is_needed_in base s.history o (cores_of s.marks)) (is_needed_in base t.history o (cores_of t.marks)) base o None s.history t.history)
+pub at_begin : (whole : Programs) (base : DeviceState) (s : CallState) (n o : ℕ) → IsLiveState whole base s
+    → (let t = (begin_call base s n s.loss).0 in HasJoined base.clock (is_needed base s.history o (cores_of s.marks)) (is_needed base t.history o (cores_of t.marks)) base o None s.history t.history)
 at_begin whole base s n o h = record {
   same = λ v. floor_needs base s.history base.clock o (cores_of s.marks) v (marks_start whole base s h);
   chain = λ chain c. begin_chain whole base s h n o chain c;
@@ -107,8 +107,8 @@ at_begin whole base s n o h = record {
 }
 
 -- at a fetch
-pub at_fetch : (whole : Programs) (base : Base) (s : Live) (n : ℕ) (m : Mark) (p : ℕ) (device : Option ℕ) (o : ℕ) → IsLiveState whole base s → get_or s.marks n None ≡ Some m
-    → (let t = (fetch_call base s n m p s.loss device).0 in HasJoined base.clock (is_needed_in base s.history o (cores_of s.marks)) (is_needed_in base t.history o (cores_of t.marks)) base o None s.history t.history)
+pub at_fetch : (whole : Programs) (base : DeviceState) (s : CallState) (n : ℕ) (m : Mark) (p : ℕ) (device : Option ℕ) (o : ℕ) → IsLiveState whole base s → get_or s.marks n None ≡ Some m
+    → (let t = (fetch_call base s n m p s.loss device).0 in HasJoined base.clock (is_needed base s.history o (cores_of s.marks)) (is_needed base t.history o (cores_of t.marks)) base o None s.history t.history)
 at_fetch whole base s n m p device o h own = record {
   same = λ v. floor_needs base s.history base.clock o (cores_of s.marks) v (marks_start whole base s h);
   chain = λ chain c. fetch_chain whole base s h n m own p device o chain c;
@@ -116,19 +116,19 @@ at_fetch whole base s n m p device o h own = record {
 }
 
 -- at a finish
-pub at_finish : (whole : Programs) (sizes : Sizes) (base : Base) (s : Live) (n : ℕ) (m : Mark) (run : Run) (device : Option ℕ) (o : ℕ) (j : Option Item) → RestOnReads whole → HasOldTasks base → IsLiveState whole base s → get_or s.marks n None ≡ Some m
+pub at_finish : (whole : Programs) (sizes : Sizes) (base : DeviceState) (s : CallState) (n : ℕ) (m : Mark) (run : Run) (device : Option ℕ) (o : ℕ) (j : Option FinishRecord) → RestOnReads whole → HasOldTasks base → IsLiveState whole base s → get_or s.marks n None ≡ Some m
     → IsAttempt whole base s.history m.task m.start m.reads (λ x. run) → added_by (finish_call sizes base s n m run s.loss device).1 ≡ j
-    → (let t = (finish_call sizes base s n m run s.loss device).0 in HasJoined base.clock (is_needed_in base s.history o (cores_of s.marks)) (is_needed_in base t.history o (cores_of t.marks)) base o j s.history t.history)
+    → (let t = (finish_call sizes base s n m run s.loss device).0 in HasJoined base.clock (is_needed base s.history o (cores_of s.marks)) (is_needed base t.history o (cores_of t.marks)) base o j s.history t.history)
 at_finish whole sizes base s n m run device o j frame old h own a g =
     let t = (finish_call sizes base s n m run s.loss device).0 in
     let kept = finish_keeps whole frame sizes base old s h n m own run a device in
-    subst (λ (i : Option Item). HasJoined base.clock (is_needed_in base s.history o (cores_of s.marks)) (is_needed_in base t.history o (cores_of t.marks)) base o i s.history t.history) g (record {
+    subst (λ (i : Option FinishRecord). HasJoined base.clock (is_needed base s.history o (cores_of s.marks)) (is_needed base t.history o (cores_of t.marks)) base o i s.history t.history) g (record {
       same = λ v. floor_needs base s.history base.clock o (cores_of s.marks) v (marks_start whole base s h);
       chain = λ chain c. finish_chain whole sizes base s h n m run device o chain kept.history c;
       bound = ap (bound_of base.clock o) (finish_history sizes base s n m run device) ∙ bound_with base.clock o (added_by (finish_call sizes base s n m run s.loss device).1) s.history;
     })
 
-pub none_joins : (floor : ℕ) (n m : Version → Bool) (base : Base) (o : ℕ) (g h : List Item) (c : Chain) (held : List Held) → HasJoined floor n m base o None g h
+pub none_joins : (floor : ℕ) (n m : Version → Bool) (base : DeviceState) (o : ℕ) (g h : List FinishRecord) (c : Chain) (held : List Held) → HasJoined floor n m base o None g h
     → StandsFor floor n base o g c held → StandsFor floor m base o h c held
 none_joins floor n m base o g h c held j st = record {
   stored = st.stored;
@@ -137,7 +137,7 @@ none_joins floor n m base o g h c held j st = record {
 }
 
 -- what a finish did not touch it did not write
-not_written : (i : Item) (o : ℕ) → touches i o ≡ false → written i.run.writes o ≡ None
+not_written : (i : FinishRecord) (o : ℕ) → touches i o ≡ false → written i.run.writes o ≡ None
 not_written i o e = at (is_among o i.run.reads) (written i.run.writes o) refl e
   where
     at : (b : Bool) (w : Option (List ℕ)) → written i.run.writes o ≡ w → (b || is_some w) ≡ false → written i.run.writes o ≡ None
@@ -146,7 +146,7 @@ not_written i o e = at (is_among o i.run.reads) (written i.run.writes o) refl e
     at false (Some x) f e = absurd (cc e)
 
 -- what it wrote it touched
-touched : (i : Item) (o : ℕ) (words : List ℕ) → written i.run.writes o ≡ Some words → touches i o ≡ true
+touched : (i : FinishRecord) (o : ℕ) (words : List ℕ) → written i.run.writes o ≡ Some words → touches i o ≡ true
 touched i o words e = at (is_among o i.run.reads) (written i.run.writes o) e
   where
     at : (b : Bool) (w : Option (List ℕ)) → w ≡ Some words → (b || is_some w) ≡ true
@@ -155,15 +155,15 @@ touched i o words e = at (is_among o i.run.reads) (written i.run.writes o) e
     at false (Some x) f = refl
 
 -- the bound after a finish
-bound_after : (i : Item) (o bound : ℕ) (b : Bool) → touches i o ≡ b → with_touch (Some i) o bound ≡ cond b (max i.point bound) bound
+bound_after : (i : FinishRecord) (o bound : ℕ) (b : Bool) → touches i o ≡ b → with_touch (Some i) o bound ≡ cond b (max i.point bound) bound
 bound_after i o bound b t = ap (λ (c : Bool). cond c (max i.point bound) bound) t
 
 -- the chain after one, by what it wrote
-chain_after : (floor : ℕ) (n m : Version → Bool) (base : Base) (o : ℕ) (i : Item) (g h : List Item) (w : Option (List ℕ)) (chain : List Version) → HasJoined floor n m base o (Some i) g h → written i.run.writes o ≡ w
+chain_after : (floor : ℕ) (n m : Version → Bool) (base : DeviceState) (o : ℕ) (i : FinishRecord) (g h : List FinishRecord) (w : Option (List ℕ)) (chain : List Version) → HasJoined floor n m base o (Some i) g h → written i.run.writes o ≡ w
     → IsChain floor n chain (versions base o g) → IsChain floor m (with_version i w chain) (versions base o h)
 chain_after floor n m base o i g h w chain j e c = subst (λ (x : Option (List ℕ)). IsChain floor m (with_version i x chain) (versions base o h)) e (j.chain chain c)
 
-pub joins_elsewhere : (floor : ℕ) (n m : Version → Bool) (base : Base) (o : ℕ) (i : Item) (g h : List Item) (c : Chain) (held : List Held) → HasJoined floor n m base o (Some i) g h
+pub joins_elsewhere : (floor : ℕ) (n m : Version → Bool) (base : DeviceState) (o : ℕ) (i : FinishRecord) (g h : List FinishRecord) (c : Chain) (held : List Held) → HasJoined floor n m base o (Some i) g h
     → StandsFor floor n base o g c held → touches i o ≡ false → StandsFor floor m base o h c held
 joins_elsewhere floor n m base o i g h c held j st t = record {
   stored = st.stored;
@@ -171,7 +171,7 @@ joins_elsewhere floor n m base o i g h c held j st t = record {
   bound = st.bound ∙ sym (j.bound ∙ bound_after i o (bound_of floor o g) false t);
 }
 
-pub joins_noted : (floor : ℕ) (n m : Version → Bool) (base : Base) (o : ℕ) (i : Item) (g h : List Item) (c : Chain) (held : List Held) → HasJoined floor n m base o (Some i) g h
+pub joins_noted : (floor : ℕ) (n m : Version → Bool) (base : DeviceState) (o : ℕ) (i : FinishRecord) (g h : List FinishRecord) (c : Chain) (held : List Held) → HasJoined floor n m base o (Some i) g h
     → StandsFor floor n base o g c held → written i.run.writes o ≡ None → touches i o ≡ true → StandsFor floor m base o h (noted i.point c) held
 joins_noted floor n m base o i g h c held j st w t = record {
   stored = st.stored;
@@ -179,7 +179,7 @@ joins_noted floor n m base o i g h c held j st w t = record {
   bound = ap (λ (b : ℕ). max i.point b) st.bound ∙ sym (j.bound ∙ bound_after i o (bound_of floor o g) true t);
 }
 
-pub joins_installed : (floor : ℕ) (n m : Version → Bool) (base : Base) (o k : ℕ) (i : Item) (words : List ℕ) (g h : List Item) (c : Chain) (held : List Held) → HasJoined floor n m base o (Some i) g h
+pub joins_installed : (floor : ℕ) (n m : Version → Bool) (base : DeviceState) (o k : ℕ) (i : FinishRecord) (words : List ℕ) (g h : List FinishRecord) (c : Chain) (held : List Held) → HasJoined floor n m base o (Some i) g h
     → StandsFor floor n base o g c held → written i.run.writes o ≡ Some words → holds_newest k c.stored ≡ false → c.bound ≤ i.point → AllByRecursion (λ x. eqb x.slot k ≡ true → n x.version ≡ false) held
     → StandsFor floor m base o h (installed k i.point c) (held_with k i words held)
 joins_installed floor n m base o k i words g h c held j st w older low spare =
@@ -197,7 +197,7 @@ joins_installed floor n m base o k i words g h c held j st w older low spare =
     }
 
 -- at a boot
-pub reopened : {M : Type 0} → (base : Base) (s : State M) (o slots k : ℕ) (v : Version) → ((n : ℕ) → get_or s.cores n Idle ≡ Idle) → chosen None (versions base o s.history) ≡ Some v
+pub reopened : {M : Type 0} → (base : DeviceState) (s : State M) (o slots k : ℕ) (v : Version) → ((n : ℕ) → get_or s.cores n Idle ≡ Idle) → chosen None (versions base o s.history) ≡ Some v
     → (let clock = clock_of base s.history in StandsIn clock base s o (one_version slots k clock) (record { slot = k; version = record v { begin = clock } } ∷ []))
 reopened base s o slots k v idle e =
     let clock = clock_of base s.history in

@@ -1,7 +1,7 @@
 -- Which slots are free for a new version. This project's own.
 use Rattle.std.specs.Prelude.{◌≡◌, ◌<◌, ℕ, ◌+◌, ◌==◌, nat_le, Bool, true, false, ◌||◌, ◌&&◌, List, [], ◌∷◌, if◌then◌else◌}
 use Rattle.std.specs.List.{list_any}
-use Rattle.interval.specs.declared.names.Pin.{Pin}
+use Rattle.interval.specs.declared.version.Pin.{Pin}
 use Rattle.kernel_model.specs.Intervals.{Interval}
 use Rattle.kernel_model.specs.Room.{meet}
 use Rattle.ver_table.specs.Chains.{Chain, Stored, lived}

@@ -2,7 +2,7 @@
 use Rattle.std.specs.Prelude.{◌≡◌, ◌<◌, ◌≤◌, ℕ, false, List, [], ◌∷◌, Option, None, get_or, length, map}
 use Rattle.object_sets.specs.ObjectSets.{is_among}
 use Rattle.nv_base.specs.declared.limits.TheConstants.{MAX_SLOTS}
-use Rattle.nv_base.specs.declared.names.Point.{Point}
+use Rattle.nv_base.specs.declared.ids.Point.{Point}
 use Rattle.interval.specs.Ranges.{number_of}
 use Rattle.ver_table.specs.Chains.{Chain, Stored}
 

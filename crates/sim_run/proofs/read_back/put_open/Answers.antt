@@ -1,8 +1,8 @@
 use Rattle.std.proofs.Common.{◌≡◌, ◌<◌, length, subst, sym}
 use Rattle.std.specs.List.{AllByRecursion, flat_map}
-use Rattle.nv_base.specs.Streams.{PutFront, grown}
+use Rattle.nv_base.specs.Streams.{PutFront, appended}
 use Rattle.report_text.specs.Lines.{open_text}
-use Rattle.kernel_core.specs.Stands.{durable_of}
+use Rattle.kernel_core.specs.Represents.{durable_of}
 use Rattle.sim_run.proofs.read_back.put_open.Goals as goal
 
 pub put_open_tasks-requires : goal.put_open_tasks-requires
@@ -16,5 +16,5 @@ returns-in_default-clause-front g c =
 
 pub returns-clause-all : goal.returns-clause-all
 returns-clause-all g c =
-    subst (λ s. g.K.Sink.taken c.put_open_tasks.new.out ≡ grown (g.K.Sink.taken c.args.out.now) (flat_map (open_text s) (durable_of c.args.kernel.now).tasks)) c.set.ensures
-    (subst (λ ts. g.K.Sink.taken c.put_open_tasks.new.out ≡ grown (g.K.Sink.taken c.args.out.now) (flat_map (open_text c.set.result.now) ts)) c.open_tasks.ensures.exact c.in-Ok.ensures.all)
+    subst (λ s. g.K.Sink.taken c.put_open_tasks.new.out ≡ appended (g.K.Sink.taken c.args.out.now) (flat_map (open_text s) (durable_of c.args.kernel.now).tasks)) c.set.ensures
+    (subst (λ ts. g.K.Sink.taken c.put_open_tasks.new.out ≡ appended (g.K.Sink.taken c.args.out.now) (flat_map (open_text c.set.result.now) ts)) c.open_tasks.ensures.exact c.in-Ok.ensures.all)

@@ -1,5 +1,5 @@
 use Rattle.std.proofs.Common.{◌<◌, length, subst, sym, ap, ◌∙◌}
-use Rattle.nv_base.specs.Streams.{PutFront, grown}
+use Rattle.nv_base.specs.Streams.{PutFront, appended}
 use Rattle.set_model.specs.Views.{task_of}
 use Rattle.report_text.specs.Lines.{open_text}
 use Rattle.sim_run.proofs.ReadBack.{cut_text, last_text, at_place, of_mapped}
@@ -16,4 +16,4 @@ returns-in_default-clause-front g c =
 pub returns-clause-all : goal.returns-clause-all
 returns-clause-all g c =
     last_text (λ t. open_text c.args.set.now (task_of t)) c.args.tasks.now c.loop-task.task-index _ _ c.loop-task-test.false c.loop-task.invariant.put
-    ∙ ap (grown (g.K.Sink.taken c.args.out.now)) (sym (of_mapped (open_text c.args.set.now) task_of c.args.tasks.now))
+    ∙ ap (appended (g.K.Sink.taken c.args.out.now)) (sym (of_mapped (open_text c.args.set.now) task_of c.args.tasks.now))

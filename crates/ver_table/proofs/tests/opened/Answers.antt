@@ -1,11 +1,11 @@
 use Rattle.std.proofs.Common.{◌≡◌, ◌<◌, ℕ, zero, suc, List, [], ◌∷◌, length, map, refl, arith}
 use Rattle.std.specs.Prelude.{slice_index}
-use Rattle.set_model.specs.Sets.{ObjectPart, TaskSet, object_at}
+use Rattle.set_model.specs.Sets.{ObjPart, TaskSet, object_at}
 use Rattle.ver_table.specs.Chains.{AreNamed}
 use Rattle.ver_table.proofs.tests.opened.Goals as goal
 
 -- two objects with a slot each have the first one named
-named : (set : TaskSet) (parts : List ObjectPart) → set.objects ≡ parts → length parts ≡ 2 → 0 < (object_at set 0).slots → 0 < (object_at set 1).slots → AreNamed (map (λ (p : ObjectPart). p.slots) parts) (0 ∷ 0 ∷ [])
+named : (set : TaskSet) (parts : List ObjPart) → set.objects ≡ parts → length parts ≡ 2 → 0 < (object_at set 0).slots → 0 < (object_at set 1).slots → AreNamed (map (λ (p : ObjPart). p.slots) parts) (0 ∷ 0 ∷ [])
 named set [] e n x y = absurd (omega (arith, n))
 named set (a ∷ []) e n x y = absurd (omega (arith, n))
 named set (a ∷ b ∷ []) e n x y = record { number = refl; each = at (rw e at x) (rw e at y) }

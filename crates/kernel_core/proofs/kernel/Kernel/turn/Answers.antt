@@ -11,7 +11,7 @@ pub returns-in-Copying-clause-leads : goal.returns-in-Copying-clause-leads
 returns-in-Copying-clause-leads c = leads_from _ _ _ c.copy.ensures.turns
 
 pub returns-in-Ready-clause-leads : goal.returns-in-Ready-clause-leads
-returns-in-Ready-clause-leads c = leads_from _ _ _ c.judge.ensures.turns
+returns-in-Ready-clause-leads c = leads_from _ _ _ c.decide.ensures.turns
 
 pub returns-in-Committing-clause-leads : goal.returns-in-Committing-clause-leads
 returns-in-Committing-clause-leads c = leads_from _ _ _ c.commit.ensures.turns

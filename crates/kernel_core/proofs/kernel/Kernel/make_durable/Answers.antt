@@ -5,7 +5,7 @@ use Rattle.kernel_core.specs.Shapes.{state_after}
 use Rattle.kernel_core.proofs.Keeping.{granted_in, taken, taken_number}
 use Rattle.kernel_core.proofs.Placing.{flips_at}
 use Rattle.kernel_core.proofs.Tasks.{length-others}
-use Rattle.kernel_core.proofs.kernel.Kernel.flip.Goals as goal
+use Rattle.kernel_core.proofs.kernel.Kernel.make_durable.Goals as goal
 
 pub finish-requires : goal.finish-requires
 finish-requires c =

@@ -1,6 +1,6 @@
 use Rattle.std.proofs.Common.{ap, ◌∙◌}
 use Rattle.task_set.proofs.NameFacts.{not_named}
-use Rattle.task_set.proofs.names.objects_are_named.Goals as goal
+use Rattle.task_set.proofs.distinct_names.objects_are_named.Goals as goal
 
 pub returns-then-not-branch : goal.returns-then-not-branch
 returns-then-not-branch c =

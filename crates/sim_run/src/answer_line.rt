@@ -3,7 +3,7 @@
 ghost use Rattle.std.specs.Prelude.{◌≡◌, ◌≤◌, ◌+◌, ◌++◌, length};
 ghost use Rattle.std.specs.Fmt.{decimal};
 ghost use Rattle.arrayvec.specs.ArrayString.{array_string_len};
-ghost use Rattle.nv_base.specs.Streams.{PutFront, Rose, grown};
+ghost use Rattle.nv_base.specs.Streams.{PutFront, FaultCounted, appended};
 ghost use Rattle.sim_run.specs.Carried.{PutsName};
 ghost use Rattle.script.specs.Exits.{line_for};
 
@@ -63,7 +63,7 @@ fn line_for(status: Status) -> ArrayString<ROOM>
 
 /// Puts the line that names an answer. A sink that fails here does not change the answer.
 pub(crate) fn put_name<K: Sink>(out: &mut K, status: Status)
-    ensures named { PutsName (K.taken out.old) (K.taken out.new) (Rose (K.faults out.old) (K.faults out.new)) (line_for status) }
+    ensures named { PutsName (K.taken out.old) (K.taken out.new) (FaultCounted (K.faults out.old) (K.faults out.new)) (line_for status) }
     ensures never_falls { K.faults out.old ≤ K.faults out.new }
 {
     let line = line_for(status);

@@ -12,32 +12,32 @@ use Rattle.set_model.specs.Numbers.{sizes_of}
 use Rattle.set_model.specs.Formatted.{formatted}
 use Rattle.set_model.specs.Views.{line_of}
 use Rattle.task_model.specs.TaskSteps.{served, task_steps}
-use Rattle.kernel_core.specs.Stands.{Fits, Hidden, core_in, state_in}
+use Rattle.kernel_core.specs.Represents.{Agrees, GhostState, core_in, state_in}
 use Rattle.kernel_core.specs.declared.attempt.Attempt as own
 use Rattle.kernel_core.specs.declared.kernel.Kernel.{Kernel}
 use Rattle.kernel_core.specs.declared.kernel.Phase.{Phase}
 use Rattle.kernel_core.specs.declared.kernel.Phase.TheVariants as phase
 
 -- the kernel's event, from one state that the old kernel stands for
-pub record Next (old : Kernel) (h : Hidden) (new : Kernel) (line : Line) : Type 0 where
-  pub hidden : Hidden
-  pub fits : Fits new hidden
+pub record Next (old : Kernel) (h : GhostState) (new : Kernel) (line : Line) : Type 0 where
+  pub hidden : GhostState
+  pub fits : Agrees new hidden
   pub steps : event_step (task_steps old.set) (sizes_of old.set) (formatted old.set) (state_in old h) (CoreStep 0) ≡ (state_in new hidden, line_of line)
 
 -- from each
-unfoldable pub Turns : Kernel → Kernel → Line → Type 0
-Turns old new line = (h : Hidden) → Fits old h → Next old h new line
+unfoldable pub SimulatesTurn : Kernel → Kernel → Line → Type 0
+SimulatesTurn old new line = (h : GhostState) → Agrees old h → Next old h new line
 
 -- what a service makes of a running attempt, whose machine was m before it called
-pub record Serviced (old : Kernel) (m : MachineState) (h : Hidden) (service : Service) (new : Kernel) : Type 0 where
-  pub hidden : Hidden
+pub record Serviced (old : Kernel) (m : MachineState) (h : GhostState) (service : Service) (new : Kernel) : Type 0 where
+  pub hidden : GhostState
   pub history : hidden.history ≡ h.history
-  pub fits : Fits new hidden
+  pub fits : Agrees new hidden
   pub turns : run_turn (task_steps old.set) (formatted old.set) h.history 0 (record h.attempt { state = m }) (served old.set (Calls old.machine service)) ≡ record { core = core_in new.machine hidden new.phase; line = Nothing }
 
 -- of each attempt; the old kernel has the machine that waits
-unfoldable pub Serves : Kernel → Service → Kernel → Type 0
-Serves old service new = (m : MachineState) (h : Hidden) → Fits old h → Serviced old m h service new
+unfoldable pub SimulatesService : Kernel → Service → Kernel → Type 0
+SimulatesService old service new = (m : MachineState) (h : GhostState) → Agrees old h → Serviced old m h service new
 
 -- what an attempt that ends so leaves
 abbrev pub attempt_left : own.Attempt → Outcome → own.Attempt

@@ -1,6 +1,6 @@
 use Rattle.std.proofs.Common.{arith}
 use Rattle.kernel_core.proofs.Placing.{grants_at, refuses_at}
-use Rattle.kernel_core.proofs.kernel.Kernel.judge.Goals as goal
+use Rattle.kernel_core.proofs.kernel.Kernel.decide.Goals as goal
 
 pub returns-then-pending-spawns-clause-turns : goal.returns-then-pending-spawns-clause-turns
 returns-then-pending-spawns-clause-turns c =

@@ -2,7 +2,7 @@ use Rattle.std.proofs.Common.{nat_eq}
 use Rattle.std.specs.Cmp.Lexicographic.{pointwise}
 use Rattle.std.specs.List.{list_any}
 use Rattle.task_image.proofs.NameFacts.{told_both, is_taken}
-use Rattle.task_image.proofs.names.take_name.Goals as goal
+use Rattle.task_image.proofs.new_name.take_name.Goals as goal
 
 pub returns-clause-tells : goal.returns-clause-tells
 returns-clause-tells c = told_both _ _ c.args.name.now c.args.taken.now.keys c.is_name.ensures c.if-not-is_name.false c.in_ok-insert.ensures.added

@@ -3,7 +3,7 @@ use Rattle.std.specs.Cmp.Lexicographic.{pointwise}
 use Rattle.std.proofs.lemmas.Bool.Decides.{Decides-eqb}
 use Rattle.std.proofs.lemmas.Slice.Eq.{slice_eq-Decides}
 use Rattle.task_set.proofs.NameFacts.{name_is_taken}
-use Rattle.task_set.proofs.names.take_name.Goals as goal
+use Rattle.task_set.proofs.distinct_names.take_name.Goals as goal
 
 pub returns : goal.returns
 returns c =

@@ -6,7 +6,7 @@ use Rattle.rv_core.specs.State.{MachineState}
 use Rattle.nv_base.specs.declared.limits.TheConstants.{MAX_RECORDS, MAX_SPAWNS}
 use Rattle.nv_base.specs.declared.lines.Entry.{Entry}
 use Rattle.nv_base.specs.declared.lines.Spawn.{Spawn}
-use Rattle.kernel_model.specs.Replay.{Base, TaskRec}
+use Rattle.kernel_model.specs.Replay.{DeviceState, TaskRec}
 use Rattle.set_model.specs.Sets.{TaskSet, object_at}
 use Rattle.set_model.specs.Limits.{IsTaskSet}
 use Rattle.task_model.specs.Shape.{HasShape}
@@ -35,25 +35,25 @@ pub record IsWaiting (set : TaskSet) (m : MachineState) (written : List ℕ) (ob
   pub awaits : Awaits m (object_at set object).size w
 
 -- the finish that commits may be taken in
-pub record IsGranted (set : TaskSet) (s : Base) (spawns : List Spawn) (e : Entry) : Type 0 where
+pub record IsGranted (set : TaskSet) (s : DeviceState) (spawns : List Spawn) (e : Entry) : Type 0 where
   pub held : IsHeld s.tasks e.task.0
   pub first : e.first.0 ≡ s.next
   pub low : s.clock ≤ e.point.0
   pub high : e.point.0 ≤ s.number + 1
   pub records : length s.tasks - 1 + length spawns ≤ set.records
 
-abbrev pub IsGrantedUntil : ℕ → TaskSet → Base → List Spawn → Entry → Type 0
+abbrev pub IsGrantedUntil : ℕ → TaskSet → DeviceState → List Spawn → Entry → Type 0
 IsGrantedUntil zero set s spawns e = Unit {0}
 IsGrantedUntil (suc left) set s spawns e = IsGranted set s spawns e
 
-abbrev pub IsKeptIn : Kernel → Phase → Type 0
-IsKeptIn k phase.Idle = Unit {0}
-IsKeptIn k phase.Running = IsHeld k.state.tasks k.task.0
-IsKeptIn k (phase.Copying object w copied) = IsHeld k.state.tasks k.task.0 × IsWaiting k.set k.machine k.attempt.written object.0 w copied
-IsKeptIn k (phase.Ready outcome) = IsHeld k.state.tasks k.task.0
-IsKeptIn k (phase.Committing entry left) = IsGrantedUntil left k.set k.state k.attempt.spawns entry
+abbrev pub IsValidIn : Kernel → Phase → Type 0
+IsValidIn k phase.Idle = Unit {0}
+IsValidIn k phase.Running = IsHeld k.state.tasks k.task.0
+IsValidIn k (phase.Copying object w copied) = IsHeld k.state.tasks k.task.0 × IsWaiting k.set k.machine k.attempt.written object.0 w copied
+IsValidIn k (phase.Ready outcome) = IsHeld k.state.tasks k.task.0
+IsValidIn k (phase.Committing entry left) = IsGrantedUntil left k.set k.state k.attempt.spawns entry
 
-pub record IsKept (k : Kernel) : Type 0 where
+pub record IsValid (k : Kernel) : Type 0 where
   pub set : IsTaskSet k.set
   pub memory : length k.machine.memory ≡ k.set.memory
   pub objects : HasShape k.set k.state.objects
@@ -66,4 +66,4 @@ pub record IsKept (k : Kernel) : Type 0 where
   pub spawns : length k.attempt.spawns ≤ MAX_SPAWNS
   pub clock : k.state.clock ≤ k.state.number
   pub next : k.state.next ≤ MAX_RECORDS + 1 + MAX_SPAWNS * k.state.number
-  pub phase : IsKeptIn k k.phase
+  pub phase : IsValidIn k k.phase

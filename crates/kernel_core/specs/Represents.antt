@@ -4,9 +4,9 @@ use Rattle.std.specs.List.{AllByRecursion}
 use Rattle.object_sets.specs.ObjectSets.{is_among}
 use Rattle.rv_core.specs.State.{MachineState}
 use Rattle.nv_base.specs.declared.lines.Line.{Line}
-use Rattle.kernel_model.specs.Effects.{Objects, Run, words_of}
-use Rattle.kernel_model.specs.Items.{Item, entry_of as listed_entry}
-use Rattle.kernel_model.specs.Replay.{Base}
+use Rattle.kernel_model.specs.Effects.{Objects, Run, object_words}
+use Rattle.kernel_model.specs.Items.{FinishRecord, entry_of as listed_entry}
+use Rattle.kernel_model.specs.Replay.{DeviceState}
 use Rattle.kernel_model.specs.Versions.{Read, read_words}
 use Rattle.kernel_model.specs.Intervals.{read_interval}
 use Rattle.kernel_model.specs.Cores.{Attempt, Core, Idle, Running, Copying, Ready, Committing, run_of}
@@ -25,39 +25,39 @@ use Rattle.kernel_core.specs.declared.kernel.Phase.{Phase}
 use Rattle.kernel_core.specs.declared.kernel.Phase.TheVariants as phase
 
 -- what the model keeps beside the kernel: all finishes that joined, the attempt, and the finish that commits
-pub record Hidden : Type 0 where
-  pub history : List Item
+pub record GhostState : Type 0 where
+  pub history : List FinishRecord
   pub attempt : Attempt MachineState
-  pub item : Item
+  pub item : FinishRecord
 
 -- the core: while it runs or copies, the attempt's machine is the kernel's
-abbrev pub core_in : MachineState → Hidden → Phase → Core MachineState
+abbrev pub core_in : MachineState → GhostState → Phase → Core MachineState
 core_in m h phase.Idle = Idle
 core_in m h phase.Running = Running (record h.attempt { state = m })
 core_in m h (phase.Copying object w copied) = Copying (record h.attempt { state = m }) copied
 core_in m h (phase.Ready outcome) = Ready h.attempt (outcome_of outcome)
 core_in m h (phase.Committing entry left) = Committing h.item left
 
-abbrev pub state_in : Kernel → Hidden → State MachineState
+abbrev pub state_in : Kernel → GhostState → State MachineState
 state_in k h = record { history = h.history; owed = None; cores = core_in k.machine h k.phase ∷ []; power = On; boots = 0 }
 
 -- the state that the durable finishes leave of the formatted one
-abbrev pub left_in : Kernel → State MachineState → Base
+abbrev pub left_in : Kernel → State MachineState → DeviceState
 left_in k s = state_left (formatted k.set) (listed s)
 
 -- what is durable, as the kernel keeps it
-abbrev pub durable_of : Kernel → Base
+abbrev pub durable_of : Kernel → DeviceState
 durable_of k = k.state
 
 -- the attempt is of this task, and its interval of reads is from the clock on
-pub record IsTried (set : TaskSet) (history : List Item) (clock task : ℕ) (a : Attempt MachineState) : Type 0 where
+pub record IsTried (set : TaskSet) (history : List FinishRecord) (clock task : ℕ) (a : Attempt MachineState) : Type 0 where
   pub task_is : a.task ≡ task
   pub interval : read_interval (formatted set) history a.start a.reads ≡ record { lo = clock; hi = None }
 
 -- it has done what the kernel keeps of it, and the versions that it has read have the words that are durable
-pub record HasDone (set : TaskSet) (history : List Item) (objects : Objects) (kept : own.Attempt) (a : Attempt MachineState) : Type 0 where
+pub record HasDone (set : TaskSet) (history : List FinishRecord) (objects : Objects) (kept : own.Attempt) (a : Attempt MachineState) : Type 0 where
   pub reads : (o : ℕ) → is_among o kept.reads ≡ is_some (read_of o a.reads)
-  pub current : AllByRecursion (λ r. read_words (formatted set) history r ≡ words_of objects r.object) a.reads
+  pub current : AllByRecursion (λ r. read_words (formatted set) history r ≡ object_words objects r.object) a.reads
   pub writes : AreWritten a.writes kept.written kept.words
   pub spawns : map spawn_of kept.spawns ≡ a.spawns
 
@@ -74,26 +74,26 @@ pub record IsNewest (object : ℕ) (reads : List Read) : Type 0 where
   pub object_is : read.object ≡ object
 
 -- what is known in each phase
-abbrev pub FitsIn : Kernel → Hidden → Phase → Type 0
-FitsIn k h phase.Idle = Unit {0}
-FitsIn k h phase.Running = IsTried k.set h.history k.state.clock k.task.0 h.attempt × HasDone k.set h.history k.state.objects k.attempt h.attempt
-FitsIn k h (phase.Copying object w copied) = IsTried k.set h.history k.state.clock k.task.0 h.attempt × HasDone k.set h.history k.state.objects k.attempt h.attempt × IsNewest object.0 h.attempt.reads
-FitsIn k h (phase.Ready outcome) = IsTried k.set h.history k.state.clock k.task.0 h.attempt × Leaves k.attempt (run_of h.attempt (outcome_of outcome))
-FitsIn k h (phase.Committing entry left) = (entry_of entry ≡ listed_entry h.item) × Leaves k.attempt h.item.run
+abbrev pub AgreesIn : Kernel → GhostState → Phase → Type 0
+AgreesIn k h phase.Idle = Unit {0}
+AgreesIn k h phase.Running = IsTried k.set h.history k.state.clock k.task.0 h.attempt × HasDone k.set h.history k.state.objects k.attempt h.attempt
+AgreesIn k h (phase.Copying object w copied) = IsTried k.set h.history k.state.clock k.task.0 h.attempt × HasDone k.set h.history k.state.objects k.attempt h.attempt × IsNewest object.0 h.attempt.reads
+AgreesIn k h (phase.Ready outcome) = IsTried k.set h.history k.state.clock k.task.0 h.attempt × Leaves k.attempt (run_of h.attempt (outcome_of outcome))
+AgreesIn k h (phase.Committing entry left) = (entry_of entry ≡ listed_entry h.item) × Leaves k.attempt h.item.run
 
 -- the kernel's state is what the durable finishes leave
-pub record Fits (k : Kernel) (h : Hidden) : Type 0 where
+pub record Agrees (k : Kernel) (h : GhostState) : Type 0 where
   pub left : left_in k (state_in k h) ≡ k.state
-  pub phase : FitsIn k h k.phase
+  pub phase : AgreesIn k h k.phase
 
 -- the kernel stands for a state of the event machine
-pub record Stands (k : Kernel) (s : State MachineState) : Type 0 where
-  pub hidden : Hidden
-  pub fits : Fits k hidden
+pub record Represents (k : Kernel) (s : State MachineState) : Type 0 where
+  pub hidden : GhostState
+  pub fits : Agrees k hidden
   pub is : s ≡ state_in k hidden
 
 -- from each state that the old kernel stands for, one event leads to one that the new kernel stands for, and prints this line
-unfoldable pub Leads : Kernel → Kernel → Line → Type 0
-Leads old new line =
-    (s : State MachineState) → Stands old s
-    → (let t = event_step (task_steps old.set) (sizes_of old.set) (formatted old.set) s (CoreStep 0) in Stands new t.0 × (t.1 ≡ line_of line))
+unfoldable pub Simulates : Kernel → Kernel → Line → Type 0
+Simulates old new line =
+    (s : State MachineState) → Represents old s
+    → (let t = event_step (task_steps old.set) (sizes_of old.set) (formatted old.set) s (CoreStep 0) in Represents new t.0 × (t.1 ≡ line_of line))
