@@ -7,7 +7,7 @@ ghost use Rattle.fram_dev.specs.Device.{Change, made_in};
 use thiserror::Error;
 
 /// A call was lost.
-#[derive(Debug, Drop, Error)]
+#[derive(Clone, Copy, PartialEq, Eq, Debug, Error)]
 #[error("the device lost a call")]
 pub struct Lost;
 

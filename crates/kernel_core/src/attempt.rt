@@ -18,7 +18,7 @@ use task_set::TaskSet;
 
 /// What the attempt has done. No finish joins while it lasts, so that the versions that it read are the newest ones,
 /// and are not copied.
-#[derive(Drop)]
+#[derive(Debug, Drop)]
 pub(crate) struct Attempt {
     /// The objects that were read from outside.
     pub(crate) reads: ObjSet,

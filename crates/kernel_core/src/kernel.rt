@@ -27,7 +27,7 @@ use std::alloc::Global;
 use task_set::TaskSet;
 
 // What the core does.
-#[derive(Clone, Copy)]
+#[derive(Clone, Copy, Debug)]
 pub(crate) enum Phase {
     // It has no task.
     Idle,
@@ -50,7 +50,7 @@ pub(crate) enum Phase {
 }
 
 /// The kernel of one core under continuous power: a task set, what is durable, and the attempt of the running task.
-#[derive(Drop)]
+#[derive(Debug, Drop)]
 pub struct Kernel {
     pub(crate) set: TaskSet,
     pub(crate) machine: Machine,

@@ -15,7 +15,7 @@ use std::marker::Model;
 use task_set::TaskSet;
 
 /// The words of one object, which contracts see as their list.
-#[derive(Drop)]
+#[derive(Debug, Drop)]
 struct Words {
     items: Vec<u32>,
 }
@@ -73,7 +73,7 @@ impl Words {
 }
 
 /// The words of each object of a set, by its number, which contracts see as a list of lists.
-#[derive(Drop)]
+#[derive(Debug, Drop)]
 pub(crate) struct Objects {
     items: Vec<Words>,
 }

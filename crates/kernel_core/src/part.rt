@@ -7,7 +7,7 @@ ghost use Rattle.task_model.specs.TaskSteps.{part_of, past};
 use rv_core::Machine;
 
 /// Some words of an object, from one of them on, and where they stand in a machine's memory.
-#[derive(Clone, Copy)]
+#[derive(Clone, Copy, Debug)]
 pub(crate) struct Part {
     /// The address in memory.
     pub(crate) at: u32,
@@ -18,7 +18,7 @@ pub(crate) struct Part {
 }
 
 /// What is done with them.
-#[derive(Clone, Copy)]
+#[derive(Clone, Copy, Debug)]
 pub(crate) enum Want {
     /// They are put at the address.
     Give(Part),

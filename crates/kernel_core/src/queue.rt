@@ -11,7 +11,7 @@ use std::alloc::Global;
 use std::marker::Model;
 
 /// The open tasks by id, with room for all that a set may have. Contracts see the definitions' records of them.
-#[derive(Drop)]
+#[derive(Debug, Drop)]
 pub(crate) struct Queue {
     items: Vec<TaskRec>,
 }

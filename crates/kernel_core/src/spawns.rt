@@ -10,7 +10,7 @@ use std::marker::Model;
 pub(crate) const MAX_SPAWNS: usize = limits::MAX_SPAWNS as usize;
 
 /// The tasks that an attempt spawned, in order: at most so many, with room for all from the first on.
-#[derive(Drop)]
+#[derive(Debug, Drop)]
 pub(crate) struct Spawns {
     items: Vec<Spawn>,
 }

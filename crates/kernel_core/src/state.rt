@@ -17,7 +17,7 @@ use task_set::TaskSet;
 
 /// What is durable: the words of the objects, the open tasks, the clock, the number of the last finish, and the next
 /// id. Contracts see the definitions' record of it.
-#[derive(Drop)]
+#[derive(Debug, Drop)]
 pub(crate) struct Durable {
     objects: Objects,
     tasks: Queue,

@@ -1,6 +1,7 @@
 -- What a reader sees of the source and the sink over memory: this project's own.
 -- Calls are counted from 1, and the count stands still at 2 ^ 32 - 1.
-use Rattle.std.specs.Prelude.{ℕ, ◌+◌, ◌-◌, ◌^◌, min, List, drop}
+use Rattle.std.specs.Prelude.{ℕ, ◌+◌, ◌-◌, ◌^◌, min, List, Some, drop}
+use Rattle.nv_base.specs.Streams.{Stream}
 use Rattle.nv_base.specs.declared.memory_streams.MemSink.{MemSink}
 use Rattle.nv_base.specs.declared.memory_streams.MemSource.{MemSource}
 
@@ -24,6 +25,10 @@ source_fails source = source.fails.items
 abbrev pub source_faults : MemSource → ℕ
 source_faults source = source.count
 
+-- all that a source tells
+abbrev pub source_seen : MemSource → Stream
+source_seen source = record { bytes = Some (source_left source); faults = source_faults source }
+
 -- the bytes taken
 abbrev pub sink_bytes : MemSink → List ℕ
 sink_bytes sink = sink.bytes.items
@@ -39,6 +44,10 @@ sink_fails sink = sink.fails.items
 -- how many of them failed; the count stands still at the end of its type
 abbrev pub sink_faults : MemSink → ℕ
 sink_faults sink = sink.count
+
+-- all that a sink tells
+abbrev pub sink_seen : MemSink → Stream
+sink_seen sink = record { bytes = Some (sink_bytes sink); faults = sink_faults sink }
 
 -- how many bytes it takes in all
 abbrev pub room_of : MemSink → ℕ

@@ -1,7 +1,7 @@
 // A source and a sink over memory, of whose calls some fail.
 
-ghost use Rattle.std.specs.Prelude.{◌≡◌, ◌≤◌, ◌-◌, ◌↔◌, ◌⊎◌, [], Some, Contains, IsErr, IfOk, OnErr, OnOk, length, min, take as front, vec_capacity};
-ghost use Rattle.nv_base.specs.Streams.{FaultCounted, Took, appended};
+ghost use Rattle.std.specs.Prelude.{◌≡◌, ◌≤◌, ◌-◌, ◌↔◌, ◌⊎◌, [], Contains, IsErr, IfOk, OnErr, OnOk, length, min, take as front, vec_capacity};
+ghost use Rattle.nv_base.specs.Streams.{Fails, PutsText, Takes};
 
 use crate::memory::NoMemory;
 use crate::streams::{Sink, SinkFailed, Source, SourceFailed};
@@ -46,19 +46,15 @@ impl MemSource {
 }
 
 impl Source for MemSource {
-    ghost use Rattle.nv_base.specs.Memory.{next_call, source_calls, source_faults, source_fails, source_left};
+    ghost use Rattle.nv_base.specs.Memory.{next_call, source_calls, source_fails, source_left, source_seen};
 
-    ghost left = { λ s. Some (source_left s) };
-
-    ghost faults = { λ s. source_faults s };
+    ghost seen = { λ s. source_seen s };
 
     /// Fails exactly at a call that is listed, and otherwise takes as many bytes as are left and
     /// the buffer has room for.
     fn take(&mut self, buf: &mut [u8]) -> Result<usize, SourceFailed>
-        ensures took { IfOk result (λ n. Took (Some (source_left self.old)) (Some (source_left self.new)) buf.new n) }
-        ensures kept { OnErr result (source_left self.new ≡ source_left self.old) }
-        ensures still { OnOk result (source_faults self.new ≡ source_faults self.old) }
-        ensures failed { OnErr result (FaultCounted (source_faults self.old) (source_faults self.new)) }
+        ensures took { IfOk result (λ n. Takes n buf.new (source_seen self.old) (source_seen self.new)) }
+        ensures failed { OnErr result (Fails (source_seen self.old) (source_seen self.new)) }
         ensures errs { IsErr result ↔ Contains (source_fails self.old) (source_calls self.new) }
         ensures count { IfOk result (λ n. n ≡ min (length (source_left self.old)) (length buf.new)) }
         ensures calls { source_calls self.new ≡ next_call (source_calls self.old) }
@@ -124,19 +120,15 @@ impl MemSink {
 }
 
 impl Sink for MemSink {
-    ghost use Rattle.nv_base.specs.Memory.{next_call, room_of, sink_bytes, sink_calls, sink_fails, sink_faults};
+    ghost use Rattle.nv_base.specs.Memory.{next_call, room_of, sink_bytes, sink_calls, sink_fails, sink_seen};
 
-    ghost taken = { λ s. Some (sink_bytes s) };
-
-    ghost faults = { λ s. sink_faults s };
+    ghost seen = { λ s. sink_seen s };
 
     /// Fails exactly at a call that is listed or where the sink is full, and otherwise takes as
     /// many bytes as the piece has and the sink has room for.
     fn put(&mut self, piece: &[u8]) -> Result<usize, SinkFailed>
-        ensures put { IfOk result (λ n. Some (sink_bytes self.new) ≡ appended (Some (sink_bytes self.old)) (front n piece.now)) }
-        ensures kept { OnErr result (sink_bytes self.new ≡ sink_bytes self.old) }
-        ensures still { OnOk result (sink_faults self.new ≡ sink_faults self.old) }
-        ensures failed { OnErr result (FaultCounted (sink_faults self.old) (sink_faults self.new)) }
+        ensures put { IfOk result (λ n. PutsText (front n piece.now) (sink_seen self.old) (sink_seen self.new)) }
+        ensures failed { OnErr result (Fails (sink_seen self.old) (sink_seen self.new)) }
         ensures errs { IsErr result ↔ ((room_of self.old ≡ length (sink_bytes self.old)) ⊎ Contains (sink_fails self.old) (sink_calls self.new)) }
         ensures count { IfOk result (λ n. n ≡ min (length piece.now) (room_of self.old - length (sink_bytes self.old))) }
         ensures calls { sink_calls self.new ≡ next_call (sink_calls self.old) }

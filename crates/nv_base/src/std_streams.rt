@@ -1,9 +1,9 @@
 // Any reader of std as a source, and any writer as a sink. What they consume and append is told by
 // the reader's and the writer's own ghost content, where these have it.
 
-ghost use Rattle.std.specs.Prelude.{◌≡◌, ◌≤◌, ◌<◌, None, IfOk, OnErr, OnOk, length};
+ghost use Rattle.std.specs.Prelude.{◌≡◌, ◌≤◌, ◌<◌, IfOk, OnErr, OnOk, length};
 ghost use Rattle.std.specs.Io.KnownBytes.{ReadConsumes, WriteAppends};
-ghost use Rattle.nv_base.specs.StdStreams.{read_faults, reader_of, write_faults, writer_of};
+ghost use Rattle.nv_base.specs.StdStreams.{read_faults, reader_of, reader_seen, write_faults, writer_of, writer_seen};
 ghost use Rattle.nv_base.specs.Streams.{FaultCounted};
 
 use crate::streams::{Sink, SinkFailed, Source, SourceFailed};
@@ -49,7 +49,7 @@ fn write_some<W: Write>(writer: &mut W, count: &mut u64, piece: &[u8]) -> Result
 }
 
 /// A source over a reader.
-#[derive(Drop)]
+#[derive(Debug, Drop)]
 pub struct StdSource<R: Read> {
     reader: R,
     count: u64,
@@ -66,9 +66,7 @@ impl<R: Read> StdSource<R> {
 }
 
 impl<R: Read> Source for StdSource<R> {
-    ghost left = { λ s. None };
-
-    ghost faults = { λ s. read_faults s };
+    ghost seen = { λ s. reader_seen s };
 
     fn take(&mut self, buf: &mut [u8]) -> Result<usize, SourceFailed>
         ensures within { IfOk result (λ n. n ≤ length buf.new) }
@@ -82,7 +80,7 @@ impl<R: Read> Source for StdSource<R> {
 }
 
 /// A sink over a writer. Each piece goes straight to the writer, so no byte waits here.
-#[derive(Drop)]
+#[derive(Debug, Drop)]
 pub struct StdSink<W: Write> {
     writer: W,
     count: u64,
@@ -99,9 +97,7 @@ impl<W: Write> StdSink<W> {
 }
 
 impl<W: Write> Sink for StdSink<W> {
-    ghost taken = { λ s. None };
-
-    ghost faults = { λ s. write_faults s };
+    ghost seen = { λ s. writer_seen s };
 
     fn put(&mut self, piece: &[u8]) -> Result<usize, SinkFailed>
         ensures within { IfOk result (λ n. n ≤ length piece.now) }

@@ -1,7 +1,8 @@
 // Whole inputs and whole outputs.
 
-ghost use Rattle.std.specs.Prelude.{◌≡◌, ◌+◌, ◌≤◌, ◌⊎◌, Err, length, IfOk, OnErr, OnOk};
-ghost use Rattle.nv_base.specs.Streams.{AreGone, AtMostGone, GaveAll, PutFront, FaultCounted, appended};
+ghost use Rattle.std.specs.Prelude.{◌≤◌, length, IfErr, IfOk, OnErr, OnOk};
+ghost use Rattle.nv_base.specs.Streams.{PutsFront, PutsText, ReadsAll};
+ghost use Rattle.nv_base.specs.WholeInputs.{Stops};
 
 use crate::streams::{Sink, Source};
 use std::alloc::Global;
@@ -28,13 +29,9 @@ const CHUNK: usize = 4096;
 /// exactly where `max + 1` bytes were taken; `NoMemory` where the bytes found none. Each turn takes
 /// a byte or ends.
 pub fn read_all<S: Source>(alloc: Global, src: &mut S, max: usize) -> Result<Vec<u8>, ReadRefusal>
-    ensures all { IfOk result (λ v. GaveAll (S.left src.old) (S.left src.new) v.items) }
+    ensures all { IfOk result (λ v. ReadsAll v.items (S.seen src.old) (S.seen src.new)) }
     ensures within { IfOk result (λ v. length v.items ≤ max) }
-    ensures long { result ≡ Err ReadRefusal.TooLong → AreGone (S.left src.old) (S.left src.new) (max + 1) }
-    ensures short { (result ≡ Err ReadRefusal.ReadFault) ⊎ (result ≡ Err ReadRefusal.NoMemory) → AtMostGone (S.left src.old) (S.left src.new) max }
-    ensures fault { result ≡ Err ReadRefusal.ReadFault → FaultCounted (S.faults src.old) (S.faults src.new) }
-    ensures still { (result ≡ Err ReadRefusal.ReadFault) ⊎ (S.faults src.new ≡ S.faults src.old) }
-    ensures never_falls { S.faults src.old ≤ S.faults src.new }
+    ensures stops { IfErr result (Stops max (S.seen src.old) (S.seen src.new)) }
 {
     let mut bytes = Vec::new(alloc);
     let mut buf = [0u8; CHUNK];
@@ -55,14 +52,12 @@ pub fn read_all<S: Source>(alloc: Global, src: &mut S, max: usize) -> Result<Vec
     }
 }
 
-/// Puts all bytes. `WriteFault` only where the sink failed; a front of the bytes was put then.
+/// Puts all bytes. `WriteFault` only where the sink failed; a front of the bytes was put then, and
+/// not all of them.
 /// Takes no memory.
 pub fn put_all<K: Sink>(out: &mut K, bytes: &[u8]) -> Result<(), WriteFault>
-    ensures all { OnOk result (K.taken out.new ≡ appended (K.taken out.old) bytes.now) }
-    ensures front { OnErr result (PutFront (K.taken out.old) (K.taken out.new) bytes.now) }
-    ensures fault { OnErr result (FaultCounted (K.faults out.old) (K.faults out.new)) }
-    ensures still { OnOk result (K.faults out.new ≡ K.faults out.old) }
-    ensures never_falls { K.faults out.old ≤ K.faults out.new }
+    ensures all { OnOk result (PutsText bytes.now (K.seen out.old) (K.seen out.new)) }
+    ensures front { OnErr result (PutsFront bytes.now (K.seen out.old) (K.seen out.new)) }
 {
     let mut at = 0;
     while at < bytes.len() {

@@ -12,7 +12,7 @@ use crate::sequence::Sequence;
 use std::marker::Model;
 
 /// The steps that are left of an item.
-#[derive(Drop)]
+#[derive(Debug, Drop)]
 pub(crate) enum ItemSteps<'a> {
     Steps(Sequence<'a>),
     Mix(Draw),
@@ -44,7 +44,7 @@ impl<'a> ItemSteps<'a> {
 }
 
 /// The steps that are left of some items, which contracts see as the list of their cores.
-#[derive(Drop)]
+#[derive(Debug, Drop)]
 pub(crate) struct CoreSteps<'a> {
     cores: u8,
     // what is left of the item under way

@@ -19,7 +19,7 @@ pub(crate) fn drawn_core(seed: u32, cores: u8, n: u32) -> u8
 }
 
 /// The steps that are left of those that a seed draws, which contracts see as the list of their cores.
-#[derive(Drop)]
+#[derive(Debug, Drop)]
 pub(crate) struct Draw {
     generator: Lcg64Xsh32,
     cores: u8,

@@ -15,7 +15,7 @@ use nv_base::CoreId;
 use std::marker::Model;
 
 /// The events that are left of a schedule, which contracts see as the list of them.
-#[derive(Drop)]
+#[derive(Debug, Drop)]
 pub struct Events<'a> {
     steps: CoreSteps<'a>,
     // how many steps come before the next failure, if there is an on-time left

@@ -15,7 +15,7 @@ pub(crate) fn core_in_order(order: &[u8], n: u32) -> u8
 }
 
 /// The steps that are left of a repeated sequence, which contracts see as the list of their cores.
-#[derive(Drop)]
+#[derive(Debug, Drop)]
 pub(crate) struct Sequence<'a> {
     // what is left of the pass under way
     rest: &'a [u8],

@@ -12,7 +12,7 @@ use std::marker::Model;
 pub(crate) const LONGEST_LINE: usize = 728;
 
 /// One line of a report, which contracts see as its bytes. Only `new` takes memory.
-#[derive(Drop)]
+#[derive(Debug, Drop)]
 pub struct LineBuf {
     bytes: Vec<u8>,
 }

@@ -23,7 +23,7 @@ use std::marker::Model;
 
 /// The machine of one task: 32 registers, a program counter, a private memory of at most 65,536 bytes,
 /// the instructions counted since the task began, and the fuel, which is how many may be counted.
-#[derive(Drop)]
+#[derive(Debug, Drop)]
 pub struct Machine {
     registers: [u32; 32],
     pc: u32,

@@ -26,7 +26,7 @@ use task_set::{SetRefusal, TaskSet};
 const LONGEST: usize = MAX_INPUT as usize;
 
 /// What a script says.
-#[derive(Drop)]
+#[derive(Debug, Drop)]
 pub struct Script {
     /// The objects, the programs and the tasks.
     pub set: TaskSet,

@@ -11,7 +11,7 @@ use nv_base::limits::{MAX_CORES, MAX_PROGRAMS};
 use task_set::{max_objects, max_records};
 
 /// The numbers before the first object.
-#[derive(Clone, Copy)]
+#[derive(Clone, Copy, Debug)]
 pub struct Header {
     /// By which the most objects and task records go.
     pub format: u8,

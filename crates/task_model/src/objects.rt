@@ -16,7 +16,7 @@ use std::marker::Model;
 use task_set::TaskSet;
 
 /// The words of one object, at most as many as the limits allow, which contracts see as their list.
-#[derive(Drop)]
+#[derive(Debug, Drop)]
 struct Words {
     items: Vec<u32>,
 }
@@ -76,7 +76,7 @@ impl Words {
 
 /// The words of each object, by its number: at most as many objects and words as the limits allow. Contracts see a
 /// list of lists.
-#[derive(Drop)]
+#[derive(Debug, Drop)]
 pub struct Objects {
     items: Vec<Words>,
 }

@@ -10,7 +10,7 @@ use std::marker::Model;
 pub const MAX_SPAWNS: usize = limits::MAX_SPAWNS as usize;
 
 /// The tasks that a run spawned, in order: at most so many, with room for all from the first on.
-#[derive(Drop)]
+#[derive(Debug, Drop)]
 pub struct Spawns {
     items: Vec<Spawn>,
 }

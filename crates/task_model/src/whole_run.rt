@@ -19,7 +19,7 @@ use std::alloc::Global;
 use task_set::TaskSet;
 
 /// What the whole run of a task comes to.
-#[derive(Drop)]
+#[derive(Debug, Drop)]
 pub struct Whole {
     /// How it ended.
     pub outcome: Outcome,

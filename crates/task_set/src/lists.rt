@@ -8,7 +8,7 @@ use std::alloc::Global;
 use std::marker::Model;
 
 /// The bytes of a name.
-#[derive(Drop)]
+#[derive(Debug, Drop)]
 pub struct Name {
     items: Vec<u8>,
 }
@@ -64,7 +64,7 @@ impl Name {
 }
 
 /// Words of 32 bits: the first words of an object, or the code of a program.
-#[derive(Drop)]
+#[derive(Debug, Drop)]
 pub struct Words {
     items: Vec<u32>,
 }
@@ -120,7 +120,7 @@ impl Words {
 }
 
 /// Objects, by their numbers.
-#[derive(Drop)]
+#[derive(Debug, Drop)]
 pub struct ObjectParts {
     items: Vec<ObjPart>,
 }
@@ -172,7 +172,7 @@ impl ObjectParts {
 }
 
 /// Programs, by their numbers.
-#[derive(Drop)]
+#[derive(Debug, Drop)]
 pub struct ProgramParts {
     items: Vec<ProgPart>,
 }
@@ -224,7 +224,7 @@ impl ProgramParts {
 }
 
 /// Tasks that are open at first, under the ids 1, 2, ..
-#[derive(Drop)]
+#[derive(Debug, Drop)]
 pub struct Tasks {
     items: Vec<Spawn>,
 }

@@ -8,7 +8,7 @@ use std::alloc::Global;
 use std::marker::Model;
 
 /// An object. Contracts see it as the definitions' record of an object.
-#[derive(Drop)]
+#[derive(Debug, Drop)]
 pub struct ObjPart {
     /// Its name, in ASCII.
     pub name: Name,
@@ -43,7 +43,7 @@ impl ObjPart {
 }
 
 /// A program. Contracts see it as the definitions' record of a program.
-#[derive(Drop)]
+#[derive(Debug, Drop)]
 pub struct ProgPart {
     /// Its name, in ASCII.
     pub name: Name,
@@ -75,7 +75,7 @@ impl ProgPart {
 }
 
 /// The parts of a task set. Contracts see them as the definitions' record of a task set, which may break limits.
-#[derive(Drop)]
+#[derive(Debug, Drop)]
 pub struct SetParts {
     /// By which the most objects and task records go: 1 or 2.
     pub format: u8,

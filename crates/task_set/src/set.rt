@@ -19,7 +19,7 @@ use std::alloc::Global;
 use std::marker::Model;
 
 /// A task set within all limits, whose names are names. Contracts see it as the definitions' record of a task set.
-#[derive(Drop)]
+#[derive(Debug, Drop)]
 pub struct TaskSet {
     parts: SetParts,
 }

@@ -17,7 +17,7 @@ use std::marker::Model;
 const MAX_SLOTS: usize = limits::MAX_SLOTS as usize;
 
 /// The versions of one object by slot, their order, and the object's bound. Contracts see the definitions' record of them.
-#[derive(Drop)]
+#[derive(Debug, Drop)]
 pub(crate) struct Chain {
     slots: u8,
     bound: Point,

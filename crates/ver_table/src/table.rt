@@ -15,7 +15,7 @@ use task_set::TaskSet;
 
 /// Which slot holds which version of each object, how long each version lives, and the greatest point that read or
 /// wrote each object. Contracts see the list of the definitions' records of the objects. No call but `open` takes memory.
-#[derive(Drop)]
+#[derive(Debug, Drop)]
 pub struct Versions {
     chains: Vec<Chain>,
 }

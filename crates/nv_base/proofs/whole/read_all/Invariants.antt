@@ -5,8 +5,8 @@ use Rattle.nv_base.proofs.whole.read_all.Given as goal
 abbrev pub invariant-loop-bytes : goal.invariant-loop-bytes
 invariant-loop-bytes g l = record {
   within : vec_len l.bytes ≤ l.max;
-  given : HasGiven (g.S.Source.left l.initial.src) (g.S.Source.left l.src) l.bytes.items;
-  still : g.S.Source.faults l.src ≡ g.S.Source.faults l.initial.src;
+  given : HasGiven (g.S.Source.seen l.initial.src).bytes (g.S.Source.seen l.src).bytes l.bytes.items;
+  still : (g.S.Source.seen l.src).faults ≡ (g.S.Source.seen l.initial.src).faults;
 }
 
 abbrev pub decreases-loop-bytes : goal.decreases-loop-bytes
