@@ -1,7 +1,7 @@
 -- The images of a commit.
 use Rattle.std.proofs.Common.{◌≡◌, ◌≢◌, ℕ, zero, suc, ◌+◌, ◌-◌, ◌*◌, ◌/◌, ◌%◌, ◌<◌, ◌≤◌, ⊎_elim, Bool, true, false, not, cond, eqb, nat_le, ◌&&◌, List, [], ◌∷◌, length, slice_index, take, Option, Some, None, unwrap_or, arith, refl, ap, sym, ◌∙◌, subst}
 use Rattle.std.specs.List.{AllByRecursion}
-use Rattle.std.proofs.lemmas.Bool.{cases_eq, cases_lt, eq-eqb, ne_eqb}
+use Rattle.std.proofs.lemmas.Bool.{cases_eq, cases_lt, eq-eqb, ne_eqb, le-leb, eqb-false, or_parts}
 use Rattle.std.proofs.lemmas.Nat.{div-add-mod'}
 use Rattle.kernel_model.specs.Effects.{Objects, Write, written, object_words, put, put_from}
 use Rattle.kernel_model.specs.Fit.{IsWrite}
@@ -19,7 +19,7 @@ use Rattle.device_model.proofs.Writes.{Every-take, made-last, take-body, with_wo
 use Rattle.device_model.proofs.IndexLists.{word-slot}
 use Rattle.device_model.proofs.Free.{free_keeps, header-root}
 use Rattle.device_model.proofs.CommitBody.{body-free, object-made, page-made}
-use Rattle.device_model.proofs.Tests.{from-or_false, from-eq_false, from-not_eq, le-true}
+use Rattle.device_model.proofs.Tests.{from-not_eq}
 
 -- ---- objects with writes put in
 
@@ -46,17 +46,17 @@ written-write set (w ∷ ws) o words h e = ⊎_elim
 not_named : (l : Layout) (ws : List Write) (page o : ℕ) (words : List ℕ) → names_slot l ws page ≡ false → written ws o ≡ Some words → (9 + o) / l.page_words ≢ page
 not_named l [] page o words h e f = let g : None ≡ Some words = e in cc g
 not_named l (w ∷ ws) page o words h e f =
-    let both = from-or_false (eqb ((9 + w.object) / l.page_words) page) (names_slot l ws page) h in
+    let both = or_parts (eqb ((9 + w.object) / l.page_words) page) (names_slot l ws page) h in
     ⊎_elim
-    (λ g. from-eq_false ((9 + w.object) / l.page_words) page both.0 (ap (λ (p : ℕ). (9 + p) / l.page_words) g ∙ f))
+    (λ g. eqb-false ((9 + w.object) / l.page_words) page both.0 (ap (λ (p : ℕ). (9 + p) / l.page_words) g ∙ f))
     (λ n. let g : written ws o ≡ Some words = rw (ne_eqb w.object o n) at e in not_named l ws page o words both.1 g f) (cases_eq w.object o)
 
 same_words : (low : ℕ) (v w : Words) (i n k : ℕ) → differs low v w i n ≡ false → i ≤ k → k < i + n → low ≤ k → v k ≡ w k
 same_words low v w i zero k h a b c = absurd (omega arith)
 same_words low v w i (suc n) k h a b c =
-    let both = from-or_false (nat_le low i && not (eqb (v i) (w i))) (differs low v w (i + 1) n) h in
+    let both = or_parts (nat_le low i && not (eqb (v i) (w i))) (differs low v w (i + 1) n) h in
     ⊎_elim (λ l. same_words low v w (i + 1) n k both.1 (omega arith) (omega arith) c)
-    (λ l. let e : k ≡ i = omega arith in let f : not (eqb (v i) (w i)) ≡ false = rw (le-true low i (omega arith)) at (both.0) in ap v e ∙ from-not_eq (v i) (w i) f ∙ ap w (sym e)) (cases_lt i k)
+    (λ l. let e : k ≡ i = omega arith in let f : not (eqb (v i) (w i)) ≡ false = rw (le-leb low i (omega arith)) at (both.0) in ap v e ∙ from-not_eq (v i) (w i) f ∙ ap w (sym e)) (cases_lt i k)
 
 -- its words are those of the index before
 unchanged : (set : TaskSet) (l : Layout) (h : Held) (c : Commit) (i : ℕ) → IsLaidOut set l → IsHeld set l h → IsNext set h c → i < index_reads l → is_changed l set h.index c (i / l.page_words) ≡ false → index_word h.index i ≡ index_word c.after i
@@ -67,9 +67,9 @@ unchanged set l h c i d k n a t = ⊎_elim slot tasks (cases_lt i (9 + length se
 
     parts : ((i / l.page_words) ≢ 0) × (names_slot l c.writes (i / l.page_words) ≡ false) × (differs (9 + length set.objects) (index_word h.index) (index_word c.after) (i / l.page_words * l.page_words) l.page_words ≡ false)
     parts =
-        let one = from-or_false (eqb (i / l.page_words) 0) _ t in
-        let two = from-or_false (names_slot l c.writes (i / l.page_words)) _ one.1 in
-        (from-eq_false (i / l.page_words) 0 one.0, two.0, two.1)
+        let one = or_parts (eqb (i / l.page_words) 0) _ t in
+        let two = or_parts (names_slot l c.writes (i / l.page_words)) _ one.1 in
+        (eqb-false (i / l.page_words) 0 one.0, two.0, two.1)
 
     row : i / l.page_words * l.page_words + i % l.page_words ≡ i
     row = div-add-mod' i l.page_words

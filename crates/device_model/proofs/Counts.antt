@@ -24,10 +24,7 @@ use Rattle.device_model.specs.Counting.{index_writes_on, is_page_written, record
 use Rattle.device_model.proofs.IndexLists.{word-task}
 use Rattle.device_model.proofs.PlainLaws.{plain_need}
 use Rattle.device_model.proofs.Writes.{length-words_from, length-written}
-
-length-objects : (l : Layout) (set : TaskSet) (slots : List ℕ) (ws : List Write) → length (object_changes l set slots ws) ≡ words_written ws
-length-objects l set slots [] = refl
-length-objects l set slots (w ∷ ws) = omega (arith, length-append (written_at (slot_place l set w.object (slice_index slots w.object)) w.words) (object_changes l set slots ws), length-written (slot_place l set w.object (slice_index slots w.object)) w.words, length-objects l set slots ws)
+use Rattle.device_model.proofs.SlotWrites.{length-changes}
 
 length-pages : (l : Layout) (root : ℕ) (x : Index) (changed : ℕ → Bool) (page n : ℕ) → length (page_changes l root x changed page n) ≡ count_changed changed page n * l.page_words
 length-pages l root x changed page zero = omega arith
@@ -47,7 +44,7 @@ length-commit l set h c = omega (
   arith,
   length-append (commit_body l set h c) ((l.root, next_root l set h c) ∷ []),
   length-append (object_changes l set c.after.slots c.writes) (page_changes l h.root c.after (is_changed l set h.index c) 0 l.pages),
-  length-objects l set c.after.slots c.writes,
+  length-changes l set c.after.slots c.writes,
   length-pages l h.root c.after (is_changed l set h.index c) 0 l.pages,
 )
 

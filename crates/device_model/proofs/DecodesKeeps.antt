@@ -1,6 +1,6 @@
 -- Words that decode to a state keep it.
 use Rattle.std.proofs.Common.{◌≡◌, ◌≢◌, ℕ, zero, suc, ◌+◌, ◌-◌, ◌<◌, ◌≤◌, ⊎_elim, Bool, true, false, cond, eqb, List, [], length, slice_index, Option, Some, None, arith, refl, ap, sym, ◌∙◌, subst}
-use Rattle.std.proofs.lemmas.Bool.{cases_lt, eq-eqb, ne_eqb, not-false}
+use Rattle.std.proofs.lemmas.Bool.{cases_lt, eq-eqb, ne_eqb, not-false, le-ltb, lt-ltb}
 use Rattle.kernel_model.specs.Effects.{object_words}
 use Rattle.set_model.specs.Sets.{TaskSet, object_at}
 use Rattle.kernel_model.specs.Items.{Entry}
@@ -16,14 +16,14 @@ use Rattle.device_model.proofs.Writes.{length-words_from, word_from}
 use Rattle.device_model.proofs.IndexReading.{AreSound}
 use Rattle.device_model.proofs.IndexBack.{sound_index, sound_words}
 use Rattle.device_model.proofs.KeepsDecodes.{first_true-all, first_true-none}
-use Rattle.device_model.proofs.Tests.{lt-false, lt-true, from-not_eq}
+use Rattle.device_model.proofs.Tests.{from-not_eq}
 
 -- none of the words that are read is faulty
 abbrev NoFault : TaskSet → Layout → Words → Type 0
 NoFault set l words = (j : ℕ) → j < reads l → is_faulty_read l set words j ≡ false
 
 head-sound : (set : TaskSet) (l : Layout) (words : Words) → IsLaidOut set l → NoFault set l words → (j : ℕ) → j < l.head_reads → is_faulty_head l set j (words (cond (eqb j l.root_read) l.root j)) ≡ false
-head-sound set l words d f j a = let e : is_faulty_read l set words j ≡ false = f j (omega arith) in rw (lt-true j l.head_reads a) at e
+head-sound set l words d f j a = let e : is_faulty_read l set words j ≡ false = f j (omega arith) in rw (lt-ltb j l.head_reads a) at e
 
 root-sound : (set : TaskSet) (l : Layout) (words : Words) → IsLaidOut set l → NoFault set l words → l.is_root (words l.root) ≡ true
 root-sound set l words d f = not-false (l.is_root (words l.root)) (let e = head-sound set l words d f l.root_read d.root_in in rw (eq-eqb l.root_read l.root_read refl) at e)
@@ -38,7 +38,7 @@ index-sound : (set : TaskSet) (l : Layout) (words : Words) → NoFault set l wor
 index-sound set l words f i a =
     let e : l.head_reads + i - l.head_reads ≡ i = omega arith in
     let g : is_faulty_read l set words (l.head_reads + i) ≡ false = f (l.head_reads + i) (omega arith) in
-    rw (lt-false (l.head_reads + i) l.head_reads (omega arith), e) at g
+    rw (le-ltb (l.head_reads + i) l.head_reads (omega arith), e) at g
 
 -- ---- objects
 

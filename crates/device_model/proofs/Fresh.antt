@@ -1,6 +1,6 @@
 -- A state that is written anew.
 use Rattle.std.proofs.Common.{◌≡◌, ◌≢◌, ◌⊎◌, inl, inr, ℕ, zero, suc, ◌+◌, ◌-◌, ◌*◌, ◌/◌, ◌%◌, ◌<◌, ◌≤◌, List, [], ◌∷◌, length, get_or, slice_index, arith, refl, ap, sym, ◌∙◌}
-use Rattle.std.proofs.lemmas.Bool.{eq-eqb, ne_eqb}
+use Rattle.std.proofs.lemmas.Bool.{eq-eqb, ne_eqb, le-ltb, lt-ltb}
 use Rattle.std.proofs.lemmas.List.{get_or-replicate}
 use Rattle.std.proofs.lemmas.Nat.{div-add-mod', div-mul-add, mod-mul-add}
 use Rattle.kernel_model.specs.Effects.{Objects, object_words}
@@ -16,7 +16,6 @@ use Rattle.device_model.specs.Places.{IsLaidOut}
 use Rattle.device_model.specs.Formats.{first_slots, fresh_held, fresh_page_word, fresh_slot_word, fresh_word}
 use Rattle.device_model.proofs.PlaceLaws.{copy_place-low, copy_place-high, page_of, slot_place-low, slot_place-high}
 use Rattle.device_model.proofs.Writes.{length-words_from, word_from, written-in}
-use Rattle.device_model.proofs.Tests.{lt-false, lt-true}
 
 -- ---- words that are written in order of place
 
@@ -33,15 +32,15 @@ fresh-root l set x objects = rw (eq-eqb l.root l.root refl) refl
 
 pub fresh-header : (l : Layout) (set : TaskSet) (x : Index) (objects : Objects) (j : ℕ) → j ≢ l.root → j < first_index set → fresh_word l set x objects j ≡ header_word l set j
 unfolding fresh_word
-fresh-header l set x objects j n a = rw (ne_eqb j l.root n, lt-true j (first_index set) a) refl
+fresh-header l set x objects j n a = rw (ne_eqb j l.root n, lt-ltb j (first_index set) a) refl
 
 fresh-page : (l : Layout) (set : TaskSet) (x : Index) (objects : Objects) (p : ℕ) → IsLaidOut set l → l.pages_at ≤ p → p < slots_at l → fresh_word l set x objects p ≡ fresh_page_word l x (p - l.pages_at)
 unfolding fresh_word
-fresh-page l set x objects p d a b = rw (ne_eqb p l.root (λ e. let f = d.root_first in omega arith), lt-false p (first_index set) (let f = d.header_first in omega arith), lt-true p (slots_at l) b) refl
+fresh-page l set x objects p d a b = rw (ne_eqb p l.root (λ e. let f = d.root_first in omega arith), le-ltb p (first_index set) (let f = d.header_first in omega arith), lt-ltb p (slots_at l) b) refl
 
 fresh-slot : (l : Layout) (set : TaskSet) (x : Index) (objects : Objects) (p : ℕ) → IsLaidOut set l → slots_at l ≤ p → fresh_word l set x objects p ≡ fresh_slot_word set.objects objects 0 (p - slots_at l)
 unfolding fresh_word
-fresh-slot l set x objects p d a = rw (ne_eqb p l.root (λ e. let f = d.root_first in omega arith), lt-false p (first_index set) (let f = d.header_first in omega arith), lt-false p (slots_at l) a) refl
+fresh-slot l set x objects p d a = rw (ne_eqb p l.root (λ e. let f = d.root_first in omega arith), le-ltb p (first_index set) (let f = d.header_first in omega arith), le-ltb p (slots_at l) a) refl
 
 -- copy 0 of a page
 page_word : (l : Layout) (x : Index) (page i q : ℕ) → i < l.page_words → q ≡ (2 * page) * l.page_words + i → fresh_page_word l x q ≡ index_word x (page * l.page_words + i)
@@ -66,11 +65,11 @@ slot_word : (parts : List ObjPart) (none : ObjPart) (objects : Objects) (k o i :
 slot_word [] none objects k o i a b = absurd (omega arith)
 slot_word (p ∷ parts) none objects k zero i a b =
     let e : 0 + i ≡ i = omega arith in let f : k ≡ k + 0 = omega arith in
-    ap (fresh_slot_word (p ∷ parts) objects k) e ∙ rw (lt-true i (slots_words p) b) (ap (λ (o : ℕ). slice_index (object_words objects o) i) f)
+    ap (fresh_slot_word (p ∷ parts) objects k) e ∙ rw (lt-ltb i (slots_words p) b) (ap (λ (o : ℕ). slice_index (object_words objects o) i) f)
 slot_word (p ∷ parts) none objects k (suc o) i a b =
     let e : slots_words p + words_before parts o + i - slots_words p ≡ words_before parts o + i = omega arith in
     let f : k + 1 + o ≡ k + suc o = omega arith in
-    rw (lt-false (slots_words p + words_before parts o + i) (slots_words p) (omega arith))
+    rw (le-ltb (slots_words p + words_before parts o + i) (slots_words p) (omega arith))
     (ap (fresh_slot_word parts objects (k + 1)) e ∙ slot_word parts none objects (k + 1) o i (omega arith) b ∙ ap (λ (o : ℕ). slice_index (object_words objects o) i) f)
 
 pub two_slots : (set : TaskSet) (o : ℕ) → IsTaskSet set → o < length set.objects → 2 ≤ (object_at set o).slots

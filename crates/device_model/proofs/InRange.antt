@@ -1,6 +1,6 @@
 -- All reads and writes are at places of the device, and slots that are not written keep their words.
 use Rattle.std.proofs.Common.{◌≡◌, ◌≢◌, ℕ, ◌+◌, ◌-◌, ◌/◌, ◌%◌, ◌<◌, ◌≤◌, ⊎_elim, true, List, [], ◌∷◌, length, slice_index, take, Some, arith, ap, sym, ◌∙◌}
-use Rattle.std.proofs.lemmas.Bool.{cases_eq, cases_lt, eq-eqb, ne_eqb}
+use Rattle.std.proofs.lemmas.Bool.{cases_eq, cases_lt, eq-eqb, ne_eqb, le-ltb, lt-ltb}
 use Rattle.kernel_model.specs.Effects.{written}
 use Rattle.kernel_model.specs.Fit.{IsWrite}
 use Rattle.set_model.specs.Sets.{TaskSet, object_at}
@@ -17,7 +17,6 @@ use Rattle.device_model.specs.Migrations.{migration_body, migration_writes, move
 use Rattle.device_model.proofs.PlaceLaws.{copy_place-high, page_of, slot_place-apart, slot_place-high, slot_place-low}
 use Rattle.device_model.proofs.Writes.{Every, Every-append, Every-take, Every-written, length-words_from, untouched}
 use Rattle.device_model.proofs.CommitBody.{every_object, every_page, each_write, both, from-all}
-use Rattle.device_model.proofs.Tests.{lt-false, lt-true}
 
 -- ---- reads
 
@@ -25,7 +24,7 @@ pub read-low : (set : TaskSet) (l : Layout) (root j : ℕ) → IsLaidOut set l �
 read-low set l root j d r a = ⊎_elim head index (cases_lt j l.head_reads)
   where
     head : j < l.head_reads → read_place l root j < need l set
-    head b = rw (lt-true j l.head_reads b) (⊎_elim (λ e. rw (eq-eqb j l.root_read e) (let f = d.root_first in omega arith)) (λ n. rw (ne_eqb j l.root_read n) (⊎_elim (λ m. let f = d.header_first in omega arith) (λ m. absurd (n (d.then_root j m b))) (cases_lt j (first_index set)))) (cases_eq j l.root_read))
+    head b = rw (lt-ltb j l.head_reads b) (⊎_elim (λ e. rw (eq-eqb j l.root_read e) (let f = d.root_first in omega arith)) (λ n. rw (ne_eqb j l.root_read n) (⊎_elim (λ m. let f = d.header_first in omega arith) (λ m. absurd (n (d.then_root j m b))) (cases_lt j (first_index set)))) (cases_eq j l.root_read))
 
     index : l.head_reads ≤ j → read_place l root j < need l set
     index b =
@@ -33,7 +32,7 @@ read-low set l root j d r a = ⊎_elim head index (cases_lt j l.head_reads)
         let at = page_of l i (omega arith) (let z = d.page_words in omega arith) in
         let c = d.copies root (i / l.page_words) r at.0 in
         let high = copy_place-high l (i / l.page_words) (l.copy root (i / l.page_words)) (i % l.page_words) at.0 c at.1 in
-        rw (lt-false j l.head_reads b) (omega arith)
+        rw (le-ltb j l.head_reads b) (omega arith)
 
 -- ---- writes
 

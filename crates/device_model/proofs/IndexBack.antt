@@ -1,6 +1,6 @@
 -- Words without a fault are those of an index that a device may have.
 use Rattle.std.proofs.Common.{◌≡◌, ◌≢◌, ℕ, zero, suc, ◌+◌, ◌-◌, ◌*◌, ◌<◌, ◌≤◌, ⊎_elim, false, eqb, List, [], ◌∷◌, ◌++◌, length, slice_index, arith, refl, ap, sym, ◌∙◌, subst}
-use Rattle.std.proofs.lemmas.Bool.{cases_eq, cases_lt, eq-eqb, ne_eqb}
+use Rattle.std.proofs.lemmas.Bool.{cases_eq, cases_lt, eq-eqb, ne_eqb, le-ltb, lt-ltb}
 use Rattle.kernel_model.specs.Fit.{IsLast, IsOutcome}
 use Rattle.set_model.specs.Sets.{TaskSet}
 use Rattle.set_model.specs.Numbers.{index_words}
@@ -9,7 +9,7 @@ use Rattle.device_model.specs.IndexWords.{Index, IsIndex, base_of, index_word, t
 use Rattle.device_model.proofs.Writes.{length-words_from, word_from}
 use Rattle.device_model.proofs.IndexLists.{front, word-count, word-slot, word-task, word-later, length-read_tasks, read_task_word}
 use Rattle.device_model.proofs.IndexReading.{AreSound, clock_in, next_in, count_in, none_in, some_in, slot_in, later_in, padding_in, id_in, program_in, all_read, in_order, positive}
-use Rattle.device_model.proofs.Tests.{lt-false, lt-true, nine}
+use Rattle.device_model.proofs.Tests.{nine}
 
 -- ---- the last finish
 
@@ -142,7 +142,7 @@ fault-same set v w i word h = ⊎_elim (λ p. small i p h) (λ p. ⊎_elim (slot
         (λ h. refl)
 
     slot : 9 ≤ i → i < 9 + length set.objects → is_faulty set v i word ≡ is_faulty set w i word
-    slot p q = rw (lt-false i 9 p, lt-true i (9 + length set.objects) q) refl
+    slot p q = rw (le-ltb i 9 p, lt-ltb i (9 + length set.objects) q) refl
 
     record_part : 9 ≤ i → 9 + length set.objects ≤ i → is_faulty set v i word ≡ is_faulty set w i word
-    record_part p q = rw (lt-false i 9 p, lt-false i (9 + length set.objects) q, h 8 (omega arith), h 2 (omega arith), h (i - 3) (omega arith)) refl
+    record_part p q = rw (le-ltb i 9 p, le-ltb i (9 + length set.objects) q, h 8 (omega arith), h 2 (omega arith), h (i - 3) (omega arith)) refl

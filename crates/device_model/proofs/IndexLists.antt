@@ -106,3 +106,7 @@ read_tasks-are w i (t ∷ tasks) h =
     let b : w (i + 1) ≡ t.program = h 1 (omega arith) in
     let c : w (i + 2) ≡ t.arg = h 2 (omega arith) in
     rw (a, b, c, read_tasks-are w (i + 3) tasks (λ k l. let e : i + 3 + k ≡ i + suc (suc (suc k)) = omega arith in ap w e ∙ h (suc (suc (suc k))) (omega arith))) refl
+
+pub word-next : (x : Index) → index_word x 2 ≡ x.next
+unfolding index_word
+word-next x = refl

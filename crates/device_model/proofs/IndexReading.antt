@@ -1,7 +1,7 @@
 -- An index is read as it was written, and words without a fault are those of the index that is read.
 use Rattle.std.proofs.Common.{◌≡◌, ◌≢◌, ℕ, zero, suc, ◌+◌, ◌-◌, ◌*◌, ◌/◌, ◌%◌, ◌<◌, ◌≤◌, Bool, false, not, cond, eqb, ◌||◌, ◌&&◌, nat_lt, nat_le, List, [], ◌∷◌, ◌++◌, length, Option, Some, None, arith, refl, ap, sym, ◌∙◌, subst}
 use Rattle.std.specs.List.{AllByRecursion}
-use Rattle.std.proofs.lemmas.Bool.{eq-eqb, ne_eqb}
+use Rattle.std.proofs.lemmas.Bool.{eq-eqb, ne_eqb, le-ltb, lt-ltb, lt-leb, le-leb, ltb-false, leb-false, eqb-false, or_parts}
 use Rattle.kernel_model.specs.Effects.{Outcome, Exit, Trap}
 use Rattle.kernel_model.specs.Items.{Entry}
 use Rattle.kernel_model.specs.Replay.{TaskRec}
@@ -12,8 +12,8 @@ use Rattle.set_model.specs.Numbers.{index_words}
 use Rattle.device_model.specs.Words.{Words, words_from}
 use Rattle.device_model.specs.IndexWords.{Index, base_of, index_word, task_words, trap_word, exit_word, outcome_of, is_faulty, is_faulty_record, read_index, read_last, read_tasks}
 use Rattle.device_model.proofs.Writes.{words_are}
-use Rattle.device_model.proofs.IndexLists.{front, word-count, word-slot, word-task, read_tasks-are}
-use Rattle.device_model.proofs.Tests.{lt-false, lt-true, le-true, le-false, from-lt_false, from-le_false, from-eq_false, from-not_eq, from-or_false}
+use Rattle.device_model.proofs.IndexLists.{front, word-count, word-slot, word-task, read_tasks-are, word-next}
+use Rattle.device_model.proofs.Tests.{from-not_eq}
 
 -- ---- what is written is read
 
@@ -60,13 +60,9 @@ word_1 : (x : Index) → index_word x 1 ≡ x.number
 unfolding index_word
 word_1 x = refl
 
-word_2 : (x : Index) → index_word x 2 ≡ x.next
-unfolding index_word
-word_2 x = refl
-
 index_told : (n : ℕ) (x : Index) (w : Words) → length x.slots ≡ n → read_last w ≡ x.last → ((i : ℕ) → i < 9 + n + 3 * length x.tasks → w i ≡ index_word x i) → read_index n w ≡ x
 unfolding read_index
-index_told n x w l h f = index_parts x (w 0) (w 1) (w 2) (read_last w) (words_from w 9 n) (read_tasks w (9 + n) (w 8)) (f 0 (omega arith) ∙ word_0 x) (f 1 (omega arith) ∙ word_1 x) (f 2 (omega arith) ∙ word_2 x) h
+index_told n x w l h f = index_parts x (w 0) (w 1) (w 2) (read_last w) (words_from w 9 n) (read_tasks w (9 + n) (w 8)) (f 0 (omega arith) ∙ word_0 x) (f 1 (omega arith) ∙ word_1 x) (f 2 (omega arith) ∙ word-next x) h
     (ap (words_from w 9) (sym l) ∙ words_are w 9 x.slots (λ i m. f (9 + i) (omega arith) ∙ word-slot x i m))
     (ap (read_tasks w (9 + n)) (f 8 (omega arith) ∙ word-count x) ∙ read_tasks-are w (9 + n) x.tasks (λ k m. f (9 + n + k) (omega arith) ∙ ap (λ (j : ℕ). index_word x (9 + j + k)) (sym l) ∙ word-task x k))
 
@@ -90,11 +86,11 @@ and_left trap word h z = from-not_eq word 0 (rw (ne_eqb trap 0 z) at h)
 
 pub clock_in : (set : TaskSet) (w : Words) (m : ℕ) → 9 ≤ m → AreSound set w m → w 0 ≤ w 1
 unfolding is_faulty
-clock_in set w m l h = from-lt_false (w 1) (w 0) (h 1 (omega arith))
+clock_in set w m l h = ltb-false (w 1) (w 0) (h 1 (omega arith))
 
 pub next_in : (set : TaskSet) (w : Words) (m : ℕ) → 9 ≤ m → AreSound set w m → 0 < w 2
 unfolding is_faulty
-next_in set w m l h = let n : w 2 ≢ 0 = from-eq_false (w 2) 0 (h 2 (omega arith)) in pos (w 2) n
+next_in set w m l h = let n : w 2 ≢ 0 = eqb-false (w 2) 0 (h 2 (omega arith)) in pos (w 2) n
   where
     pos : (a : ℕ) → a ≢ 0 → 0 < a
     pos zero f = absurd (f refl)
@@ -102,7 +98,7 @@ next_in set w m l h = let n : w 2 ≢ 0 = from-eq_false (w 2) 0 (h 2 (omega arit
 
 pub count_in : (set : TaskSet) (w : Words) (m : ℕ) → 9 ≤ m → AreSound set w m → w 8 ≤ set.records
 unfolding is_faulty
-count_in set w m l h = from-lt_false set.records (w 8) (h 8 (omega arith))
+count_in set w m l h = ltb-false set.records (w 8) (h 8 (omega arith))
 
 -- no finish: all five words are 0
 pub none_in : (set : TaskSet) (w : Words) (m : ℕ) → 9 ≤ m → AreSound set w m → w 1 ≡ 0 → (w 3 ≡ 0) × (w 4 ≡ 0) × (w 5 ≡ 0) × (w 6 ≡ 0) × (w 7 ≡ 0)
@@ -126,16 +122,16 @@ positive (suc a) f = omega arith
 pub some_in : (set : TaskSet) (w : Words) (m : ℕ) → 9 ≤ m → AreSound set w m → w 1 ≢ 0 → SomeIn w
 unfolding is_faulty
 some_in set w m l h z =
-    let three = from-or_false (eqb (w 3) 0) (nat_le (w 2) (w 3)) (by_some (w 1) (w 3) _ z (h 3 (omega arith))) in
-    let seven = from-or_false (nat_le (w 7) (w 3)) (nat_lt (w 2) (w 7) || nat_lt (w 7 + 8) (w 2)) (by_some (w 1) (w 7) _ z (h 7 (omega arith))) in
-    let rest = from-or_false (nat_lt (w 2) (w 7)) (nat_lt (w 7 + 8) (w 2)) seven.1 in
+    let three = or_parts (eqb (w 3) 0) (nat_le (w 2) (w 3)) (by_some (w 1) (w 3) _ z (h 3 (omega arith))) in
+    let seven = or_parts (nat_le (w 7) (w 3)) (nat_lt (w 2) (w 7) || nat_lt (w 7 + 8) (w 2)) (by_some (w 1) (w 7) _ z (h 7 (omega arith))) in
+    let rest = or_parts (nat_lt (w 2) (w 7)) (nat_lt (w 7 + 8) (w 2)) seven.1 in
     record {
-      task = positive (w 3) (from-eq_false (w 3) 0 three.0);
-      older = from-le_false (w 7) (w 3) seven.0;
-      first = from-lt_false (w 2) (w 7) rest.0;
-      children = from-lt_false (w 7 + 8) (w 2) rest.1;
-      point = from-lt_false (w 0) (w 4) (by_some (w 1) (w 4) _ z (h 4 (omega arith)));
-      trap = from-lt_false 15 (w 5) (by_some (w 1) (w 5) _ z (h 5 (omega arith)));
+      task = positive (w 3) (eqb-false (w 3) 0 three.0);
+      older = leb-false (w 7) (w 3) seven.0;
+      first = ltb-false (w 2) (w 7) rest.0;
+      children = ltb-false (w 7 + 8) (w 2) rest.1;
+      point = ltb-false (w 0) (w 4) (by_some (w 1) (w 4) _ z (h 4 (omega arith)));
+      trap = ltb-false 15 (w 5) (by_some (w 1) (w 5) _ z (h 5 (omega arith)));
       exit = and_left (w 5) (w 6) (by_some (w 1) (w 6) _ z (h 6 (omega arith)));
     }
 
@@ -144,7 +140,7 @@ unfolding is_faulty
 slot_in set w m l h o a = at (w (9 + o)) (h (9 + o) (omega arith))
   where
     at : (word : ℕ) → is_faulty set w (9 + o) word ≡ false → word < (object_at set o).slots
-    at word f = let e : 9 + o - 9 ≡ o = omega arith in from-le_false (object_at set o).slots word (rw (lt-false (9 + o) 9 (omega arith), lt-true (9 + o) (9 + length set.objects) (omega arith), e) at f)
+    at word f = let e : 9 + o - 9 ≡ o = omega arith in leb-false (object_at set o).slots word (rw (le-ltb (9 + o) 9 (omega arith), lt-ltb (9 + o) (9 + length set.objects) (omega arith), e) at f)
 
 -- word k of the records
 record_in : (set : TaskSet) (w : Words) (m : ℕ) → index_words set ≤ m → AreSound set w m → (k : ℕ) → k < 3 * set.records
@@ -155,38 +151,38 @@ record_in set w m l h k a = at (w (9 + length set.objects + k)) (h (9 + length s
     at : (word : ℕ) → is_faulty set w (9 + length set.objects + k) word ≡ false → is_faulty_record (w 8) (w 2) (w (9 + length set.objects + k - 3)) (length set.programs) k word ≡ false
     at word f =
         let e : 9 + length set.objects + k - (9 + length set.objects) ≡ k = omega arith in
-        rw (lt-false (9 + length set.objects + k) 9 (omega arith), lt-false (9 + length set.objects + k) (9 + length set.objects) (omega arith), lt-true (9 + length set.objects + k) (9 + length set.objects + 3 * set.records) (omega arith), e) at f
+        rw (le-ltb (9 + length set.objects + k) 9 (omega arith), le-ltb (9 + length set.objects + k) (9 + length set.objects) (omega arith), lt-ltb (9 + length set.objects + k) (9 + length set.objects + 3 * set.records) (omega arith), e) at f
 
 pub padding_in : (set : TaskSet) (w : Words) (m : ℕ) → AreSound set w m → (i : ℕ) → index_words set ≤ i → i < m → w i ≡ 0
 unfolding is_faulty
 padding_in set w m h i l a = at (w i) (h i a)
   where
     at : (word : ℕ) → is_faulty set w i word ≡ false → word ≡ 0
-    at word f = from-not_eq word 0 (rw (lt-false i 9 (omega arith), lt-false i (9 + length set.objects) (omega arith), lt-false i (9 + length set.objects + 3 * set.records) (omega arith)) at f)
+    at word f = from-not_eq word 0 (rw (le-ltb i 9 (omega arith), le-ltb i (9 + length set.objects) (omega arith), le-ltb i (9 + length set.objects + 3 * set.records) (omega arith)) at f)
 
 -- later records are 0
 pub later_in : (set : TaskSet) (w : Words) (m : ℕ) → index_words set ≤ m → AreSound set w m → (k : ℕ) → k < 3 * set.records → 3 * w 8 ≤ k → w (9 + length set.objects + k) ≡ 0
 later_in set w m l h k a b = at (w (9 + length set.objects + k)) (record_in set w m l h k a)
   where
     at : (word : ℕ) → is_faulty_record (w 8) (w 2) (w (9 + length set.objects + k - 3)) (length set.programs) k word ≡ false → word ≡ 0
-    at word f = from-not_eq word 0 (rw (le-true (w 8) (k / 3) (omega arith)) at f)
+    at word f = from-not_eq word 0 (rw (le-leb (w 8) (k / 3) (omega arith)) at f)
 
 -- the id and the program of task r
 id_test : (count next before programs k word r : ℕ) → k ≡ 3 * r → r < count → is_faulty_record count next before programs k word ≡ false → (0 < word) × (word < next) × (0 < r → before < word)
 id_test count next before programs k word r e l h =
     let field : k % 3 ≡ 0 = omega arith in
     let row : k / 3 ≡ r = omega arith in
-    let f : ((eqb word 0) || (nat_le next word || (nat_le 3 k && nat_le word before))) ≡ false = rw (row, le-false count r l, field) at h in
-    let both = from-or_false (eqb word 0) (nat_le next word || (nat_le 3 k && nat_le word before)) f in
-    let more = from-or_false (nat_le next word) (nat_le 3 k && nat_le word before) both.1 in
-    (positive word (from-eq_false word 0 both.0), from-le_false next word more.0, λ p. let g : nat_le word before ≡ false = rw (le-true 3 k (omega arith)) at (more.1) in from-le_false word before g)
+    let f : ((eqb word 0) || (nat_le next word || (nat_le 3 k && nat_le word before))) ≡ false = rw (row, lt-leb count r l, field) at h in
+    let both = or_parts (eqb word 0) (nat_le next word || (nat_le 3 k && nat_le word before)) f in
+    let more = or_parts (nat_le next word) (nat_le 3 k && nat_le word before) both.1 in
+    (positive word (eqb-false word 0 both.0), leb-false next word more.0, λ p. let g : nat_le word before ≡ false = rw (le-leb 3 k (omega arith)) at (more.1) in leb-false word before g)
 
 program_test : (count next before programs k word r : ℕ) → k ≡ 3 * r + 1 → r < count → is_faulty_record count next before programs k word ≡ false → word < programs
 program_test count next before programs k word r e l h =
     let field : k % 3 ≡ 1 = omega arith in
     let row : k / 3 ≡ r = omega arith in
-    let f : nat_le programs word ≡ false = rw (row, le-false count r l, field) at h in
-    from-le_false programs word f
+    let f : nat_le programs word ≡ false = rw (row, lt-leb count r l, field) at h in
+    leb-false programs word f
 
 pub id_in : (set : TaskSet) (w : Words) (m : ℕ) → index_words set ≤ m → AreSound set w m → (r : ℕ) → r < w 8 → (0 < w (9 + length set.objects + 3 * r)) × (w (9 + length set.objects + 3 * r) < w 2) × (0 < r → w (9 + length set.objects + 3 * r - 3) < w (9 + length set.objects + 3 * r))
 id_in set w m l h r a = id_test (w 8) (w 2) (w (9 + length set.objects + 3 * r - 3)) (length set.programs) (3 * r) (w (9 + length set.objects + 3 * r)) r refl a (record_in set w m l h (3 * r) (let c = count_in set w m (omega arith) h in omega arith))

@@ -1,6 +1,6 @@
 -- The images of commits and boots, one after another.
 use Rattle.std.proofs.Common.{◌≡◌, ◌≢◌, ℕ, zero, suc, ◌+◌, ◌-◌, ◌<◌, ◌≤◌, ⊎_elim, List, [], ◌∷◌, ◌++◌, length, slice_index, take, arith, refl, ap, sym, ◌∙◌}
-use Rattle.std.proofs.lemmas.Bool.{cases_lt}
+use Rattle.std.proofs.lemmas.Bool.{cases_lt, le-ltb, lt-ltb}
 use Rattle.std.proofs.lemmas.List.{length-take, take-append-le, take-take}
 use Rattle.std.proofs.Math.Seq.{take-append-add}
 use Rattle.set_model.specs.Sets.{TaskSet}
@@ -15,7 +15,6 @@ use Rattle.device_model.proofs.PlaceLaws.{slot_place-low}
 use Rattle.device_model.proofs.Writes.{made-append, with_word-other, with_word-same}
 use Rattle.device_model.proofs.Free.{header-root, in_page}
 use Rattle.device_model.proofs.Committed.{commit_prefix, commit_whole}
-use Rattle.device_model.proofs.Tests.{lt-false, lt-true}
 
 -- a boot counts, and leaves all else
 pub boot_whole : (set : TaskSet) (l : Layout) (h : Held) (words : Words) → IsLaidOut set l → KeepsIn set l h words → KeepsIn set l (booted h) (made (boot_writes h) words)
@@ -56,7 +55,7 @@ journal_image set l h (a ∷ acts) words k d n s = ⊎_elim cut (λ b. whole b (
     cut : k < length (act_writes l set h a) → KeepsIn set l (held_at l set h (a ∷ acts) k) (made (take k (journal l set h (a ∷ acts))) words)
     cut b =
         let e : take k (act_writes l set h a ++ journal l set (acted l set h a) acts) ≡ take k (act_writes l set h a) = take-append-le k (act_writes l set h a) (journal l set (acted l set h a) acts) (omega arith) in
-        rw (lt-true k (length (act_writes l set h a)) b, e) (act_prefix set l h a words k d n.0 s b)
+        rw (lt-ltb k (length (act_writes l set h a)) b, e) (act_prefix set l h a words k d n.0 s b)
 
     whole : length (act_writes l set h a) ≤ k → KeepsIn set l (held_at l set (acted l set h a) acts (k - length (act_writes l set h a))) (made (take (k - length (act_writes l set h a)) (journal l set (acted l set h a) acts)) (made (act_writes l set h a) words))
         → KeepsIn set l (held_at l set h (a ∷ acts) k) (made (take k (journal l set h (a ∷ acts))) words)
@@ -65,4 +64,4 @@ journal_image set l h (a ∷ acts) words k d n s = ⊎_elim cut (λ b. whole b (
         let is : k ≡ length (act_writes l set h a) + m = omega arith in
         let e : take k (act_writes l set h a ++ journal l set (acted l set h a) acts) ≡ act_writes l set h a ++ take m (journal l set (acted l set h a) acts) =
         ap (λ (j : ℕ). take j (act_writes l set h a ++ journal l set (acted l set h a) acts)) is ∙ take-append-add (act_writes l set h a) (journal l set (acted l set h a) acts) m in
-        rw (lt-false k (length (act_writes l set h a)) b, e, made-append (act_writes l set h a) (take m (journal l set (acted l set h a) acts)) words) rest
+        rw (le-ltb k (length (act_writes l set h a)) b, e, made-append (act_writes l set h a) (take m (journal l set (acted l set h a) acts)) words) rest

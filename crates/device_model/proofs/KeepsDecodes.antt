@@ -1,6 +1,6 @@
 -- Words that keep a state decode to it.
 use Rattle.std.proofs.Common.{◌≡◌, ◌≢◌, ℕ, zero, suc, ◌+◌, ◌-◌, ◌<◌, ◌≤◌, ⊎_elim, Bool, true, false, not, cond, eqb, List, [], ◌∷◌, length, slice_index, Some, None, arith, refl, ap, sym, ◌∙◌}
-use Rattle.std.proofs.lemmas.Bool.{cases_eq, cases_lt, eq-eqb, ne_eqb}
+use Rattle.std.proofs.lemmas.Bool.{cases_eq, cases_lt, eq-eqb, ne_eqb, le-ltb, lt-ltb}
 use Rattle.kernel_model.specs.Effects.{Objects, object_words}
 use Rattle.set_model.specs.Sets.{TaskSet, object_at}
 use Rattle.set_model.specs.Numbers.{first_index}
@@ -15,7 +15,7 @@ use Rattle.device_model.proofs.IndexLists.{read_index-same, word-count}
 use Rattle.device_model.proofs.IndexFaults.{index-holds}
 use Rattle.device_model.proofs.IndexReading.{read_back}
 use Rattle.device_model.proofs.IndexBack.{fault-same}
-use Rattle.device_model.proofs.Tests.{lt-false, lt-true, not_eq-false}
+use Rattle.device_model.proofs.Tests.{not_eq-false}
 
 -- ---- the first number at which a test holds
 
@@ -60,12 +60,12 @@ read-kept : (set : TaskSet) (l : Layout) (h : Held) (words : Words) → IsLaidOu
 read-kept set l h words d k j a = ⊎_elim head index (cases_lt j l.head_reads)
   where
     head : j < l.head_reads → is_faulty_read l set words j ≡ false
-    head b = rw (lt-true j l.head_reads b) (head-kept set l h words d k j b)
+    head b = rw (lt-ltb j l.head_reads b) (head-kept set l h words d k j b)
 
     index : l.head_reads ≤ j → is_faulty_read l set words j ≡ false
     index b =
         let i : ℕ = j - l.head_reads in
-        rw (lt-false j l.head_reads b) (fault-same set (index_in l words) (index_word h.index) i (index_in l words i) (λ m q. index-kept set l h words k m (omega arith))
+        rw (le-ltb j l.head_reads b) (fault-same set (index_in l words) (index_word h.index) i (index_in l words i) (λ m q. index-kept set l h words k m (omega arith))
         ∙ ap (is_faulty set (index_word h.index) i) (index-kept set l h words k i (omega arith)) ∙ index-holds set h.index k.held.index i)
 
 -- ---- the state that is read

@@ -1,11 +1,10 @@
 -- Format 1, place by place.
 use Rattle.std.proofs.Common.{◌≡◌, ℕ, ◌+◌, ◌-◌, ◌*◌, ◌/◌, ◌%◌, ◌<◌, ⊎_elim, arith, refl, ap, sym, ◌∙◌}
-use Rattle.std.proofs.lemmas.Bool.{cases_eq, eq-eqb, ne_eqb}
+use Rattle.std.proofs.lemmas.Bool.{cases_eq, eq-eqb, ne_eqb, le-ltb, lt-ltb}
 use Rattle.std.proofs.lemmas.Nat.{div-mul-add, mod-mul-add}
 use Rattle.set_model.specs.Sets.{TaskSet}
 use Rattle.set_model.specs.Numbers.{boot_turns, first_index, index_words, words_needed}
 use Rattle.device_model.specs.Layouts.{Layout, Plain, boot_turns_of, index_place, layout_of, need, read_place}
-use Rattle.device_model.proofs.Tests.{lt-false, lt-true}
 
 one_page : (l : Layout) (root i : ℕ) → i < l.page_words → index_place l root i ≡ l.pages_at + l.copy root 0 * l.page_words + i
 one_page l root i a =
@@ -28,9 +27,9 @@ plain_need set = (omega arith, omega arith)
 
 -- words are read in order of place up to the index
 pub plain_head : (set : TaskSet) (root j : ℕ) → j < first_index set → read_place (layout_of Plain set) root j ≡ j
-plain_head set root j a = rw (lt-true j (first_index set) a) (⊎_elim (λ e. rw (eq-eqb j 1 e) (sym e)) (λ n. rw (ne_eqb j 1 n) refl) (cases_eq j 1))
+plain_head set root j a = rw (lt-ltb j (first_index set) a) (⊎_elim (λ e. rw (eq-eqb j 1 e) (sym e)) (λ n. rw (ne_eqb j 1 n) refl) (cases_eq j 1))
 
 pub plain_index : (set : TaskSet) (root i : ℕ) → i < index_words set → read_place (layout_of Plain set) root (first_index set + i) ≡ first_index set + (root - 1) * index_words set + i
 plain_index set root i a =
     let e : first_index set + i - first_index set ≡ i = omega arith in
-    rw (lt-false (first_index set + i) (first_index set) (omega arith), e) (plain_copy set root i a)
+    rw (le-ltb (first_index set + i) (first_index set) (omega arith), e) (plain_copy set root i a)

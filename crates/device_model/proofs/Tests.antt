@@ -3,39 +3,11 @@ use Rattle.std.proofs.Common.{◌≡◌, ◌≢◌, ℕ, zero, suc, ◌<◌, ◌
 use Rattle.std.proofs.lemmas.Bool.Decides.{nat_tests}
 use Rattle.std.proofs.lemmas.Bool.{cases_eq, eq-eqb, ne_eqb}
 
-pub lt-false : (a b : ℕ) → b ≤ a → nat_lt a b ≡ false
-lt-false a b h = grind (arith, nat_tests)
-
-pub lt-true : (a b : ℕ) → a < b → nat_lt a b ≡ true
-lt-true a b h = grind (arith, nat_tests)
-
-pub le-false : (a b : ℕ) → b < a → nat_le a b ≡ false
-le-false a b h = grind (arith, nat_tests)
-
-pub le-true : (a b : ℕ) → a ≤ b → nat_le a b ≡ true
-le-true a b h = grind (arith, nat_tests)
-
-pub from-lt_false : (a b : ℕ) → nat_lt a b ≡ false → b ≤ a
-from-lt_false a b h = grind (arith, nat_tests)
-
-pub from-le_false : (a b : ℕ) → nat_le a b ≡ false → b < a
-from-le_false a b h = grind (arith, nat_tests)
-
-pub from-eq_false : (a b : ℕ) → eqb a b ≡ false → a ≢ b
-from-eq_false a b h e = let f : true ≡ false = sym (eq-eqb a b e) ∙ h in cc f
-
 pub from-not_eq : (a b : ℕ) → not (eqb a b) ≡ false → a ≡ b
 from-not_eq a b h = ⊎_elim (λ e. e) (λ n. let f : true ≡ false = sym (ap not (ne_eqb a b n)) ∙ h in cc f) (cases_eq a b)
 
 pub not_eq-false : (a b : ℕ) → a ≡ b → not (eqb a b) ≡ false
 not_eq-false a b e = ap not (eq-eqb a b e)
-
-pub or-false : (a b : Bool) → a ≡ false → b ≡ false → (a || b) ≡ false
-or-false a b p q = rw (p, q) refl
-
-pub from-or_false : (a b : Bool) → (a || b) ≡ false → (a ≡ false) × (b ≡ false)
-from-or_false true b h = absurd (cc h)
-from-or_false false b h = (refl, h)
 
 -- one of the first nine
 pub nine : (P : ℕ → Type 0) → P 0 → P 1 → P 2 → P 3 → P 4 → P 5 → P 6 → P 7 → P 8 → (i : ℕ) → i < 9 → P i

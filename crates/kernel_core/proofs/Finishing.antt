@@ -25,7 +25,7 @@ use Rattle.kernel_model.specs.Room.{without_room}
 use Rattle.kernel_model.specs.Events.{On, State, after_turn}
 use Rattle.kernel_model.specs.Durable.{state_left}
 use Rattle.kernel_model.specs.Fit.{IsSizes}
-use Rattle.kernel_model.proofs.AloneLaws.{room_alone}
+use Rattle.kernel_model.proofs.ForCallers.{room_alone}
 use Rattle.set_model.specs.Sets.{TaskSet, object_at}
 use Rattle.set_model.specs.Numbers.{index_words, sizes_of}
 use Rattle.set_model.specs.Formatted.{formatted}

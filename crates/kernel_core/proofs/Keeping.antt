@@ -4,7 +4,7 @@ use Rattle.std.specs.List.{AllByRecursion}
 use Rattle.std.proofs.lemmas.Bool.{eqb-true}
 use Rattle.std.proofs.lemmas.List.{length-map}
 use Rattle.object_sets.specs.ObjectSets.{AreBelow, IsIncreasing, is_among, with_object}
-use Rattle.object_sets.proofs.Insertion.{with_object-all}
+use Rattle.object_sets.proofs.Insertion.{with_object-all, with_object-increasing}
 use Rattle.rv_core.specs.State.{MachineState}
 use Rattle.rv_core.specs.Machine.{first_state, words_at}
 use Rattle.nv_base.specs.declared.limits.TheConstants.{MAX_RECORDS}
@@ -13,11 +13,11 @@ use Rattle.nv_base.specs.declared.lines.Outcome.{Outcome}
 use Rattle.nv_base.specs.declared.lines.Outcome.TheVariants as outcome
 use Rattle.nv_base.specs.declared.lines.TaskRec as base_task
 use Rattle.nv_base.specs.declared.ids.TaskId.{TaskId}
-use Rattle.kernel_model.proofs.RunFacts.{with_object-increasing}
 use Rattle.kernel_model.specs.Effects.{Objects, Spawn, Write, put, object_words, written}
 use Rattle.kernel_model.specs.Replay.{DeviceState, TaskRec}
 use Rattle.kernel_model.specs.OpenTasks.{children, others_than}
 use Rattle.kernel_model.specs.Fit.{IsSizes}
+use Rattle.kernel_model.proofs.ForCallers.{length-put_from}
 use Rattle.set_model.specs.Sets.{ObjPart, TaskSet, object_at, program_at}
 use Rattle.set_model.specs.Limits.{IsObject, IsTask, IsTaskSet}
 use Rattle.set_model.specs.Numbers.{sizes_of}
@@ -28,7 +28,7 @@ use Rattle.set_model.proofs.LimitFacts.{few_records}
 use Rattle.task_model.specs.Shape.{HasShape}
 use Rattle.task_model.proofs.MachineFacts.{length-words_at}
 use Rattle.task_model.proofs.Shapes.{shape-set}
-use Rattle.task_model.proofs.WriteFacts.{length-put_from, seen}
+use Rattle.task_model.proofs.WriteFacts.{seen}
 use Rattle.kernel_core.specs.Shapes.{AreWritten, behind, state_after}
 use Rattle.kernel_core.specs.Wants.{Awaits, received, rewritten_wanted, seen_in, with_rewritten}
 use Rattle.kernel_core.specs.Invariant.{IsGranted, IsGrantedUntil, IsHeld, IsValid, IsValidIn}

@@ -5,11 +5,8 @@ use Rattle.kernel_model.specs.Items.{FinishRecord}
 use Rattle.kernel_model.specs.Replay.{DeviceState, after_history, clock_of, tables_of}
 use Rattle.kernel_model.specs.Versions.{Read, Version, chosen, read_words, version_read, versions, words_in}
 use Rattle.kernel_model.specs.Intervals.{Interval, finish_interval, last_touch, raised_for, read_interval, sooner, within}
-use Rattle.kernel_model.proofs.AloneLaws.{newest, newest-found}
-use Rattle.kernel_model.proofs.ChainLaws.{chosen_exists}
-use Rattle.kernel_model.proofs.Points.{last_touch-clock}
-use Rattle.kernel_model.proofs.VersionLaws.{tops}
-use Rattle.task_model.proofs.WriteFacts.{length-put_from, seen}
+use Rattle.kernel_model.proofs.ForCallers.{chosen_exists, last_touch-clock, length-put_from, newest, newest-found, newest_words, tops}
+use Rattle.task_model.proofs.WriteFacts.{seen}
 
 -- as many objects as at first
 pub length-objects : (base : DeviceState) (history : List FinishRecord) → length (after_history history (tables_of base)).objects ≡ length base.objects
@@ -19,25 +16,10 @@ length-objects base (i ∷ history) = length-put_from 0 i.run.writes (after_hist
 pub has_newest : (base : DeviceState) (history : List FinishRecord) (o : ℕ) → (v : Version) × (chosen None (versions base o history) ≡ Some v)
 has_newest base history o = chosen_exists base o history None None tt
 
--- the newest version has the words that all finishes leave
-pub newest-words : (base : DeviceState) (o : ℕ) → o < length base.objects → (history : List FinishRecord) (v : Version) → chosen None (versions base o history) ≡ Some v → v.words ≡ object_words (after_history history (tables_of base)).objects o
-newest-words base o h [] v e = let same : record { writer = base.number; begin = base.clock; end = None; words = object_words base.objects o } ≡ v = cc in ap (λ (x : Version). x.words) (sym same)
-newest-words base o h (i ∷ history) v e = go (written i.run.writes o) refl e (newest-words base o h history v)
-  where
-    objects : Objects
-    objects = (after_history history (tables_of base)).objects
-
-    put_in : (w : Option (List ℕ)) → written i.run.writes o ≡ w → object_words (put i.run.writes objects) o ≡ unwrap_or w (object_words objects o)
-    put_in w f = let l : length objects ≡ length base.objects = length-objects base history in seen i.run.writes objects o (omega (arith, h, l)) ∙ ap (λ x. unwrap_or x (object_words objects o)) f
-
-    go : (w : Option (List ℕ)) → written i.run.writes o ≡ w → chosen None (tops None base o i history w) ≡ Some v → (chosen None (versions base o history) ≡ Some v → v.words ≡ object_words objects o) → v.words ≡ object_words (put i.run.writes objects) o
-    go None f g rest = rest g ∙ sym (put_in None f)
-    go (Some words) f g rest = let same : record { writer = i.number; begin = i.point; end = None; words = words } ≡ v = cc in ap (λ (x : Version). x.words) (sym same) ∙ sym (put_in (Some words) f)
-
 -- the read of a newest version gives its words
 pub newest_read : (base : DeviceState) (history : List FinishRecord) (o : ℕ) (v : Version) → chosen None (versions base o history) ≡ Some v → o < length base.objects → (objects : Objects) → (after_history history (tables_of base)).objects ≡ objects
     → (let r : Read = record { object = o; writer = v.writer } in read_words base history r ≡ object_words objects o)
-newest_read base history o v e h objects same = ap words_in (newest-found (versions base o history) v e) ∙ newest-words base o h history v e ∙ ap (λ m. object_words m o) same
+newest_read base history o v e h objects same = ap words_in (newest-found (versions base o history) v e) ∙ newest_words base o h history v e ∙ ap (λ m. object_words m o) same
 
 -- and leaves the interval as it is
 pub interval_more : (base : DeviceState) (history : List FinishRecord) (o lo : ℕ) (v : Version) (i : Interval) → chosen None (versions base o history) ≡ Some v → clock_of base history ≡ lo → i ≡ record { lo = lo; hi = None }

@@ -5,8 +5,8 @@ use Rattle.std.proofs.lemmas.List.{ext_get_or, length-map, length-set, take_more
 use Rattle.std.proofs.lemmas.Bool.{eqb-true, eqb-false}
 use Rattle.object_sets.specs.ObjectSets.{is_among, with_object, IsIncreasing}
 use Rattle.kernel_model.specs.Effects.{Objects, Write, put, with_write, object_words, written}
-use Rattle.kernel_model.proofs.RunFacts.{written-with_write}
-use Rattle.task_model.proofs.WriteFacts.{length-put_from, objects_in-with_write, seen}
+use Rattle.kernel_model.proofs.ForCallers.{length-put_from, written-with_write}
+use Rattle.task_model.proofs.WriteFacts.{objects_in-with_write, seen}
 use Rattle.set_model.specs.Sets.{ObjPart, TaskSet, object_at}
 use Rattle.kernel_core.specs.Shapes.{AreWritten}
 

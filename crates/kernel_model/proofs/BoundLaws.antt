@@ -1,5 +1,5 @@
 -- The bounds of objects.
-use Rattle.std.proofs.Common.{◌≡◌, ℕ, ◌≤◌, Bool, true, false, cond, max, List, [], ◌∷◌, get_or, Option, Some, None, refl, ap, ◌∙◌, subst, arith}
+use Rattle.std.proofs.Common.{◌≡◌, ℕ, ◌≤◌, Bool, true, false, cond, max, List, [], ◌∷◌, get_or, Option, Some, None, refl, ap, ◌∙◌, subst, arith, ap₂}
 use Rattle.std.specs.List.{AllByRecursion}
 use Rattle.kernel_model.specs.Effects.{Outcome, Run, Write, written}
 use Rattle.kernel_model.specs.Items.{FinishRecord}
@@ -72,3 +72,8 @@ commit_above {M} world s floor k left o i words h f e w =
     let core : IsSoundCore world s.history (Committing i left) = subst (IsSoundCore world s.history) e (h.cores k) in
     let from : floor ≤ i.point = subst (StartsFrom floor) e (f.starts k) in
     omega (arith, from, touch-follows i s.history o words w core.0.ordered.0)
+
+-- bounds that are equal for what is written raise alike
+pub raised_same : (f g : ℕ → ℕ) (ws : List Write) (i : Interval) → AllByRecursion (λ w. f w.object ≡ g w.object) ws → raised_by f ws i ≡ raised_by g ws i
+raised_same f g [] i h = refl
+raised_same f g (w ∷ ws) i h = ap₂ (λ (b : ℕ) (j : Interval). let k : Interval = record { lo = max b j.lo; hi = j.hi } in k) h.0 (raised_same f g ws i h.1)

@@ -11,7 +11,7 @@ use Rattle.kernel_model.specs.Intervals.{Interval, finish_interval, is_empty, re
 use Rattle.kernel_model.specs.OpenTasks.{open_tasks}
 use Rattle.kernel_model.specs.Cores.{Idle, all_but, next_task}
 use Rattle.kernel_model.specs.Room.{is_needed, is_needed_by, meet, without_room}
-use Rattle.kernel_model.specs.Verdicts.{finish_of, Empty, Granted, Records, Slots, has_records, room_verdict}
+use Rattle.kernel_model.specs.Verdicts.{finish_of, Empty, Granted, Records, Slots, has_records, room_verdict, verdict, Verdict}
 use Rattle.kernel_model.specs.Live.{Answer, Dark, IsStale, Limit, CallState, Lost, Mark, Refused, added_by, attempt_of, begin_answer, begin_call, core_of, cores_of, fetch_answer, fetch_call, finish_answer, finish_call, marked}
 use Rattle.kernel_model.specs.Events.{with_finish}
 use Rattle.kernel_model.specs.History.{IsHistory, IsNumbered, IsTimely}
@@ -141,39 +141,29 @@ finish_needs whole sizes base s h n m run device o v = by_loss s.loss
     by_loss (Some losses) = gone (Dark losses) s.loss
     by_loss None = by_empty (is_empty i) (without_room sizes base s.history (cores_of (all_but n s.marks)) run.writes)
 
+-- what a finish leaves of the history and of the marks
+pub finish_leaves : (sizes : Sizes) (base : DeviceState) (s : CallState) (n : ℕ) (m : Mark) (run : Run) (device : Option ℕ) →
+    (let a : CallState × Answer = finish_call sizes base s n m run s.loss device in (a.0.history ≡ with_finish (added_by a.1) s.history) × (a.0.marks ≡ set s.marks n None))
+finish_leaves sizes base s n m run device = by s.loss
+  where
+    Says : CallState × Answer → Type 0
+    Says a = (a.0.history ≡ with_finish (added_by a.1) s.history) × (a.0.marks ≡ set s.marks n None)
+
+    at : (v : Verdict) (device : Option ℕ) → Says (finish_answer s n v device)
+    at (Granted i) (Some losses) = (refl, refl)
+    at (Granted i) None = (refl, refl)
+    at (Empty lo hi) device = (refl, refl)
+    at (Slots o) device = (refl, refl)
+    at (Records pending spawns) device = (refl, refl)
+
+    by : (loss : Option ℕ) → Says (finish_call sizes base s n m run loss device)
+    by (Some losses) = (refl, refl)
+    by None = at (verdict sizes base s.history (cores_of (all_but n s.marks)) (attempt_of m) run) device
+
 -- the history after a finish
 pub finish_history : (sizes : Sizes) (base : DeviceState) (s : CallState) (n : ℕ) (m : Mark) (run : Run) (device : Option ℕ) →
     (finish_call sizes base s n m run s.loss device).0.history ≡ with_finish (added_by (finish_call sizes base s n m run s.loss device).1) s.history
-finish_history sizes base s n m run device = by_loss s.loss
-  where
-    item : FinishRecord
-    item = finish_of base s.history m.task m.start m.reads run
-
-    i : Interval
-    i = finish_interval base s.history m.start m.reads run
-
-    Says : CallState × Answer → Type 0
-    Says a = a.0.history ≡ with_finish (added_by a.1) s.history
-
-    granted : (device : Option ℕ) → Says (finish_answer s n (Granted item) device)
-    granted (Some losses) = refl
-    granted None = refl
-
-    by_records : (b : Bool) → Says (finish_answer s n (cond b (Granted item) (Records (length (open_tasks base s.history)) (length run.spawns))) device)
-    by_records true = granted device
-    by_records false = refl
-
-    by_room : (x : Option ℕ) → Says (finish_answer s n (room_verdict sizes base s.history (attempt_of m) run x) device)
-    by_room (Some x) = refl
-    by_room None = by_records (has_records sizes base s.history run.spawns)
-
-    by_empty : (b : Bool) (x : Option ℕ) → Says (finish_answer s n (cond b (Empty i.lo (unwrap_or i.hi 0)) (room_verdict sizes base s.history (attempt_of m) run x)) device)
-    by_empty true x = refl
-    by_empty false x = by_room x
-
-    by_loss : (loss : Option ℕ) → Says (finish_call sizes base s n m run loss device)
-    by_loss (Some losses) = refl
-    by_loss None = by_empty (is_empty i) (without_room sizes base s.history (cores_of (all_but n s.marks)) run.writes)
+finish_history sizes base s n m run device = (finish_leaves sizes base s n m run device).0
 
 -- the base's version alone is a chain, at first
 pub base_chain : (base : DeviceState) (o : ℕ) (needed : Version → Bool) → IsChain base.clock needed (versions base o []) (versions base o [])

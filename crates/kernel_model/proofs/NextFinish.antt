@@ -14,7 +14,7 @@ use Rattle.kernel_model.specs.Fit.{HasOldTasks}
 use Rattle.kernel_model.specs.History.{IsNumbered}
 use Rattle.kernel_model.proofs.Growth.{task_under-open}
 use Rattle.kernel_model.proofs.Joining.{joined_listings}
-use Rattle.kernel_model.proofs.OpenLaws.{open_order}
+use Rattle.kernel_model.proofs.OpenLaws.{open_order, next-base}
 use Rattle.kernel_model.proofs.Order.{serial_order-all}
 
 pub none_serial : (whole : Programs) (base : DeviceState) → InIdOrder base.tasks → Serial whole base [] base
@@ -66,10 +66,6 @@ firsts-below : (base : DeviceState) (history : List FinishRecord) → AreNumbere
 firsts-below base [] h = tt
 firsts-below base (i ∷ history) h = (omega (arith, h.1), more (next_id base history) (next_id base (i ∷ history)) history (omega arith) (firsts-below base history h.2))
 
-next-up : (base : DeviceState) (history : List FinishRecord) → base.next ≤ next_id base history
-next-up base [] = omega arith
-next-up base (i ∷ history) = omega (arith, next-up base history)
-
 -- old tasks are under ids below the next one, and back
 under-old : (n : ℕ) (tasks : List TaskRec) → AllByRecursion (λ t. t.id < n) tasks → (id : ℕ) (x : Spawn) → task_under tasks id ≡ Some x → id < n
 under-old n [] h id x e = absurd (cc e)
@@ -100,7 +96,7 @@ serial_old whole base f entries old s = subst (λ n. AllByRecursion (λ t. t.id 
     firsts = serial_order-all (λ i. i.first + length i.run.spawns ≤ n) s.history (firsts-below base s.history s.numbered)
 
     all : IsBelow n (after_all (serial_order s.history) (tables_of base))
-    all = all-below n (serial_order s.history) (tables_of base) firsts (λ id x e. omega (arith, under-old base.next base.tasks old id x e, next-up base s.history))
+    all = all-below n (serial_order s.history) (tables_of base) firsts (λ id x e. omega (arith, under-old base.next base.tasks old id x e, next-base base s.history))
 
 -- one finish alone
 one_serial : (whole : Programs) (f : DeviceState) (i : FinishRecord) → HasOldTasks f → InIdOrder f.tasks → IsRunOn whole i (tables_of f) → i.number ≡ f.number + 1 → i.first ≡ f.next → f.next + length i.run.spawns ≤ max_id →

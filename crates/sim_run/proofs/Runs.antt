@@ -11,8 +11,7 @@ use Rattle.kernel_model.specs.Turns.{Line}
 use Rattle.kernel_model.specs.Events.{CoreStep, Event, Fail, State, event_step, lines_of}
 use Rattle.kernel_model.specs.Durable.{listed, state_left}
 use Rattle.kernel_model.specs.Report.{found_lines, unprinted}
-use Rattle.kernel_model.proofs.FirstEvents.{one_more}
-use Rattle.kernel_model.proofs.Reached.{lines_of-append}
+use Rattle.kernel_model.proofs.ForCallers.{lines_of-append, one_more}
 use Rattle.schedule_model.specs.Parts.{cores_stepped, failure_count}
 use Rattle.set_model.specs.Sets.{TaskSet}
 use Rattle.set_model.specs.Formatted.{formatted}

@@ -8,7 +8,7 @@ use Rattle.kernel_model.specs.Replay.{DeviceState}
 use Rattle.kernel_model.specs.Worlds.{World}
 use Rattle.kernel_model.specs.Versions.{Version, chosen, versions}
 use Rattle.kernel_model.specs.Chain.{IsChain}
-use Rattle.kernel_model.proofs.ChainLaws.{chosen_exists}
+use Rattle.kernel_model.proofs.ForCallers.{chosen_exists}
 use Rattle.kernel_model.specs.Cores.{Committing, Copying, Core, Idle, Ready, Running, all_but}
 use Rattle.kernel_model.specs.Turns.{commit_writes, core_turn}
 use Rattle.kernel_model.specs.Events.{Boot, CoreStep, On, State, acting_on, event_step}

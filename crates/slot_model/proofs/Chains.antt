@@ -6,7 +6,7 @@ use Rattle.std.proofs.lemmas.Bool.{eqb-true, eqb-false, ne_eqb, or_right}
 use Rattle.kernel_model.specs.Items.{FinishRecord}
 use Rattle.kernel_model.specs.Versions.{Version, chosen, older}
 use Rattle.kernel_model.specs.Chain.{IsChain, IsPart, floored, with_version}
-use Rattle.kernel_model.proofs.ChainLaws.{chain-less}
+use Rattle.kernel_model.proofs.ForCallers.{chain-less}
 use Rattle.slot_model.specs.Kept.{Held, AreApart, must_stand, newest_alone, versions_in, with_held, without_slot}
 use Rattle.slot_model.specs.Standing.{AreStanding, IsSpare}
 

@@ -12,7 +12,7 @@ use Rattle.kernel_model.specs.Events.{State, durable_commit}
 use Rattle.kernel_model.specs.Fit.{IsWrite}
 use Rattle.kernel_model.specs.Live.{CallState, Mark, core_of, cores_of}
 use Rattle.kernel_model.specs.LiveSound.{IsLiveState}
-use Rattle.kernel_model.proofs.CoreLaws.{durable_commit-idle}
+use Rattle.kernel_model.proofs.ForCallers.{core_at_marks, durable_commit-idle}
 use Rattle.slot_model.specs.Slots.{Image}
 use Rattle.slot_model.specs.Kept.{Held, Kept, chosen_held, newest_alone, newest_slot, slot_in}
 use Rattle.slot_model.specs.Places.{free_slot}
@@ -23,7 +23,7 @@ use Rattle.slot_model.specs.Marks.{mark_view}
 use Rattle.slot_model.specs.LiveStanding.{LiveStands}
 use Rattle.slot_model.proofs.Going.{views_all}
 use Rattle.slot_model.proofs.LiveCalls.{Caller}
-use Rattle.slot_model.proofs.LiveCores.{cores_length, cores_set, core_of_mark}
+use Rattle.slot_model.proofs.LiveCores.{cores_length, cores_set}
 use Rattle.slot_model.proofs.Tables.{choose_places}
 use Rattle.slot_model.proofs.Views.{free_at}
 
@@ -89,7 +89,7 @@ target_listed sizes (w ∷ ws) made r = go (target_listed sizes ws (made - sizes
 pub callers_views : (base : DeviceState) (history : List FinishRecord) (pins : ℕ → ℕ) (views : ℕ → Option View) (marks : List (Option Mark)) (n : ℕ) → ((k : ℕ) → views k ≡ mark_view base history (get_or marks k None)) →
     others_views views n 0 (length marks) ≡ views_of base history pins 0 (cores_of (set marks n None))
 callers_views base history pins views marks n h =
-    ap (others_views views n 0) (sym (cores_length marks)) ∙ views_all base history pins views (cores_of marks) n (λ k. h k ∙ at k (get_or marks k None) ∙ ap (view_of base history (pins k)) (sym (core_of_mark marks k)))
+    ap (others_views views n 0) (sym (cores_length marks)) ∙ views_all base history pins views (cores_of marks) n (λ k. h k ∙ at k (get_or marks k None) ∙ ap (view_of base history (pins k)) (sym (core_at_marks marks k)))
     ∙ ap (views_of base history pins 0) (cores_set marks n None)
   where
     at : (k : ℕ) (m : Option Mark) → mark_view base history m ≡ view_of base history (pins k) (core_of m)

@@ -15,9 +15,7 @@ use Rattle.kernel_model.specs.Sound.{IsSoundCore}
 use Rattle.kernel_model.specs.Chain.{joining}
 use Rattle.kernel_model.specs.Live.{CallState, Mark}
 use Rattle.kernel_model.specs.LiveSound.{IsMarkedIf}
-use Rattle.kernel_model.proofs.ChainLaws.{history-joined}
-use Rattle.kernel_model.proofs.Growth.{reads_kept}
-use Rattle.kernel_model.proofs.StepLaws.{next_sound}
+use Rattle.kernel_model.proofs.ForCallers.{history-joined, next_sound, reads_kept}
 use Rattle.slot_model.specs.Slots.{Image}
 use Rattle.slot_model.specs.Kept.{Kept}
 use Rattle.slot_model.specs.Tabled.{reads_of}

@@ -11,22 +11,13 @@ use Rattle.kernel_model.specs.Events.{Boot, CoreStep, Event, Fail, On, Power, St
 use Rattle.kernel_model.specs.Fit.{IsSetUp}
 use Rattle.kernel_model.specs.Sound.{IsSound, IsSoundCore}
 use Rattle.kernel_model.specs.Chain.{IsFloor, joining}
-use Rattle.kernel_model.proofs.ChainLaws.{chain_kept, chain_of_one, floor_kept, floor_of_idle}
-use Rattle.kernel_model.proofs.CoreLaws.{finishes, get_or-idle}
-use Rattle.kernel_model.proofs.NeededLaws.{never_needed_again}
-use Rattle.kernel_model.proofs.Ordered.{lawful_of}
-use Rattle.kernel_model.proofs.ReportLaws.{durable_commit-found}
-use Rattle.kernel_model.proofs.RoomLaws.{older-ended}
-use Rattle.kernel_model.proofs.RunFacts.{base-sized, history-runs}
-use Rattle.kernel_model.proofs.StepLaws.{next_sound}
-use Rattle.kernel_model.proofs.VersionLaws.{EndsBy}
+use Rattle.kernel_model.proofs.ForCallers.{EndsBy, base-sized, chain_kept, chain_of_one, durable_commit-found, finishes, floor_kept, floor_of_idle, get_or-idle, history-runs, lawful_of, never_needed_again, next_sound, older-ended, sound-from}
 use Rattle.slot_model.specs.Slots.{Image}
 use Rattle.slot_model.specs.Kept.{Kept}
 use Rattle.slot_model.specs.Store.{image_turn}
 use Rattle.slot_model.specs.Changes.{floor_after, image_after, kept_after, kept_step, with_finished}
 use Rattle.slot_model.specs.Standing.{IsLawful, IsServed, IsUnderWay, StandsFor}
 use Rattle.slot_model.proofs.Chains.{standing_alone}
-use Rattle.slot_model.proofs.Floors.{sound-from}
 use Rattle.slot_model.proofs.Nexts.{IsGiven, IsNext, newest_of, objects_next, written_given}
 use Rattle.slot_model.proofs.Rooms.{HaveEnded}
 use Rattle.slot_model.proofs.Steps.{AreRuns, turned}

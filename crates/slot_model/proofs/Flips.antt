@@ -13,8 +13,7 @@ use Rattle.kernel_model.specs.Durable.{flipped_by, flipped_core}
 use Rattle.kernel_model.specs.History.{AreFound}
 use Rattle.kernel_model.specs.Sound.{IsSoundCore}
 use Rattle.kernel_model.specs.Chain.{cut}
-use Rattle.kernel_model.proofs.CoreLaws.{durable_commit-none, no_commit}
-use Rattle.kernel_model.proofs.Ordered.{lawful_of}
+use Rattle.kernel_model.proofs.ForCallers.{durable_commit-none, lawful_of, no_commit}
 use Rattle.slot_model.specs.Kept.{Kept, newest_slot, with_held}
 use Rattle.slot_model.specs.Changes.{kept_after, named_slot, with_finished}
 use Rattle.slot_model.specs.Tabled.{is_written_read}

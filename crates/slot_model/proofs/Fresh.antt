@@ -14,9 +14,7 @@ use Rattle.kernel_model.specs.Durable.{listed, state_left}
 use Rattle.kernel_model.specs.Bounds.{with_touch}
 use Rattle.kernel_model.specs.Sound.{IsQuiet}
 use Rattle.kernel_model.specs.Chain.{IsChain, floored}
-use Rattle.kernel_model.proofs.BoundLaws.{bound_at_clock, bound_raised}
-use Rattle.kernel_model.proofs.ChainLaws.{chain_of_one, chosen_exists, floor_of_idle}
-use Rattle.kernel_model.proofs.CoreLaws.{durable_commit-idle}
+use Rattle.kernel_model.proofs.ForCallers.{bound_at_clock, bound_raised, chain_of_one, chosen_exists, durable_commit-idle, floor_of_idle}
 use Rattle.slot_model.specs.Slots.{Image}
 use Rattle.slot_model.specs.Kept.{Held, Kept, newest_alone, newest_slot, versions_in, with_held}
 use Rattle.slot_model.specs.Changes.{afresh, named_slot, with_finished}

@@ -18,11 +18,7 @@ use Rattle.kernel_model.specs.Sound.{IsSound, IsSoundCore}
 use Rattle.kernel_model.specs.Chain.{cut, joining}
 use Rattle.kernel_model.specs.Live.{CallState, Mark, core_of}
 use Rattle.kernel_model.specs.LiveSound.{IsLiveState, IsMarkedIf}
-use Rattle.kernel_model.proofs.ChainLaws.{chosen_exists}
-use Rattle.kernel_model.proofs.CutLaws.{read_finds}
-use Rattle.kernel_model.proofs.Ordered.{lawful_of}
-use Rattle.kernel_model.proofs.RunFacts.{next_id-bound}
-use Rattle.kernel_model.proofs.StepLaws.{history-step, next_sound, sound-ids}
+use Rattle.kernel_model.proofs.ForCallers.{chosen_exists, core_at_marks, history-step, lawful_of, next_id-bound, next_sound, read_finds, sound-ids}
 use Rattle.slot_model.specs.Slots.{Image}
 use Rattle.slot_model.specs.Kept.{Held, Kept, chosen_held, slot_in}
 use Rattle.slot_model.specs.Changes.{kept_after, kept_step, kept_turn, pinned, with_finished}
@@ -30,7 +26,7 @@ use Rattle.slot_model.specs.Tabled.{AreTables, IsRead, Tables, View, cut_view, i
 use Rattle.slot_model.specs.Standing.{IsLawful, StandsFor}
 use Rattle.slot_model.specs.LiveStanding.{IsLiveLawful, LiveCommits, LiveStands}
 use Rattle.slot_model.proofs.LiveCalls.{live_read}
-use Rattle.slot_model.proofs.LiveCores.{core_of_mark, joined_runs}
+use Rattle.slot_model.proofs.LiveCores.{joined_runs}
 use Rattle.slot_model.proofs.Named.{calm_chains}
 use Rattle.slot_model.proofs.Reading.{read_at, tables_finish}
 use Rattle.slot_model.proofs.Tables.{cut_readers}
@@ -191,7 +187,7 @@ fetch_found whole sizes base s kept image t n o m h f p own ne l =
     (v.0, v.1, live_read whole sizes base s kept image t n o m v.0 h f p own ne l v.1)
   where
     from : base.clock ≤ (read_interval base s.history m.start m.reads).lo
-    from = f.starts n (read_interval base s.history m.start m.reads) (ap (interval_of base s.history) (core_of_mark s.marks n ∙ ap core_of own))
+    from = f.starts n (read_interval base s.history m.start m.reads) (ap (interval_of base s.history) (core_at_marks s.marks n ∙ ap core_of own))
 
     after : (hi : Option ℕ) → is_empty (record { lo = (read_interval base s.history m.start m.reads).lo; hi = hi }) ≡ false → EndsAfter base.clock hi
     after None e = tt

@@ -13,7 +13,7 @@ use Rattle.kernel_model.specs.Execution.{Execution, start_of, state_at}
 use Rattle.kernel_model.specs.Chain.{joining}
 use Rattle.kernel_model.specs.Effects.{object_words}
 use Rattle.kernel_model.specs.Worlds.{World}
-use Rattle.kernel_model.proofs.CoreLaws.{get_or-replicate_idle}
+use Rattle.kernel_model.proofs.ForCallers.{get_or-replicate_idle}
 use Rattle.slot_model.specs.Slots.{Image, IsSized}
 use Rattle.slot_model.proofs.Reading.{tables_first}
 use Rattle.slot_model.specs.Kept.{Kept}

@@ -1,4 +1,3 @@
-pub mod Floors
 pub mod Chains
 pub mod Writing
 pub mod Pins

@@ -19,18 +19,7 @@ use Rattle.kernel_model.specs.History.{AreFound, IsAttempt, IsHistory}
 use Rattle.kernel_model.specs.Chain.{cut}
 use Rattle.kernel_model.specs.Live.{Answer, IsStale, Limit, CallState, Mark, Receipt, added_by, attempt_of, begin_answer, begin_call, core_of, cores_of, fetch_answer, fetch_call, finish_answer, finish_call, lost, marked}
 use Rattle.kernel_model.specs.LiveSound.{IsLiveState, IsMarkedIf}
-use Rattle.kernel_model.proofs.ChainLaws.{AreFrom, chosen_exists}
-use Rattle.kernel_model.proofs.CoreLaws.{IsAfter, as_before, core_at, no_core, turned_now}
-use Rattle.kernel_model.proofs.Growth.{task_under-open}
-use Rattle.kernel_model.proofs.Insertion.{object_words-put}
-use Rattle.kernel_model.proofs.LiveNeeded.{base_chain}
-use Rattle.kernel_model.proofs.NeededLaws.{IsOld, at_needed}
-use Rattle.kernel_model.proofs.OpenLaws.{length-open_tasks, open_order}
-use Rattle.kernel_model.proofs.Ordered.{lawful_of}
-use Rattle.kernel_model.proofs.RoomLaws.{interval-shrinks, meet-wider, starts_after, within-shrinks}
-use Rattle.kernel_model.proofs.Soundness.{still_open}
-use Rattle.kernel_model.proofs.Theorem.{clock_base, history_added}
-use Rattle.kernel_model.proofs.VersionLaws.{length-after_history, object_words-put_written}
+use Rattle.kernel_model.proofs.ForCallers.{AreFrom, IsAfter, IsOld, as_before, at_needed, base_chain, chosen_exists, clock_base, core_at, core_at_marks, history_added, interval-shrinks, lawful_of, length-after_history, length-open_tasks, meet-wider, newest_words, no_core, open_order, starts_after, still_open, task_under-open, turned_now, within-shrinks, words_of-put, words_of-put_written}
 use Rattle.slot_model.specs.Slots.{Image, IsSized}
 use Rattle.slot_model.specs.Kept.{Kept, newest_slot, with_held}
 use Rattle.slot_model.specs.Places.{planned}
@@ -42,8 +31,8 @@ use Rattle.slot_model.specs.LiveStanding.{IsLiveLawful, LiveCommits, LiveStands}
 use Rattle.slot_model.specs.Standing.{IsFree, IsServed, IsTarget, IsUnderWay, Stands}
 use Rattle.slot_model.proofs.Arms.{free_target, free_writes, late_write}
 use Rattle.slot_model.proofs.Fresh.{tables_join}
-use Rattle.slot_model.proofs.LiveCores.{commit_able, cores_but, cores_length, cores_set, core_of_mark, history_ended, joined_run, live_able, live_starts, mark_present, next_join, next_turn}
-use Rattle.slot_model.proofs.Named.{newest_stands, newest_words}
+use Rattle.slot_model.proofs.LiveCores.{commit_able, cores_but, cores_length, cores_set, history_ended, joined_run, live_able, live_starts, mark_present, next_join, next_turn, none_commits}
+use Rattle.slot_model.proofs.Named.{newest_stands}
 use Rattle.slot_model.proofs.Nexts.{newest_of, written_given}
 use Rattle.slot_model.proofs.Reading.{read_at}
 use Rattle.slot_model.proofs.Tables.{cut_readers}
@@ -92,7 +81,7 @@ fetch_stands whole sizes base s kept image n m p device h own f = by s.loss
     i = read_interval base s.history m.start m.reads
 
     of_core : interval_of base s.history (get_or (cores_of s.marks) n Idle) ≡ Some i
-    of_core = ap (interval_of base s.history) (core_of_mark s.marks n ∙ ap core_of own)
+    of_core = ap (interval_of base s.history) (core_at_marks s.marks n ∙ ap core_of own)
 
     gone : Stands sizes base base.clock s.history (cores_of (set s.marks n None)) kept image
     gone = mark_gone whole sizes base s kept image h f n
@@ -113,7 +102,7 @@ fetch_stands whole sizes base s kept image n m p device h own f = by s.loss
             omega (arith, l, k, ap (λ (y : Interval). y.lo) same)
 
         own_needs : (o : ℕ) (v : Version) → IsOld base o s.history v → meet v (within x i) ≡ true → is_needed base s.history o (cores_of s.marks) v ≡ true
-        own_needs o v old e = at_needed base s.history o v (cores_of s.marks) n (subst (λ (c : Caller). is_needed_by base s.history o v c ≡ true) (sym (core_of_mark s.marks n ∙ ap core_of own)) (meet-wider v (within x i) i (within-shrinks x i) e))
+        own_needs o v old e = at_needed base s.history o v (cores_of s.marks) n (subst (λ (c : Caller). is_needed_by base s.history o v c ≡ true) (sym (core_at_marks s.marks n ∙ ap core_of own)) (meet-wider v (within x i) i (within-shrinks x i) e))
 
     by : (loss : Option ℕ) → LiveStands sizes base (fetch_call base s n m p loss device).0 kept image
     by (Some losses) = gone
@@ -155,13 +144,6 @@ granted_item sizes base s others m run i e = go (is_empty j) (without_room sizes
     go true o f g e = absurd (cc e)
     go false (Some o) f g e = absurd (cc e)
     go false None f g e = (f, g, records (leb (length (open_tasks base s.history) - 1 + length run.spawns) sizes.records) e)
-
-none_commits : (marks : List (Option Mark)) (k : ℕ) → commits (get_or (cores_of marks) k Idle) ≡ true → ⊥
-none_commits marks k e = at (get_or marks k None) (ap commits (sym (core_of_mark marks k)) ∙ e)
-  where
-    at : (m : Option Mark) → commits (core_of m) ≡ true → ⊥
-    at None e = cc e
-    at (Some m) e = cc e
 
 -- a grant begins a commit
 pub grant_stands : (whole : Programs) (sizes : Sizes) (base : DeviceState) (s : CallState) (kept : Kept) (image : Image) (n : ℕ) (m : Mark) (run : Run) (i : FinishRecord) → IsLiveLawful whole sizes base s → LiveStands sizes base s kept image → get_or s.marks n None ≡ Some m →
@@ -233,7 +215,7 @@ receipt_stands whole sizes base s kept image n m run i device h c = by s.loss
         at : (x : Caller) → IsAfter (cores_of s.marks) n (Committing i 0) k x → is_needed_by base (i ∷ s.history) o v x ≡ true → is_needed_by base s.history o v x ≡ true
         at x (turned_now a f) e = absurd (ne a)
         at x (as_before a f) e =
-            let same : x ≡ core_of (get_or s.marks k None) = f ∙ core_of_mark s.marks k in
+            let same : x ≡ core_of (get_or s.marks k None) = f ∙ core_at_marks s.marks k in
             subst (λ (y : Caller). is_needed_by base s.history o v y ≡ true) (sym same) (narrower (get_or s.marks k None) (h.live.marks k) o v (subst (λ (y : Caller). is_needed_by base (i ∷ s.history) o v y ≡ true) same e))
         at x (no_core f) e = absurd (let y : is_needed_by {M = Unit {0}} base (i ∷ s.history) o v Idle ≡ true = subst (λ (z : Caller). is_needed_by base (i ∷ s.history) o v z ≡ true) f e in cc y)
 
@@ -251,8 +233,8 @@ receipt_stands whole sizes base s kept image n m run i device h c = by s.loss
         before : (x : Caller) → IsAfter (cores_of s.marks) n (Committing i 0) k x → (k ≡ n → ⊥) → interval_of base (i ∷ s.history) x ≡ Some j → base.clock ≤ j.lo
         before x (turned_now a f) ne e = absurd (ne a)
         before x (as_before a f) ne e =
-            let same : x ≡ core_of (get_or s.marks k None) = f ∙ core_of_mark s.marks k in
-            later (get_or s.marks k None) (h.live.marks k) (λ q z. live_starts whole base s h.live k q (ap (interval_of base s.history) (core_of_mark s.marks k) ∙ z)) j (ap (interval_of base (i ∷ s.history)) (sym same) ∙ e)
+            let same : x ≡ core_of (get_or s.marks k None) = f ∙ core_at_marks s.marks k in
+            later (get_or s.marks k None) (h.live.marks k) (λ q z. live_starts whole base s h.live k q (ap (interval_of base s.history) (core_at_marks s.marks k) ∙ z)) j (ap (interval_of base (i ∷ s.history)) (sym same) ∙ e)
         before x (no_core f) ne e = absurd (let y : interval_of {M = Unit {0}} base (i ∷ s.history) Idle ≡ Some j = ap (interval_of base (i ∷ s.history)) (sym f) ∙ e in cc y)
 
         at : (x : Caller) → IsAfter cores n Idle k x → interval_of base (i ∷ s.history) x ≡ Some j → base.clock ≤ j.lo
@@ -297,16 +279,16 @@ live_commit_named whole sizes base s kept image n i left h c few o l = go (writt
     under = subst (IsServed sizes base s.history (committing s n i left) kept image n) (commit_core s n i left c.caller) (c.stands.served n)
 
     go : (w : Option (List ℕ)) → written i.run.writes o ≡ w → (newest_slot (with_held i w (kept.plan o) (kept.chains o)) < sizes.slots o) × (image o (newest_slot (with_held i w (kept.plan o) (kept.chains o))) ≡ object_words (after_history (i ∷ s.history) (tables_of base)).objects o)
-    go None e = let top = live_named whole sizes base s kept image (committing s n i left) h c.stands o l in (top.0, top.1 ∙ sym (object_words-put 0 i.run.writes (after_history s.history (tables_of base)).objects o (rw zero-add e)))
+    go None e = let top = live_named whole sizes base s kept image (committing s n i left) h c.stands o l in (top.0, top.1 ∙ sym (words_of-put 0 i.run.writes (after_history s.history (tables_of base)).objects o (rw zero-add e)))
     go (Some words) e =
         let k = written_given sizes base s.history (committing s n i left) kept image c.stands.sized i left (joined_run whole sizes base i s.history h.based h.fit c.joins) few under i refl o words e in
-        (k.0.place, k.1 ∙ sym (object_words-put_written 0 i.run.writes (after_history s.history (tables_of base)).objects o words long (rw zero-add e)))
+        (k.0.place, k.1 ∙ sym (words_of-put_written 0 i.run.writes (after_history s.history (tables_of base)).objects o words long (rw zero-add e)))
 
 -- a read, by tables
 pub live_read : (whole : Programs) (sizes : Sizes) (base : DeviceState) (s : CallState) (kept : Kept) (image : Image) (t : Tables) (n o : ℕ) (m : Mark) (v : Version) → IsLiveState whole base s → LiveStands sizes base s kept image → AreTables sizes base base.clock s.history kept t → get_or s.marks n None ≡ Some m →
     is_empty (read_interval base s.history m.start m.reads) ≡ false → o < sizes.objects → chosen (read_interval base s.history m.start m.reads).hi (versions base o s.history) ≡ Some v → IsRead sizes base s.history m.start m.reads o (t.places o) image v
 live_read whole sizes base s kept image t n o m v h f p own ne l e =
-    read_at sizes base base.clock s.history (cores_of s.marks) kept image h.history.numbered f t p n o m.start m.reads v (ap (interval_of base s.history) (core_of_mark s.marks n ∙ ap core_of own)) ne l e
+    read_at sizes base base.clock s.history (cores_of s.marks) kept image h.history.numbered f t p n o m.start m.reads v (ap (interval_of base s.history) (core_at_marks s.marks n ∙ ap core_of own)) ne l e
 
 -- the verdict, by tables
 pub live_verdict : (whole : Programs) (sizes : Sizes) (base : DeviceState) (s : CallState) (kept : Kept) (image : Image) (t : Tables) (n : ℕ) (m : Mark) (run : Run) → IsLiveState whole base s → LiveStands sizes base s kept image → AreTables sizes base base.clock s.history kept t → get_or s.marks n None ≡ Some m →
@@ -347,7 +329,7 @@ live_first sizes base callers limit named image sized h = record {
     none (suc n) (suc k) = none n k
 
     idle : (k : ℕ) → get_or (cores_of (replicate callers None)) k Idle ≡ Idle
-    idle k = core_of_mark (replicate callers None) k ∙ ap core_of (none callers k)
+    idle k = core_at_marks (replicate callers None) k ∙ ap core_of (none callers k)
 
 -- where a commit may write
 pub live_free : (whole : Programs) (sizes : Sizes) (base : DeviceState) (s : CallState) (kept : Kept) (image : Image) (n : ℕ) (i : FinishRecord) (left : ℕ) → IsLiveLawful whole sizes base s → LiveCommits whole sizes base s n i left kept image →
@@ -365,21 +347,3 @@ pub live_late : (whole : Programs) (sizes : Sizes) (base : DeviceState) (s : Cal
 live_late whole sizes base s kept image n i left h l c =
     subst (λ (x : Image). LiveCommits whole sizes base s n i left kept x) (ap (λ t. after_write kept.plan t image) (late_write sizes base s.history i (suc left) l)) (live_write whole sizes base s kept image n i left h c)
 
--- what a finish leaves of the history and of the marks
-pub finish_leaves : (sizes : Sizes) (base : DeviceState) (s : CallState) (n : ℕ) (m : Mark) (run : Run) (device : Option ℕ) →
-    (let a : CallState × Answer = finish_call sizes base s n m run s.loss device in (a.0.history ≡ with_finish (added_by a.1) s.history) × (a.0.marks ≡ set s.marks n None))
-finish_leaves sizes base s n m run device = by s.loss
-  where
-    Says : CallState × Answer → Type 0
-    Says a = (a.0.history ≡ with_finish (added_by a.1) s.history) × (a.0.marks ≡ set s.marks n None)
-
-    at : (v : Verdict) (device : Option ℕ) → Says (finish_answer s n v device)
-    at (Granted i) (Some losses) = (refl, refl)
-    at (Granted i) None = (refl, refl)
-    at (Empty lo hi) device = (refl, refl)
-    at (Slots o) device = (refl, refl)
-    at (Records pending spawns) device = (refl, refl)
-
-    by : (loss : Option ℕ) → Says (finish_call sizes base s n m run loss device)
-    by (Some losses) = (refl, refl)
-    by None = at (verdict sizes base s.history (cores_of (all_but n s.marks)) (attempt_of m) run) device

@@ -14,27 +14,13 @@ use Rattle.kernel_model.specs.History.{IsHistory}
 use Rattle.kernel_model.specs.Fit.{AreSized, IsBase, IsRun}
 use Rattle.kernel_model.specs.Live.{CallState, Mark, core_of, cores_of}
 use Rattle.kernel_model.specs.LiveSound.{IsLiveState, IsMarkedIf}
-use Rattle.kernel_model.proofs.ChainLaws.{AreFrom, chain-joined, chain-less}
-use Rattle.kernel_model.proofs.CoreLaws.{IsAfter, as_before, core_at, no_core, turned_now}
-use Rattle.kernel_model.proofs.NeededLaws.{IsOld, at_needed, needed_at, older-old}
-use Rattle.kernel_model.proofs.Ordered.{lawful_of}
-use Rattle.kernel_model.proofs.Points.{start_lo}
-use Rattle.kernel_model.proofs.RoomLaws.{older-ended}
-use Rattle.kernel_model.proofs.RunFacts.{base-sized, fit-runs}
-use Rattle.kernel_model.proofs.Theorem.{clock_base}
-use Rattle.kernel_model.proofs.VersionLaws.{EndsBy}
+use Rattle.kernel_model.proofs.ForCallers.{AreFrom, EndsBy, IsAfter, IsOld, as_before, at_needed, base-sized, chain-joined, chain-less, clock_base, core_at, core_at_marks, fit-runs, lawful_of, needed_at, no_core, older-ended, older-old, start_lo, turned_now}
 use Rattle.slot_model.specs.Slots.{Image}
 use Rattle.slot_model.specs.Kept.{Kept}
 use Rattle.slot_model.specs.Standing.{Stands}
 use Rattle.slot_model.proofs.Nexts.{IsNext}
 use Rattle.slot_model.proofs.Rooms.{HaveEnded}
 use Rattle.slot_model.proofs.Turning.{IsAble}
-
--- a caller's core
-pub core_of_mark : (marks : List (Option Mark)) (k : ℕ) → get_or (cores_of marks) k Idle ≡ core_of (get_or marks k None)
-core_of_mark [] k = refl
-core_of_mark (m ∷ marks) zero = refl
-core_of_mark (m ∷ marks) (suc k) = core_of_mark marks k
 
 pub cores_set : (marks : List (Option Mark)) (n : ℕ) (m : Option Mark) → set (cores_of marks) n (core_of m) ≡ cores_of (set marks n m)
 cores_set [] n m = refl
@@ -111,7 +97,7 @@ next_join {M} whole base i history cores n h g others from = record {
 
 -- each caller's interval begins at the base's clock or later
 pub live_starts : (whole : Programs) (base : DeviceState) (s : CallState) → IsLiveState whole base s → AreFrom base s.history base.clock (cores_of s.marks)
-live_starts whole base s h k i e = at (get_or s.marks k None) (h.marks k) (ap (interval_of base s.history) (sym (core_of_mark s.marks k)) ∙ e)
+live_starts whole base s h k i e = at (get_or s.marks k None) (h.marks k) (ap (interval_of base s.history) (sym (core_at_marks s.marks k)) ∙ e)
   where
     at : (m : Option Mark) → IsMarkedIf whole base s.history m → interval_of base s.history (core_of m) ≡ Some i → base.clock ≤ i.lo
     at None x e = absurd (cc e)
@@ -123,8 +109,8 @@ live_starts whole base s h k i e = at (get_or s.marks k None) (h.marks k) (ap (i
         omega (arith, a, b, c, ap (λ (y : Interval). y.lo) same)
 
 -- no caller commits
-none_commits : (marks : List (Option Mark)) (k : ℕ) → commits (get_or (cores_of marks) k Idle) ≡ true → ⊥
-none_commits marks k e = at (get_or marks k None) (ap commits (sym (core_of_mark marks k)) ∙ e)
+pub none_commits : (marks : List (Option Mark)) (k : ℕ) → commits (get_or (cores_of marks) k Idle) ≡ true → ⊥
+none_commits marks k e = at (get_or marks k None) (ap commits (sym (core_at_marks marks k)) ∙ e)
   where
     at : (m : Option Mark) → commits (core_of m) ≡ true → ⊥
     at None e = cc e

@@ -15,11 +15,7 @@ use Rattle.kernel_model.specs.Turns.{Nothing, commit_writes, core_turn, quiet, v
 use Rattle.kernel_model.specs.Events.{Boot, CoreStep, Event, Fail, On, Power, State, acting_on, boot_turn, core_event, durable_commit, event_step, with_finish}
 use Rattle.kernel_model.specs.Durable.{flipped_by, flipped_core}
 use Rattle.kernel_model.specs.Chain.{floored}
-use Rattle.kernel_model.proofs.ChainLaws.{chosen_exists}
-use Rattle.kernel_model.proofs.CoreLaws.{durable_commit-idle, durable_commit-none, durable_commit-one, durable_commit-set, finishes, get_or-idle, no_commit, others_commit, turn_gives}
-use Rattle.kernel_model.proofs.ReportLaws.{durable_commit-found}
-use Rattle.kernel_model.proofs.Insertion.{object_words-put}
-use Rattle.kernel_model.proofs.VersionLaws.{length-after_history, tops, object_words-put_written}
+use Rattle.kernel_model.proofs.ForCallers.{chosen_exists, durable_commit-found, durable_commit-idle, durable_commit-none, durable_commit-one, durable_commit-set, finishes, get_or-idle, length-after_history, newest_words, no_commit, others_commit, tops, turn_gives, words_of-put, words_of-put_written}
 use Rattle.slot_model.specs.Slots.{Image}
 use Rattle.slot_model.specs.Kept.{Held, Kept, newest_alone, newest_slot, with_held}
 use Rattle.slot_model.specs.Changes.{kept_after, kept_run, kept_step, kept_turn, kept_verdict, named_slot, pinned, with_finished}
@@ -27,21 +23,6 @@ use Rattle.slot_model.specs.Standing.{AreStanding, IsLawful, IsNamed, StandsFor}
 use Rattle.slot_model.proofs.Chains.{HasNewest, newest_must}
 use Rattle.slot_model.proofs.EventLaws.{found_given}
 use Rattle.slot_model.proofs.Nexts.{newest_of}
-
--- the newest version has the words that the history leaves
-pub newest_words : (base : DeviceState) (o : ℕ) → o < length base.objects → (history : List FinishRecord) (v : Version) → chosen None (versions base o history) ≡ Some v → v.words ≡ object_words (after_history history (tables_of base)).objects o
-newest_words base o l [] v e = let same : record { writer = base.number; begin = base.clock; end = None; words = object_words base.objects o } ≡ v = cc e in ap (λ (x : Version). x.words) (sym same)
-newest_words base o l (i ∷ history) v e = go (newest_words base o l history v) (written i.run.writes o) refl e
-  where
-    long : o < length (after_history history (tables_of base)).objects
-    long = let k = length-after_history history (tables_of base) in omega (arith, k, l)
-
-    go : (chosen None (versions base o history) ≡ Some v → v.words ≡ object_words (after_history history (tables_of base)).objects o) → (w : Option (List ℕ)) → written i.run.writes o ≡ w → chosen None (tops None base o i history w) ≡ Some v →
-        v.words ≡ object_words (after_history (i ∷ history) (tables_of base)).objects o
-    go rest None f e = rest e ∙ sym (object_words-put 0 i.run.writes (after_history history (tables_of base)).objects o (rw zero-add f))
-    go rest (Some words) f e =
-        let same : record { writer = i.number; begin = i.point; end = None; words = words } ≡ v = cc e in
-        ap (λ (x : Version). x.words) (sym same) ∙ sym (object_words-put_written 0 i.run.writes (after_history history (tables_of base)).objects o words long (rw zero-add f))
 
 -- the newest stands
 pub newest_stands : (slots floor : ℕ) (n : Version → Bool) (words_at : ℕ → List ℕ) (vs : List Version) (v : Version) (chain : List Held) → HasNewest vs → chosen None vs ≡ Some v → AreStanding slots floor n words_at vs chain →
@@ -74,10 +55,10 @@ named_holds {M} world floor s kept image h f o l = go (durable_commit s.cores) r
 
     by : (i : FinishRecord) → durable_commit s.cores ≡ Some i → (w : Option (List ℕ)) → written i.run.writes o ≡ w →
         (newest_slot (with_held i w (kept.plan o) (kept.chains o)) < world.sizes.slots o) × (image o (newest_slot (with_held i w (kept.plan o) (kept.chains o))) ≡ object_words (after_history (i ∷ s.history) (tables_of world.base)).objects o)
-    by i e None g = (top.0, top.1 ∙ sym (object_words-put 0 i.run.writes (after_history s.history (tables_of world.base)).objects o (rw zero-add g)))
+    by i e None g = (top.0, top.1 ∙ sym (words_of-put 0 i.run.writes (after_history s.history (tables_of world.base)).objects o (rw zero-add g)))
     by i e (Some words) g =
         let k = found_given world floor s kept image h f i e o words g in
-        (k.0.place, k.1 ∙ sym (object_words-put_written 0 i.run.writes (after_history s.history (tables_of world.base)).objects o words long (rw zero-add g)))
+        (k.0.place, k.1 ∙ sym (words_of-put_written 0 i.run.writes (after_history s.history (tables_of world.base)).objects o words long (rw zero-add g)))
 
     at : (j : Option FinishRecord) → durable_commit s.cores ≡ j → Goal j
     at None e = top

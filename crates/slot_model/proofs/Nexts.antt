@@ -12,16 +12,12 @@ use Rattle.kernel_model.specs.Room.{is_needed, is_newest_read}
 use Rattle.kernel_model.specs.Turns.{commit_writes}
 use Rattle.kernel_model.specs.Fit.{IsRun, IsWrite}
 use Rattle.kernel_model.specs.Chain.{IsChain, with_joining}
-use Rattle.kernel_model.proofs.AloneLaws.{newest}
-use Rattle.kernel_model.proofs.ChainLaws.{AreFrom}
-use Rattle.kernel_model.proofs.CoreLaws.{IsAfter, as_before, core_at, no_core, turned_now}
-use Rattle.kernel_model.proofs.NeededLaws.{at_needed}
+use Rattle.kernel_model.proofs.ForCallers.{AreFrom, IsAfter, as_before, at_needed, core_at, needed-floored, newest, no_core, turned_now}
 use Rattle.slot_model.specs.Slots.{Image, IsSized}
 use Rattle.slot_model.specs.Kept.{Held, Kept, must_stand, versions_in}
 use Rattle.slot_model.specs.Store.{late_writes}
 use Rattle.slot_model.specs.Changes.{with_finished}
 use Rattle.slot_model.specs.Standing.{AreStanding, IsPinned, IsServed, IsSpare, IsUnderWay, Stands}
-use Rattle.slot_model.proofs.Floors.{needed-floored}
 use Rattle.slot_model.proofs.Chains.{HasNewest, IsSeen, both_held, must_less, spare_less, standing_with}
 use Rattle.slot_model.proofs.Writing.{IsLong, all_written, commit_writes-all, write_of}
 use Rattle.slot_model.proofs.Pins.{there_apart, there_joined}

@@ -13,8 +13,7 @@ use Rattle.kernel_model.specs.Room.{interval_of}
 use Rattle.kernel_model.specs.Events.{State}
 use Rattle.kernel_model.specs.History.{IsNumbered}
 use Rattle.kernel_model.specs.Sound.{IsSoundCore}
-use Rattle.kernel_model.proofs.BoundLaws.{bound_at_clock}
-use Rattle.kernel_model.proofs.OpenLaws.{length-open_tasks, open_order}
+use Rattle.kernel_model.proofs.ForCallers.{bound_at_clock, length-open_tasks, open_order}
 use Rattle.slot_model.specs.Slots.{Image}
 use Rattle.slot_model.specs.Kept.{Kept}
 use Rattle.slot_model.specs.Changes.{first_kept, with_finished}

@@ -10,10 +10,7 @@ use Rattle.kernel_model.specs.Events.{Event, Power, State, event_step, opened, s
 use Rattle.kernel_model.specs.Fit.{HasIds, IsSetUp}
 use Rattle.kernel_model.specs.Sound.{IsSound}
 use Rattle.kernel_model.specs.Execution.{Execution, start_of, state_at}
-use Rattle.kernel_model.proofs.ChainLaws.{floor_of_idle}
-use Rattle.kernel_model.proofs.CoreLaws.{get_or-replicate_idle}
-use Rattle.kernel_model.proofs.LiveNeeded.{base_chain}
-use Rattle.kernel_model.proofs.StepLaws.{all_sound, history-step, next_sound, opened_sound, sound-ids}
+use Rattle.kernel_model.proofs.ForCallers.{all_sound, base_chain, floor_of_idle, get_or-replicate_idle, history-step, next_sound, opened_sound, sound-ids}
 use Rattle.slot_model.specs.Slots.{Image, IsSized}
 use Rattle.slot_model.specs.Changes.{Beside, beside_after, beside_event, first_kept}
 use Rattle.slot_model.specs.Standing.{IsLawful, StandsFor}

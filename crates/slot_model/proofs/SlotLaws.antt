@@ -12,10 +12,7 @@ use Rattle.kernel_model.specs.Cores.{Attempt, Copying, Core, Idle}
 use Rattle.kernel_model.specs.Room.{interval_of, is_copied_by, is_needed, is_newest_read, meet}
 use Rattle.kernel_model.specs.History.{IsNumbered}
 use Rattle.kernel_model.specs.Chain.{IsChain, IsPart, floored}
-use Rattle.kernel_model.proofs.Growth.{writer_found}
-use Rattle.kernel_model.proofs.ChainLaws.{chosen_from_chain}
-use Rattle.kernel_model.proofs.NeededLaws.{at_needed}
-use Rattle.kernel_model.proofs.RoomLaws.{chosen-met}
+use Rattle.kernel_model.proofs.ForCallers.{at_needed, chosen-met, chosen_from_chain, writer_found}
 use Rattle.slot_model.specs.Slots.{Image}
 use Rattle.slot_model.specs.Kept.{Held, Kept, chosen_held, is_there, must_stand, versions_in}
 use Rattle.slot_model.specs.Standing.{AreStanding, IsChosen, IsPinned, IsServed, Stands}

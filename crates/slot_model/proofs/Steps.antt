@@ -17,8 +17,7 @@ use Rattle.kernel_model.specs.Turns.{Stale, Turn, commit_writes, core_turn, copy
 use Rattle.kernel_model.specs.Events.{with_finish}
 use Rattle.kernel_model.specs.Fit.{IsMachine, IsRun}
 use Rattle.kernel_model.specs.Chain.{floored}
-use Rattle.kernel_model.proofs.ChainLaws.{chosen_from_chain}
-use Rattle.kernel_model.proofs.CoreLaws.{others_commit}
+use Rattle.kernel_model.proofs.ForCallers.{chosen_from_chain, others_commit}
 use Rattle.slot_model.specs.Slots.{Image}
 use Rattle.slot_model.specs.Kept.{Kept, chosen_held, is_there, slot_in, versions_in}
 use Rattle.slot_model.specs.Store.{image_turn}

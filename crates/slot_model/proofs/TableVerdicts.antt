@@ -12,12 +12,10 @@ use Rattle.kernel_model.specs.OpenTasks.{open_tasks}
 use Rattle.kernel_model.specs.Cores.{Attempt, Core, Idle, all_but}
 use Rattle.kernel_model.specs.Room.{has_room, interval_of, is_needed, without_room}
 use Rattle.kernel_model.specs.Chain.{floored}
-use Rattle.kernel_model.proofs.CoreLaws.{IsAfter, as_before, core_at, no_core, turned_now}
+use Rattle.kernel_model.proofs.ForCallers.{AreFrom, IsAfter, as_before, bounds_interval, chosen_exists, core_at, no_core, not_needed, raised_same, turned_now}
 use Rattle.kernel_model.specs.Verdicts.{Empty, Granted, Records, Verdict, finish_of, room_verdict, verdict}
 use Rattle.kernel_model.specs.Bounds.{bound_of, raised_by}
 use Rattle.kernel_model.specs.History.{IsNumbered}
-use Rattle.kernel_model.proofs.BoundLaws.{bounds_interval}
-use Rattle.kernel_model.proofs.ChainLaws.{AreFrom, chosen_exists}
 use Rattle.slot_model.specs.Slots.{Image}
 use Rattle.slot_model.specs.Kept.{Kept}
 use Rattle.slot_model.specs.Places.{free_slot}
@@ -26,13 +24,8 @@ use Rattle.slot_model.specs.Standing.{Stands}
 use Rattle.slot_model.proofs.Chains.{IsSeen}
 use Rattle.slot_model.proofs.Nexts.{newest_of, seen_of}
 use Rattle.slot_model.proofs.Rooms.{HaveEnded, free_is_room}
-use Rattle.slot_model.proofs.Turning.{idle_needs, others_fewer}
+use Rattle.slot_model.proofs.Turning.{idle_needs}
 use Rattle.slot_model.proofs.Views.{free_at}
-
--- bounds of what is written
-raised_same : (f g : ℕ → ℕ) (ws : List Write) (i : Interval) → AllByRecursion (λ w. f w.object ≡ g w.object) ws → raised_by f ws i ≡ raised_by g ws i
-raised_same f g [] i h = refl
-raised_same f g (w ∷ ws) i h = ap₂ (λ (b : ℕ) (j : Interval). let k : Interval = record { lo = max b j.lo; hi = j.hi } in k) h.0 (raised_same f g ws i h.1)
 
 -- what the others of a core need, seen after a boot
 pub others_see : {M : Type 0} → (base : DeviceState) (history : List FinishRecord) (floor o : ℕ) (cores : List (Core M)) (n : ℕ) → AreFrom base history floor cores → IsSeen floor (is_needed base history o (all_but n cores))
@@ -54,7 +47,7 @@ pub room_at : {M : Type 0} → (sizes : Sizes) (base : DeviceState) (floor : ℕ
     (n o : ℕ) → o < sizes.objects → is_some (free_slot sizes base history (all_but n cores) kept o) ≡ has_room sizes base history (all_but n cores) o
 room_at sizes base floor history cores kept image num ended s n o l =
     let v = chosen_exists base o history None None tt in
-    free_is_room base history floor o (sizes.slots o) (is_needed base history o cores) (image o) (all_but n cores) (others_see base history floor o cores n s.starts) (others_fewer base history o n cores) (versions base o history) v.0 v.1 (newest_of base o history) (ended o) (kept.chains o) (s.objects o l)
+    free_is_room base history floor o (sizes.slots o) (is_needed base history o cores) (image o) (all_but n cores) (others_see base history floor o cores n s.starts) (not_needed base history o n cores) (versions base o history) v.0 v.1 (newest_of base o history) (ended o) (kept.chains o) (s.objects o l)
 
 -- the least written object without a free slot
 full_at : {M : Type 0} → (sizes : Sizes) (base : DeviceState) (floor : ℕ) (history : List FinishRecord) (cores : List (Core M)) (kept : Kept) (image : Image) → IsNumbered base history → ((o : ℕ) → HaveEnded (versions base o history)) → Stands sizes base floor history cores kept image →

@@ -10,10 +10,7 @@ use Rattle.kernel_model.specs.Versions.{Read, Version, find_version, version_rea
 use Rattle.kernel_model.specs.Intervals.{Interval, read_interval, sooner, within}
 use Rattle.kernel_model.specs.History.{AreFound, IsNumbered}
 use Rattle.kernel_model.specs.Chain.{cut, floored, is_newest, is_overwritten}
-use Rattle.kernel_model.proofs.Apart.{IsLawful, IsOlder}
-use Rattle.kernel_model.proofs.CutLaws.{interval_cut}
-use Rattle.kernel_model.proofs.Points.{found}
-use Rattle.kernel_model.proofs.VersionLaws.{EndsBy, ends_by, tops, written_by}
+use Rattle.kernel_model.proofs.ForCallers.{EndsBy, IsLawful, IsOlder, ends_by, found, interval_cut, tops, written_by}
 use Rattle.slot_model.specs.Kept.{Held, chosen_held, with_held, without_slot}
 use Rattle.slot_model.specs.Tabled.{Place, chosen_place, installed, is_written_read, place_of, places_of, with_place}
 

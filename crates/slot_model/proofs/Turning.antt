@@ -13,8 +13,7 @@ use Rattle.kernel_model.specs.Room.{has_room, is_needed, is_needed_by, without_r
 use Rattle.kernel_model.specs.Turns.{commit_writes}
 use Rattle.kernel_model.specs.Fit.{IsRun, IsWrite}
 use Rattle.kernel_model.specs.Chain.{floored}
-use Rattle.kernel_model.proofs.ChainLaws.{AreFrom, chosen_exists}
-use Rattle.kernel_model.proofs.NeededLaws.{others_needed}
+use Rattle.kernel_model.proofs.ForCallers.{AreFrom, chosen_exists, not_needed, others_needed}
 use Rattle.slot_model.specs.Slots.{Image}
 use Rattle.slot_model.specs.Kept.{Held, Kept, must_stand}
 use Rattle.slot_model.specs.Places.{free_slot, is_taken, planned}
@@ -77,13 +76,6 @@ pub others_seen : {M : Type 0} → (base : DeviceState) (history : List FinishRe
 others_seen base history floor o cores n d none from v =
     sym (idle_needs base history o (floored floor v) cores n d (none (floored floor v))) ∙ seen_of base history floor o (set cores n d) from v ∙ idle_needs base history o v cores n d (none v)
 
-pub others_fewer : {M : Type 0} → (base : DeviceState) (history : List FinishRecord) (o n : ℕ) (cores : List (Core M)) (v : Version) → is_needed base history o cores v ≡ false → is_needed base history o (all_but n cores) v ≡ false
-others_fewer base history o n cores v e = go (is_needed base history o (all_but n cores) v) refl
-  where
-    go : (b : Bool) → is_needed base history o (all_but n cores) v ≡ b → is_needed base history o (all_but n cores) v ≡ false
-    go true f = let g = others_needed base history o v n cores f in absurd (cc (e, g))
-    go false f = f
-
 -- where there is room the least free slot is spare
 pub room_spare : {M : Type 0} → (sizes : Sizes) (base : DeviceState) (floor : ℕ) (history : List FinishRecord) (cores : List (Core M)) (kept : Kept) (image : Image) → IsAble sizes base floor history cores kept image → (n o : ℕ) → o < sizes.objects → IsSeen floor (is_needed base history o (all_but n cores)) →
     has_room sizes base history (all_but n cores) o ≡ true →
@@ -93,7 +85,7 @@ room_spare sizes base floor history cores kept image f n o l seen room = go (fre
     some : is_some (free_slot sizes base history (all_but n cores) kept o) ≡ true
     some =
         let v = chosen_exists base o history None None tt in
-        free_is_room base history floor o (sizes.slots o) (is_needed base history o cores) (image o) (all_but n cores) seen (others_fewer base history o n cores) (versions base o history) v.0 v.1 (newest_of base o history) (f.ended o) (kept.chains o) (f.stands.objects o l) ∙ room
+        free_is_room base history floor o (sizes.slots o) (is_needed base history o cores) (image o) (all_but n cores) seen (not_needed base history o n cores) (versions base o history) v.0 v.1 (newest_of base o history) (f.ended o) (kept.chains o) (f.stands.objects o l) ∙ room
 
     go : (k : Option ℕ) → free_slot sizes base history (all_but n cores) kept o ≡ k → IsSpare (sizes.slots o) (is_needed base history o (all_but n cores)) (kept.chains o) (unwrap_or k 0)
     go None e = absurd (let g : is_some (let none : Option ℕ = None in none) ≡ true = subst (λ x. is_some x ≡ true) e some in cc g)

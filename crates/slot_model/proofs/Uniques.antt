@@ -9,9 +9,7 @@ use Rattle.kernel_model.specs.Replay.{DeviceState}
 use Rattle.kernel_model.specs.Versions.{Version, find_version, versions_to}
 use Rattle.kernel_model.specs.History.{IsNumbered}
 use Rattle.kernel_model.specs.Chain.{IsChain, IsPart, floored}
-use Rattle.kernel_model.proofs.Growth.{writer_found, writers_below}
-use Rattle.kernel_model.proofs.Points.{found}
-use Rattle.kernel_model.proofs.VersionLaws.{tops}
+use Rattle.kernel_model.proofs.ForCallers.{found, tops, writer_found, writers_below}
 use Rattle.slot_model.specs.Kept.{Held, AreApart, is_there, versions_in}
 use Rattle.slot_model.proofs.Chains.{each_held}
 

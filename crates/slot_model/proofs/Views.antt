@@ -12,7 +12,7 @@ use Rattle.kernel_model.specs.Intervals.{read_interval}
 use Rattle.kernel_model.specs.Cores.{Attempt, Committing, Copying, Core, Idle, Ready, Running, all_but}
 use Rattle.kernel_model.specs.Room.{is_needed, is_needed_by, is_newest_read, meet}
 use Rattle.kernel_model.specs.History.{IsNumbered}
-use Rattle.kernel_model.proofs.CoreLaws.{IsAfter, as_before, core_at, no_core, turned_now}
+use Rattle.kernel_model.proofs.ForCallers.{IsAfter, as_before, core_at, no_core, turned_now}
 use Rattle.slot_model.specs.Slots.{Image}
 use Rattle.slot_model.specs.Kept.{Held, Kept, is_there, must_stand, versions_in}
 use Rattle.slot_model.specs.Places.{free_from, free_slot, is_taken}

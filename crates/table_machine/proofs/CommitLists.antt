@@ -4,7 +4,7 @@ use Rattle.std.proofs.lemmas.Bool.{cases_eq}
 use Rattle.kernel_model.specs.Items.{FinishRecord}
 use Rattle.kernel_model.specs.Cores.{Core, Idle, Running, Copying, Ready, Committing, commits, finished_by}
 use Rattle.kernel_model.specs.Events.{durable_commit}
-use Rattle.kernel_model.proofs.CoreLaws.{durable_commit-none, durable_commit-one}
+use Rattle.kernel_model.proofs.ForCallers.{durable_commit-none, durable_commit-one}
 use Rattle.table_machine.specs.Represents.{commit_by, commit_in}
 
 -- none, where no core commits

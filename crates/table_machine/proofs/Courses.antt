@@ -7,7 +7,7 @@ use Rattle.kernel_model.specs.Turns.{Line}
 use Rattle.kernel_model.specs.Events.{State, Event, durable_commit, event_step, state_after}
 use Rattle.kernel_model.specs.Durable.{durable}
 use Rattle.kernel_model.specs.Fit.{HasIds}
-use Rattle.kernel_model.proofs.StepLaws.{history-step, next_sound, sound-ids}
+use Rattle.kernel_model.proofs.ForCallers.{history-step, next_sound, sound-ids}
 use Rattle.device_model.specs.Words.{Change, Words, made}
 use Rattle.device_model.specs.Decoding.{durable_of}
 use Rattle.device_model.specs.Decoding as decoding

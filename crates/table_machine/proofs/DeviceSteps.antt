@@ -16,7 +16,7 @@ use Rattle.kernel_model.specs.Verdicts.{Empty, Granted, Records, Slots, Verdict,
 use Rattle.kernel_model.specs.Turns.{commit_writes, core_turn, quiet, start_turn, verdict_turn}
 use Rattle.kernel_model.specs.Events.{State}
 use Rattle.kernel_model.specs.Fit.{IsLast, IsWrite}
-use Rattle.kernel_model.proofs.CoreLaws.{IsAfter, as_before, core_at, no_core, others_commit, run_gives, turned_now, word_gives}
+use Rattle.kernel_model.proofs.ForCallers.{IsAfter, as_before, core_at, no_core, others_commit, run_gives, turned_now, word_gives}
 use Rattle.slot_model.specs.Kept.{Kept}
 use Rattle.slot_model.specs.Changes.{kept_run, kept_verdict, put_at}
 use Rattle.slot_model.specs.Standing.{IsLawful, StandsFor}

@@ -13,8 +13,7 @@ use Rattle.kernel_model.specs.Fit.{IsBase, IsLast, IsRun, IsWrite}
 use Rattle.kernel_model.specs.Durable.{state_left}
 use Rattle.kernel_model.specs.Sound.{IsSoundCore}
 use Rattle.kernel_model.specs.Turns.{commit_writes}
-use Rattle.kernel_model.proofs.BaseLaws.{state_left-base, state_left-last}
-use Rattle.kernel_model.proofs.ChainLaws.{chosen_exists}
+use Rattle.kernel_model.proofs.ForCallers.{chosen_exists, state_left-base, state_left-last}
 use Rattle.slot_model.specs.Kept.{Held, Kept, newest_slot, with_held}
 use Rattle.slot_model.specs.Changes.{with_finished}
 use Rattle.slot_model.specs.Standing.{IsFree, IsLawful, StandsFor}

@@ -8,7 +8,7 @@ use Rattle.std.proofs.lemmas.List.{append_assoc, append-nil, length-take-le, tak
 use Rattle.std.proofs.lemmas.Option.{get_or_from_slice_get, slice_get_within}
 use Rattle.kernel_model.specs.Items.{Entry, listing}
 use Rattle.kernel_model.specs.Report.{unprinted, found_lines, report_lines}
-use Rattle.kernel_model.proofs.FirstEvents.{count_reached}
+use Rattle.kernel_model.proofs.ForCallers.{count_reached}
 use Rattle.device_model.specs.IndexWords.{Index, base_of}
 use Rattle.kernel_model.specs.Replay.{DeviceState}
 use Rattle.kernel_model.specs.Events.{Power, On, Boot, State, Event, state_after, still_owed, opened}

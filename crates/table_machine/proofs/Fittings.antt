@@ -18,11 +18,8 @@ use Rattle.kernel_model.specs.Events.{State}
 use Rattle.kernel_model.specs.Fit.{AreSized, IsRun, IsWrite}
 use Rattle.kernel_model.specs.History.{AreFound}
 use Rattle.kernel_model.specs.Sound.{IsSoundCore, newest_object}
-use Rattle.kernel_model.proofs.Points.{found}
-use Rattle.kernel_model.proofs.RunFacts.{base-sized, history-runs, with_write-all, written-size}
-use Rattle.kernel_model.proofs.VersionLaws.{tops}
+use Rattle.kernel_model.proofs.ForCallers.{IsAfter, as_before, base-sized, core_at, found, history-runs, no_core, tops, turned_now, with_write-all, written-size}
 use Rattle.slot_model.specs.Standing.{IsLawful}
-use Rattle.kernel_model.proofs.CoreLaws.{IsAfter, as_before, core_at, no_core, turned_now}
 use Rattle.set_model.specs.Sets.{ObjPart}
 use Rattle.set_model.specs.Limits.{IsObject}
 use Rattle.table_machine.specs.Tables.{Setting, sizes_in, world_in}

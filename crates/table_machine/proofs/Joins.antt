@@ -3,7 +3,7 @@ use Rattle.std.proofs.Common.{◌≡◌, ℕ, zero, suc, ◌+◌, ◌<◌, ◌�
 use Rattle.std.specs.Prelude.{is_some, take}
 use Rattle.std.specs.List.{AllByRecursion, list_any}
 use Rattle.object_sets.specs.ObjectSets.{is_among}
-use Rattle.kernel_model.proofs.Growth.{reads_kept}
+use Rattle.kernel_model.proofs.ForCallers.{bound_raised, commit_above, found, reads_kept}
 use Rattle.kernel_model.specs.Effects.{Write, written}
 use Rattle.kernel_model.specs.Items.{Entry, FinishRecord, entry_of, listing}
 use Rattle.kernel_model.specs.OpenTasks.{children, others_than}
@@ -16,8 +16,6 @@ use Rattle.kernel_model.specs.Bounds.{bound_of}
 use Rattle.kernel_model.specs.Chain.{cut}
 use Rattle.kernel_model.specs.History.{AreFound}
 use Rattle.kernel_model.specs.Sound.{IsSoundCore}
-use Rattle.kernel_model.proofs.BoundLaws.{bound_raised, commit_above}
-use Rattle.kernel_model.proofs.Points.{found}
 use Rattle.slot_model.specs.Kept.{Kept, newest_slot, with_held}
 use Rattle.slot_model.specs.Changes.{with_finished}
 use Rattle.slot_model.specs.Standing.{IsLawful, StandsFor}

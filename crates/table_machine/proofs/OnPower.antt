@@ -4,7 +4,7 @@ use Rattle.slot_model.proofs.EventLaws.{ended_of}
 use Rattle.slot_model.proofs.Views.{free_at}
 use Rattle.slot_model.proofs.TableVerdicts.{verdict_at}
 use Rattle.slot_model.specs.Places.{planned}
-use Rattle.kernel_model.proofs.CoreLaws.{others_commit}
+use Rattle.kernel_model.proofs.ForCallers.{others_commit, read_finds}
 use Rattle.kernel_model.specs.Sizes.{Sizes}
 use Rattle.kernel_model.specs.Chain.{StartsFrom}
 use Rattle.kernel_model.specs.Fit.{IsWrite}
@@ -25,7 +25,6 @@ use Rattle.kernel_model.specs.Turns.{core_turn, Turn, commit_writes, quiet, verd
 use Rattle.kernel_model.specs.Events.{On, State, CoreStep, with_finish}
 use Rattle.kernel_model.specs.Durable.{core_writes}
 use Rattle.kernel_model.specs.Sound.{IsSoundCore, newest_object}
-use Rattle.kernel_model.proofs.CutLaws.{read_finds}
 use Rattle.slot_model.specs.Kept.{Held, Kept, chosen_held, slot_in, newest_slot}
 use Rattle.slot_model.specs.Changes.{kept_run, put_at, kept_verdict}
 use Rattle.slot_model.specs.Standing.{IsLawful, StandsFor}

@@ -6,9 +6,7 @@ use Rattle.kernel_model.specs.Replay.{DeviceState, max_id}
 use Rattle.kernel_model.specs.Cores.{Idle}
 use Rattle.kernel_model.specs.Events.{Power, On, Boot, State, opened}
 use Rattle.kernel_model.specs.Fit.{IsBase, IsMachine, IsSetUp}
-use Rattle.kernel_model.proofs.BoundLaws.{bound_at_clock}
-use Rattle.kernel_model.proofs.CoreLaws.{get_or-replicate_idle}
-use Rattle.kernel_model.proofs.StepLaws.{opened_sound}
+use Rattle.kernel_model.proofs.ForCallers.{bound_at_clock, get_or-replicate_idle, opened_sound}
 use Rattle.slot_model.specs.Changes.{first_kept}
 use Rattle.slot_model.proofs.RunStands.{first_stands}
 use Rattle.set_model.specs.Sets.{TaskSet, object_at}

@@ -7,10 +7,9 @@ use Rattle.kernel_model.specs.Cores.{Idle}
 use Rattle.kernel_model.specs.Turns.{Line, Nothing}
 use Rattle.kernel_model.specs.Events.{Power, On, Boot, State, CoreStep, Fail, boot_turn, durable_commit, event_step, still_owed, with_finish}
 use Rattle.kernel_model.specs.Durable.{state_left, turn_boots}
-use Rattle.kernel_model.proofs.BoundLaws.{bound_at_clock}
+use Rattle.kernel_model.proofs.ForCallers.{bound_at_clock, durable_commit-idle}
 use Rattle.slot_model.specs.Kept.{Held, Kept, newest_alone, newest_slot}
 use Rattle.slot_model.specs.Changes.{afresh, named_slot, with_finished}
-use Rattle.kernel_model.proofs.CoreLaws.{durable_commit-idle}
 use Rattle.slot_model.specs.Standing.{IsLawful, StandsFor}
 use Rattle.slot_model.specs.Tabled.{AreTables, Place, fresh_tables, places_of}
 use Rattle.slot_model.proofs.Fresh.{boot_idle, tables_begin}

@@ -7,8 +7,7 @@ use Rattle.kernel_model.specs.Cores.{Core, Idle, Committing, finished_by}
 use Rattle.kernel_model.specs.Cores as cores
 use Rattle.kernel_model.specs.Events.{Power, On, Boot, State, Event, CoreStep, Fail, acting_on, event_step, with_finish}
 use Rattle.kernel_model.specs.Chain.{joining}
-use Rattle.kernel_model.proofs.ChainLaws.{history-joined}
-use Rattle.kernel_model.proofs.CoreLaws.{finishes}
+use Rattle.kernel_model.proofs.ForCallers.{finishes, history-joined}
 use Rattle.slot_model.specs.Standing.{IsLawful}
 use Rattle.slot_model.proofs.EventLaws.{runs_of}
 use Rattle.slot_model.proofs.Fresh.{boot_idle}

@@ -8,8 +8,7 @@ use Rattle.kernel_model.specs.Cores.{Core, Idle, Running, Copying, Ready, Commit
 use Rattle.kernel_model.specs.Turns.{Line, Nothing, commit_writes, core_turn}
 use Rattle.kernel_model.specs.Events.{Power, On, Boot, State, Event, CoreStep, Fail, boot_turn, durable_commit, event_step, with_finish}
 use Rattle.kernel_model.specs.Fit.{IsWrite}
-use Rattle.kernel_model.proofs.CoreLaws.{get_or-idle}
-use Rattle.kernel_model.proofs.StepLaws.{next_sound}
+use Rattle.kernel_model.proofs.ForCallers.{get_or-idle, next_sound}
 use Rattle.slot_model.specs.Kept.{Kept, newest_slot, with_held}
 use Rattle.slot_model.specs.Changes.{with_finished}
 use Rattle.slot_model.specs.Standing.{IsLawful, StandsFor}

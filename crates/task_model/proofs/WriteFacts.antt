@@ -4,16 +4,12 @@ use Rattle.std.specs.List.{AllByRecursion}
 use Rattle.std.proofs.lemmas.Bool.{eqb-true, eqb-false, ltb-true, ltb-false}
 use Rattle.object_sets.specs.ObjectSets.{inserted, is_among, with_object, IsIncreasing}
 use Rattle.kernel_model.specs.Effects.{Objects, Write, put, put_from, reads_after, with_write, object_words, written}
-use Rattle.kernel_model.proofs.RunFacts.{written-with_write}
+use Rattle.kernel_model.proofs.ForCallers.{written-with_write}
 
 -- nothing is put in
 pub put_from-none : (k : ℕ) (m : Objects) → put_from k [] m ≡ m
 put_from-none k [] = refl
 put_from-none k (x ∷ xs) = ap (λ rest. x ∷ rest) (put_from-none (k + 1) xs)
-
-pub length-put_from : (k : ℕ) (ws : List Write) (m : Objects) → length (put_from k ws m) ≡ length m
-length-put_from k ws [] = refl
-length-put_from k ws (x ∷ xs) = ap suc (length-put_from (k + 1) ws xs)
 
 -- what the task sees of an object
 pub seen_from : (k : ℕ) (ws : List Write) (m : Objects) (o : ℕ) → o < length m → object_words (put_from k ws m) o ≡ unwrap_or (written ws (k + o)) (object_words m o)

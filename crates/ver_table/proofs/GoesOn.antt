@@ -16,11 +16,7 @@ use Rattle.kernel_model.specs.Live.{CallState, Mark, added_by, cores_of, finish_
 use Rattle.kernel_model.specs.LiveSound.{IsLiveState}
 use Rattle.kernel_model.specs.Sound.{IsSound}
 use Rattle.kernel_model.specs.Chain.{IsFloor, joining}
-use Rattle.kernel_model.proofs.BoundLaws.{commit_above, touch-follows}
-use Rattle.kernel_model.proofs.CoreLaws.{finishes}
-use Rattle.kernel_model.proofs.LiveLaws.{finish_keeps}
-use Rattle.kernel_model.proofs.LiveNeeded.{finish_history}
-use Rattle.kernel_model.proofs.ReportLaws.{durable_commit-found}
+use Rattle.kernel_model.proofs.ForCallers.{commit_above, durable_commit-found, finish_history, finish_keeps, finishes, touch-follows}
 use Rattle.ver_table.specs.Chains.{Chain, noted}
 use Rattle.ver_table.specs.StandsFor.{Held, IsPlanned, IsPlannedFor, StandsFor, StandsIn, StandsLive, after_finish, after_joining, held_after, held_joining}
 use Rattle.ver_table.proofs.StandLaws.{HasJoined, at_event, at_finish, joins_elsewhere, joins_installed, joins_noted, none_joins}

@@ -3,6 +3,7 @@ use Rattle.std.proofs.Common.{◌≡◌, ℕ, ◌+◌, Bool, true, false, cond, 
 use Rattle.std.specs.Prelude.{find}
 use Rattle.std.specs.List.{AllByRecursion, list_any}
 use Rattle.std.specs.Option.{option_map}
+use Rattle.std.proofs.lemmas.Bool.{or_parts}
 use Rattle.interval.specs.declared.version.Pin.{Pin}
 use Rattle.kernel_model.specs.Items.{FinishRecord}
 use Rattle.kernel_model.specs.Replay.{DeviceState}
@@ -80,10 +81,6 @@ pub count_older : {M : Type 0} → (base : DeviceState) (history : List FinishRe
 count_older base history o cores needed [] n = refl
 count_older base history o cores needed (h ∷ held) n = count_held base history o cores needed held n.1
 
-or-false : (a b : Bool) → (a || b) ≡ false → (a ≡ false) × (b ≡ false)
-or-false true b e = absurd (cc e)
-or-false false b e = (refl, e)
-
 and-false : (a b : Bool) → a ≡ true → (a && b) ≡ false → b ≡ false
 and-false true b f e = e
 and-false false b f e = absurd (cc f)
@@ -93,12 +90,12 @@ spare_rest : {M : Type 0} → (base : DeviceState) (history : List FinishRecord)
     → list_any (λ (u : Stored). eqb u.slot k && needed u) (map stored_of held) ≡ false → IsSpare base history o cores k held
 spare_rest base history o cores needed k [] n e = tt
 spare_rest base history o cores needed k (h ∷ held) n e =
-    let s = or-false (eqb h.slot k && needed (stored_of h)) (list_any (λ (u : Stored). eqb u.slot k && needed u) (map stored_of held)) e in
+    let s = or_parts (eqb h.slot k && needed (stored_of h)) (list_any (λ (u : Stored). eqb u.slot k && needed u) (map stored_of held)) e in
     (λ g. sym n.0 ∙ and-false (eqb h.slot k) (needed (stored_of h)) g s.0, spare_rest base history o cores needed k held n.1 s.1)
 
 pub spare_of_free : {M : Type 0} → (base : DeviceState) (history : List FinishRecord) (o : ℕ) (cores : List (Core M)) (needed : Stored → Bool) (k : ℕ) (held : List Held) → AllByRecursion (λ h. needed (stored_of h) ≡ is_needed_in base history o cores h.version) held
     → is_taken needed (map stored_of held) k ≡ false → (holds_newest k (map stored_of held) ≡ false) × IsSpare base history o cores k held
 spare_of_free base history o cores needed k [] n e = (refl, tt)
 spare_of_free base history o cores needed k (h ∷ held) n e =
-    let s = or-false (eqb h.slot k) (list_any (λ (u : Stored). eqb u.slot k && needed u) (map stored_of held)) e in
+    let s = or_parts (eqb h.slot k) (list_any (λ (u : Stored). eqb u.slot k && needed u) (map stored_of held)) e in
     (s.0, (λ g. absurd (let a = s.0 in cc (a, g)), spare_rest base history o cores needed k held n.1 s.1))

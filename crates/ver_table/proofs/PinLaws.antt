@@ -12,8 +12,7 @@ use Rattle.kernel_model.specs.Cores.{Committing, Copying, Core, Idle, Ready, Run
 use Rattle.kernel_model.specs.Room.{is_copied_by, is_newest_read}
 use Rattle.kernel_model.specs.History.{IsNumbered}
 use Rattle.kernel_model.specs.Chain.{IsChain, IsPart}
-use Rattle.kernel_model.proofs.Growth.{writers_below}
-use Rattle.kernel_model.proofs.VersionLaws.{tops}
+use Rattle.kernel_model.proofs.ForCallers.{tops, writers_below}
 use Rattle.ver_table.specs.Chains.{Chain, Stored}
 use Rattle.ver_table.specs.Places.{is_pinned}
 use Rattle.ver_table.specs.Slots.{AreSlots, IsLaid}

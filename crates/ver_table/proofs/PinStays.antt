@@ -10,7 +10,7 @@ use Rattle.kernel_model.specs.Replay.{DeviceState}
 use Rattle.kernel_model.specs.Versions.{Read, Version}
 use Rattle.kernel_model.specs.Cores.{Attempt, Copying, Core, Idle}
 use Rattle.kernel_model.specs.Room.{interval_of, is_needed, is_newest_read, meets}
-use Rattle.kernel_model.proofs.NeededLaws.{at_needed}
+use Rattle.kernel_model.proofs.ForCallers.{at_needed}
 use Rattle.ver_table.specs.Chains.{Chain, Stored}
 use Rattle.ver_table.specs.Slots.{AreSlots, IsLaid}
 use Rattle.ver_table.specs.StandsFor.{Held, IsHeldAs, IsPinOf, IsPlanned, IsPlannedFor, IsUnneeded, StandsFor, held_after, held_ended, held_in, held_joining, held_with, held_without}

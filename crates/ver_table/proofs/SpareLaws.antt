@@ -10,9 +10,7 @@ use Rattle.kernel_model.specs.Room.{is_needed, is_needed_by}
 use Rattle.kernel_model.specs.Events.{Event, State, event_step}
 use Rattle.kernel_model.specs.Sound.{IsSound}
 use Rattle.kernel_model.specs.Chain.{IsChain, IsFloor, IsPart, floored}
-use Rattle.kernel_model.proofs.ChainLaws.{floor_kept}
-use Rattle.kernel_model.proofs.FloorLaws.{floor_needs}
-use Rattle.kernel_model.proofs.NeededLaws.{never_needed_again}
+use Rattle.kernel_model.proofs.ForCallers.{floor_kept, floor_needs, never_needed_again}
 use Rattle.ver_table.specs.Chains.{Chain, holds_newest}
 use Rattle.ver_table.specs.StandsFor.{Held, IsSpare, StandsIn, stored_of, versions_of}
 

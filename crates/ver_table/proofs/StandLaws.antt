@@ -20,13 +20,7 @@ use Rattle.kernel_model.specs.LiveSound.{IsLiveState}
 use Rattle.kernel_model.specs.Sound.{IsSound}
 use Rattle.kernel_model.specs.Bounds.{bound_of, raised_by, with_touch}
 use Rattle.kernel_model.specs.Chain.{IsChain, IsFloor, IsPart, ended_at, floored, joining, with_joining, with_version}
-use Rattle.kernel_model.proofs.AloneLaws.{newest}
-use Rattle.kernel_model.proofs.BoundLaws.{bound_at_clock, bound_next, bound_with}
-use Rattle.kernel_model.proofs.ChainLaws.{chain_kept, chain_of_one}
-use Rattle.kernel_model.proofs.FloorLaws.{floor_needs, marks_start}
-use Rattle.kernel_model.proofs.LiveLaws.{finish_keeps}
-use Rattle.kernel_model.proofs.LiveMore.{begin_history, fetch_history}
-use Rattle.kernel_model.proofs.LiveNeeded.{begin_chain, fetch_chain, finish_chain, finish_history}
+use Rattle.kernel_model.proofs.ForCallers.{begin_chain, begin_history, bound_at_clock, bound_next, bound_with, chain_kept, chain_of_one, fetch_chain, fetch_history, finish_chain, finish_history, finish_keeps, floor_needs, marks_start, newest}
 use Rattle.ver_table.specs.Chains.{Chain, Stored, holds_newest, installed, newest_ended, noted, one_version, without}
 use Rattle.ver_table.specs.StandsFor.{Held, StandsFor, StandsIn, held_ended, held_with, held_without, stored_of, versions_of}
 
@@ -207,8 +201,3 @@ reopened base s o slots k v idle e =
       bound = sym (bound_at_clock base s.history o);
     }
 
--- bounds that are equal raise alike
-pub raised_alike : (f g : ℕ → ℕ) (ws : List Write) (i : Interval) → AllByRecursion (λ w. f w.object ≡ g w.object) ws → raised_by f ws i ≡ raised_by g ws i
-raised_alike f g [] i h = refl
-raised_alike f g (w ∷ ws) i h =
-    ap₂ (λ (n : ℕ) (j : Interval). let x : Interval = record { lo = max n j.lo; hi = j.hi } in x) h.0 (raised_alike f g ws i h.1)

@@ -1,4 +1,4 @@
-use Rattle.slot_model.proofs.LiveCalls.{finish_leaves}
+use Rattle.kernel_model.proofs.ForCallers.{finish_leaves}
 use Rattle.slot_model.proofs.calls.finish_leaves.Goals as goal
 
 pub returns : goal.returns

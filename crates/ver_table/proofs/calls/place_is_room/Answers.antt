@@ -1,7 +1,7 @@
 use Rattle.std.proofs.Common.{ℕ, ◌+◌, leb, List, ap, ap₂, ◌∙◌}
 use Rattle.kernel_model.specs.Cores.{all_but}
 use Rattle.kernel_model.specs.Live.{cores_of}
-use Rattle.kernel_model.proofs.FloorLaws.{live_counts}
+use Rattle.kernel_model.proofs.ForCallers.{live_counts}
 use Rattle.ver_table.specs.Chains.{Stored}
 use Rattle.ver_table.specs.Places.{all_older, count, is_needed}
 use Rattle.ver_table.specs.StandsFor.{versions_of}

@@ -1,6 +1,6 @@
 use Rattle.std.proofs.Common.{ap, List, ◌∙◌}
 use Rattle.kernel_model.specs.Chain.{floored}
-use Rattle.kernel_model.proofs.ChainLaws.{chosen_from_chain}
+use Rattle.kernel_model.proofs.ForCallers.{chosen_from_chain}
 use Rattle.ver_table.specs.Chains.{Stored, newest_before}
 use Rattle.ver_table.specs.StandsFor.{versions_of}
 use Rattle.ver_table.proofs.HeldLaws.{held_found, stored_found}

@@ -1,5 +1,5 @@
 use Rattle.std.proofs.Common.{refl, arith}
-use Rattle.kernel_model.proofs.LiveNeeded.{base_chain}
+use Rattle.kernel_model.proofs.ForCallers.{base_chain}
 use Rattle.ver_table.proofs.laws.opened_table_stands.Goals as goal
 
 pub returns : goal.returns

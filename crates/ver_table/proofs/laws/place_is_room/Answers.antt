@@ -1,6 +1,6 @@
 use Rattle.std.proofs.Common.{ℕ, ◌+◌, leb, List, ap, ap₂, ◌∙◌}
 use Rattle.kernel_model.specs.Cores.{all_but}
-use Rattle.kernel_model.proofs.ChainLaws.{room_from_chain}
+use Rattle.kernel_model.proofs.ForCallers.{room_from_chain}
 use Rattle.ver_table.specs.Chains.{Stored}
 use Rattle.ver_table.specs.Places.{all_older, count, is_needed}
 use Rattle.ver_table.specs.StandsFor.{versions_of}
