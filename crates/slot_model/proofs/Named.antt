@@ -15,7 +15,7 @@ use Rattle.kernel_model.specs.Turns.{Nothing, commit_writes, core_turn, quiet, v
 use Rattle.kernel_model.specs.Events.{Boot, CoreStep, Event, Fail, On, Power, State, acting_on, boot_turn, core_event, durable_commit, event_step, with_finish}
 use Rattle.kernel_model.specs.Durable.{flipped_by, flipped_core}
 use Rattle.kernel_model.specs.Chain.{floored}
-use Rattle.kernel_model.proofs.ForCallers.{chosen_exists, durable_commit-found, durable_commit-idle, durable_commit-none, durable_commit-one, durable_commit-set, finishes, get_or-idle, length-after_history, newest_words, no_commit, others_commit, tops, turn_gives, words_of-put, words_of-put_written}
+use Rattle.kernel_model.proofs.ForCallers.{chosen_exists, durable_commit-found, durable_commit-idle, durable_commit-none, durable_commit-one, durable_commit-set, finishes, get_or-idle, length-after_history, newest_words, no_commit, others_commit, tops, turn_gives, object_words-put, object_words-put_written}
 use Rattle.slot_model.specs.Slots.{Image}
 use Rattle.slot_model.specs.Kept.{Held, Kept, newest_alone, newest_slot, with_held}
 use Rattle.slot_model.specs.Changes.{kept_after, kept_run, kept_step, kept_turn, kept_verdict, named_slot, pinned, with_finished}
@@ -55,10 +55,10 @@ named_holds {M} world floor s kept image h f o l = go (durable_commit s.cores) r
 
     by : (i : FinishRecord) → durable_commit s.cores ≡ Some i → (w : Option (List ℕ)) → written i.run.writes o ≡ w →
         (newest_slot (with_held i w (kept.plan o) (kept.chains o)) < world.sizes.slots o) × (image o (newest_slot (with_held i w (kept.plan o) (kept.chains o))) ≡ object_words (after_history (i ∷ s.history) (tables_of world.base)).objects o)
-    by i e None g = (top.0, top.1 ∙ sym (words_of-put 0 i.run.writes (after_history s.history (tables_of world.base)).objects o (rw zero-add g)))
+    by i e None g = (top.0, top.1 ∙ sym (object_words-put 0 i.run.writes (after_history s.history (tables_of world.base)).objects o (rw zero-add g)))
     by i e (Some words) g =
         let k = found_given world floor s kept image h f i e o words g in
-        (k.0.place, k.1 ∙ sym (words_of-put_written 0 i.run.writes (after_history s.history (tables_of world.base)).objects o words long (rw zero-add g)))
+        (k.0.place, k.1 ∙ sym (object_words-put_written 0 i.run.writes (after_history s.history (tables_of world.base)).objects o words long (rw zero-add g)))
 
     at : (j : Option FinishRecord) → durable_commit s.cores ≡ j → Goal j
     at None e = top
