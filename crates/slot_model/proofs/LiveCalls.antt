@@ -19,7 +19,7 @@ use Rattle.kernel_model.specs.History.{AreFound, IsAttempt, IsHistory}
 use Rattle.kernel_model.specs.Chain.{cut}
 use Rattle.kernel_model.specs.Live.{Answer, IsStale, Limit, CallState, Mark, Receipt, added_by, attempt_of, begin_answer, begin_call, core_of, cores_of, fetch_answer, fetch_call, finish_answer, finish_call, lost, marked}
 use Rattle.kernel_model.specs.LiveSound.{IsLiveState, IsMarkedIf}
-use Rattle.kernel_model.proofs.ForCallers.{AreFrom, IsAfter, IsOld, as_before, at_needed, base_chain, chosen_exists, clock_base, core_at, core_at_marks, history_added, interval-shrinks, lawful_of, length-after_history, length-open_tasks, meet-wider, newest_words, no_core, open_order, starts_after, still_open, task_under-open, turned_now, within-shrinks, words_of-put, words_of-put_written}
+use Rattle.kernel_model.proofs.ForCallers.{AreFrom, IsAfter, IsOld, as_before, at_needed, base_chain, chosen_exists, clock_base, core_at, core_at_marks, history_added, interval-shrinks, lawful_of, length-after_history, length-open_tasks, meet-wider, newest_words, no_core, open_order, starts_after, still_open, task_under-open, turned_now, within-shrinks, object_words-put, object_words-put_written}
 use Rattle.slot_model.specs.Slots.{Image, IsSized}
 use Rattle.slot_model.specs.Kept.{Kept, newest_slot, with_held}
 use Rattle.slot_model.specs.Places.{planned}
@@ -279,10 +279,10 @@ live_commit_named whole sizes base s kept image n i left h c few o l = go (writt
     under = subst (IsServed sizes base s.history (committing s n i left) kept image n) (commit_core s n i left c.caller) (c.stands.served n)
 
     go : (w : Option (List ℕ)) → written i.run.writes o ≡ w → (newest_slot (with_held i w (kept.plan o) (kept.chains o)) < sizes.slots o) × (image o (newest_slot (with_held i w (kept.plan o) (kept.chains o))) ≡ object_words (after_history (i ∷ s.history) (tables_of base)).objects o)
-    go None e = let top = live_named whole sizes base s kept image (committing s n i left) h c.stands o l in (top.0, top.1 ∙ sym (words_of-put 0 i.run.writes (after_history s.history (tables_of base)).objects o (rw zero-add e)))
+    go None e = let top = live_named whole sizes base s kept image (committing s n i left) h c.stands o l in (top.0, top.1 ∙ sym (object_words-put 0 i.run.writes (after_history s.history (tables_of base)).objects o (rw zero-add e)))
     go (Some words) e =
         let k = written_given sizes base s.history (committing s n i left) kept image c.stands.sized i left (joined_run whole sizes base i s.history h.based h.fit c.joins) few under i refl o words e in
-        (k.0.place, k.1 ∙ sym (words_of-put_written 0 i.run.writes (after_history s.history (tables_of base)).objects o words long (rw zero-add e)))
+        (k.0.place, k.1 ∙ sym (object_words-put_written 0 i.run.writes (after_history s.history (tables_of base)).objects o words long (rw zero-add e)))
 
 -- a read, by tables
 pub live_read : (whole : Programs) (sizes : Sizes) (base : DeviceState) (s : CallState) (kept : Kept) (image : Image) (t : Tables) (n o : ℕ) (m : Mark) (v : Version) → IsLiveState whole base s → LiveStands sizes base s kept image → AreTables sizes base base.clock s.history kept t → get_or s.marks n None ≡ Some m →
@@ -346,4 +346,3 @@ live_free whole sizes base s kept image n i left h c = (
 pub live_late : (whole : Programs) (sizes : Sizes) (base : DeviceState) (s : CallState) (kept : Kept) (image : Image) (n : ℕ) (i : FinishRecord) (left : ℕ) → IsLiveLawful whole sizes base s → suc left ≤ late_writes sizes base s.history i → LiveCommits whole sizes base s n i (suc left) kept image → LiveCommits whole sizes base s n i left kept image
 live_late whole sizes base s kept image n i left h l c =
     subst (λ (x : Image). LiveCommits whole sizes base s n i left kept x) (ap (λ t. after_write kept.plan t image) (late_write sizes base s.history i (suc left) l)) (live_write whole sizes base s kept image n i left h c)
-
