@@ -5,6 +5,7 @@ use Rattle.std.proofs.lemmas.Bool.{cases_eq, cases_lt, eq-eqb, ne_eqb, le-leb, e
 use Rattle.std.proofs.lemmas.Nat.{div-add-mod'}
 use Rattle.kernel_model.specs.Effects.{Objects, Write, written, object_words, put, put_from}
 use Rattle.kernel_model.specs.Fit.{IsWrite}
+use Rattle.kernel_model.proofs.ForCallers.{length-put_from, put-seen}
 use Rattle.set_model.specs.Sets.{TaskSet, object_at}
 use Rattle.set_model.specs.Numbers.{sizes_of}
 use Rattle.device_model.specs.Words.{Words, Change, made, with_word}
@@ -22,18 +23,6 @@ use Rattle.device_model.proofs.CommitBody.{body-free, object-made, page-made}
 use Rattle.device_model.proofs.Tests.{from-not_eq}
 
 -- ---- objects with writes put in
-
-length-put : (k : ℕ) (ws : List Write) (objects : Objects) → length (put_from k ws objects) ≡ length objects
-length-put k ws [] = refl
-length-put k ws (x ∷ objects) = ap suc (length-put (k + 1) ws objects)
-
-put-at : (k : ℕ) (ws : List Write) (objects : Objects) (o : ℕ) → o < length objects → object_words (put_from k ws objects) o ≡ unwrap_or (written ws (k + o)) (object_words objects o)
-put-at k ws [] o l = absurd (omega arith)
-put-at k ws (x ∷ objects) zero l = let e : k ≡ k + 0 = omega arith in ap (λ (j : ℕ). unwrap_or (written ws j) x) e
-put-at k ws (x ∷ objects) (suc o) l = let e : k + 1 + o ≡ k + suc o = omega arith in put-at (k + 1) ws objects o (omega arith) ∙ ap (λ (j : ℕ). unwrap_or (written ws j) (object_words objects o)) e
-
-pub put_words : (ws : List Write) (objects : Objects) (o : ℕ) → o < length objects → object_words (put ws objects) o ≡ unwrap_or (written ws o) (object_words objects o)
-put_words ws objects o l = let e : 0 + o ≡ o = omega arith in put-at 0 ws objects o l ∙ ap (λ (j : ℕ). unwrap_or (written ws j) (object_words objects o)) e
 
 written-write : (set : TaskSet) (ws : List Write) (o : ℕ) (words : List ℕ) → AllByRecursion (IsWrite (sizes_of set)) ws → written ws o ≡ Some words → length words ≡ (object_at set o).size
 written-write set [] o words h e = absurd (cc e)
@@ -112,8 +101,8 @@ commit_prefix set l h c words k d n s a =
 held_next : (set : TaskSet) (l : Layout) (h : Held) (c : Commit) → IsLaidOut set l → IsHeld set l h → IsNext set h c → IsHeld set l (committed l set h c)
 held_next set l h c d k n = record {
   index = n.index;
-  objects = length-put 0 c.writes h.objects ∙ k.objects;
-  words = λ o a. ap length (put_words c.writes h.objects o (omega (arith, k.objects))) ∙ size o a (written c.writes o) refl;
+  objects = length-put_from 0 c.writes h.objects ∙ k.objects;
+  words = λ o a. ap length (put-seen c.writes h.objects o (omega (arith, k.objects))) ∙ size o a (written c.writes o) refl;
   root = d.is_flipped (is_changed l set h.index c) h.root k.root;
 }
   where
@@ -131,7 +120,7 @@ commit_whole set l h c words d n s = subst (KeepsIn set l (committed l set h c))
   root = with_word-same (l.root, next_root l set h c) mid l.root refl;
   index = λ i a. index i a (is_changed l set h.index c (i / l.page_words)) refl;
   objects = λ o i a b. behind_root (slot_place l set o (slice_index c.after.slots o) + i) (let f = slot_place-low l set o (slice_index c.after.slots o) i in omega arith)
-      ∙ object o i a b (written c.writes o) refl ∙ ap (λ (ws : List ℕ). slice_index ws i) (sym (put_words c.writes h.objects o (omega (arith, s.held.objects))));
+      ∙ object o i a b (written c.writes o) refl ∙ ap (λ (ws : List ℕ). slice_index ws i) (sym (put-seen c.writes h.objects o (omega (arith, s.held.objects))));
 })
   where
     mid : Words

@@ -83,7 +83,7 @@ object-read set l h words k o a =
     ap (words_from words (slot_place l set o (slice_index h.index.slots o))) (sym (k.held.words o a))
     ∙ words_are words (slot_place l set o (slice_index h.index.slots o)) (object_words h.objects o) (λ i b. k.objects o i a (omega (arith, k.held.words o a)))
 
-index-read : (set : TaskSet) (l : Layout) (h : Held) (words : Words) → IsLaidOut set l → KeepsIn set l h words → read_index (length set.objects) (index_in l words) ≡ h.index
+pub index-read : (set : TaskSet) (l : Layout) (h : Held) (words : Words) → IsLaidOut set l → KeepsIn set l h words → read_index (length set.objects) (index_in l words) ≡ h.index
 index-read set l h words d k =
     let count : index_in l words 8 ≡ length h.index.tasks = index-kept set l h words k 8 (omega (arith, d.fits)) ∙ word-count h.index in
     let most = k.held.index.records in

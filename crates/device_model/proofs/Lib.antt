@@ -23,5 +23,5 @@ pub mod HeaderLaws
 pub mod PlainLaws
 pub mod Decoded
 pub mod UnderWay
-pub mod IndexKept
 pub mod SlotWrites
+pub mod ForCallers

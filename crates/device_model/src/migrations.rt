@@ -33,7 +33,8 @@ pub fn cut_migration_keeps_state()
         → IsTaskSet set → KeepsOn (plain set) h words → k < length (migration_writes set h)
         → KeepsOn (plain set) h (image_after k (migration_writes set h) words) }
     ensures decodes { (set : TaskSet) (h : Held) (words : Words) (k : ℕ)
-        → IsTaskSet set → set.format ≡ 2 → HoldsOn (plain set) h words → k < length (migration_writes set h)
+        → IsTaskSet set → set.format ≡ 2 → HoldsOn (plain set) h words
+        → k < length (migration_writes set h)
         → HoldsOn (plain set) h (image_after k (migration_writes set h) words) }
 {}
 

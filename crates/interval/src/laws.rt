@@ -10,15 +10,18 @@ ghost use Rattle.interval.specs.Ranges.{cut_to, raised_to};
 
 /// An outside read raises the interval of reads to the begin of its version, and cuts it at the version's end.
 pub fn read_raises_and_cuts()
-    ensures { (v : Version) (i : Interval) → within (Some v) i ≡ cut_to v.end (raised_to v.begin i) }
+    ensures { (v : Version) (i : Interval)
+        → within (Some v) i ≡ cut_to v.end (raised_to v.begin i) }
 {}
 
 /// So it does with the version as it is seen after a boot, where the interval begins at the floor or later.
 pub fn read_after_boot_raises_and_cuts()
-    ensures { (floor : ℕ) (v : Version) (i : Interval) → floor ≤ i.lo → within (Some v) i ≡ cut_to v.end (raised_to (floored floor v).begin i) }
+    ensures { (floor : ℕ) (v : Version) (i : Interval) → floor ≤ i.lo
+        → within (Some v) i ≡ cut_to v.end (raised_to (floored floor v).begin i) }
 {}
 
 /// One more written object raises the interval of a finish to the object's bound.
 pub fn write_raises()
-    ensures { (bound : ℕ → ℕ) (w : Write) (ws : List Write) (i : Interval) → raised_by bound (w ∷ ws) i ≡ raised_to (bound w.object) (raised_by bound ws i) }
+    ensures { (bound : ℕ → ℕ) (w : Write) (ws : List Write) (i : Interval)
+        → raised_by bound (w ∷ ws) i ≡ raised_to (bound w.object) (raised_by bound ws i) }
 {}

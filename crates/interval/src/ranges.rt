@@ -58,7 +58,8 @@ impl Interval {
 
     /// Whether a version that lives from `begin`, included, to `end`, excluded, and the interval have a common point.
     pub fn meets(&self, begin: Point, end: Option<Point>) -> bool
-        ensures { (v : Version) → v.begin ≡ begin.0 → v.end ≡ number_of end → result ≡ meet v (range_of self.now) }
+        ensures { (v : Version) → v.begin ≡ begin.0 → v.end ≡ number_of end
+            → result ≡ meet v (range_of self.now) }
     {
         let lo = if begin.0 < self.lo.0 { self.lo } else { begin };
         is_before(lo, end) && is_before(lo, self.hi)
@@ -68,7 +69,9 @@ impl Interval {
     /// stands at the last point before `hi`, or else behind the clock; another stands at `lo`.
     pub fn pick(&self, clock: Point, writes: bool) -> Option<Point>
         requires { clock.0 < 2 ^ 32 - 1 }
-        ensures { MatchOption result (has_no_point (range_of self.now) ≡ true) (λ p. (has_no_point (range_of self.now) ≡ false) × ((ws : List Write) → is_some_write ws ≡ writes → p.0 ≡ point_of clock.0 ws (range_of self.now))) }
+        ensures { let i = range_of self.now in
+            MatchOption result (has_no_point i ≡ true) (λ p. (has_no_point i ≡ false)
+            × ((ws : List Write) → is_some_write ws ≡ writes → p.0 ≡ point_of clock.0 ws i)) }
     {
         if self.is_empty() {
             return None;

@@ -17,7 +17,7 @@ use Rattle.kernel_model.specs.Effects.{Objects, Spawn, Write, put, object_words,
 use Rattle.kernel_model.specs.Replay.{DeviceState, TaskRec}
 use Rattle.kernel_model.specs.OpenTasks.{children, others_than}
 use Rattle.kernel_model.specs.Fit.{IsSizes}
-use Rattle.kernel_model.proofs.ForCallers.{length-put_from}
+use Rattle.kernel_model.proofs.ForCallers.{children_programs, length-children, length-put_from, put-seen}
 use Rattle.set_model.specs.Sets.{ObjPart, TaskSet, object_at, program_at}
 use Rattle.set_model.specs.Limits.{IsObject, IsTask, IsTaskSet}
 use Rattle.set_model.specs.Numbers.{sizes_of}
@@ -28,7 +28,6 @@ use Rattle.set_model.proofs.LimitFacts.{few_records}
 use Rattle.task_model.specs.Shape.{HasShape}
 use Rattle.task_model.proofs.MachineFacts.{length-words_at}
 use Rattle.task_model.proofs.Shapes.{shape-set}
-use Rattle.task_model.proofs.WriteFacts.{seen}
 use Rattle.kernel_core.specs.Shapes.{AreWritten, behind, state_after}
 use Rattle.kernel_core.specs.Wants.{Awaits, received, rewritten_wanted, seen_in, with_rewritten}
 use Rattle.kernel_core.specs.Invariant.{IsGranted, IsGrantedUntil, IsHeld, IsValid, IsValidIn}
@@ -40,7 +39,7 @@ use Rattle.kernel_core.specs.declared.kernel.Phase.TheVariants as phase
 use Rattle.kernel_core.specs.declared.part.Want.{Want}
 use Rattle.kernel_core.proofs.Tables.{first_at, none_written}
 use Rattle.kernel_core.proofs.Wanting.{new_size}
-use Rattle.kernel_core.proofs.Tasks.{all-append, all-children, all-filter, all-spawns, length-children, length-others}
+use Rattle.kernel_core.proofs.Tasks.{all-append, all-filter, all-spawns, length-others}
 
 -- each object has room for two versions, and a commit and a boot end by a write
 pub sizes_fit : (set : TaskSet) → IsTaskSet set → IsSizes (sizes_of set)
@@ -175,7 +174,7 @@ writes_there (o ∷ objects) table =
 shape_put : (set : TaskSet) (ws : List Write) (objects : List ℕ) (table old : Objects) → HasShape set table → HasShape set old → AreWritten ws objects table → HasShape set (put ws old)
 shape_put set ws objects table old t h w = record {
   number = length-put_from 0 ws old ∙ h.number;
-  sizes = λ o l. let inside : o < length old = let n : length (put ws old) ≡ length old = length-put_from 0 ws old in omega (arith, l, n) in ap length (seen ws old o inside) ∙ at o inside (written ws o) refl;
+  sizes = λ o l. let inside : o < length old = let n : length (put ws old) ≡ length old = length-put_from 0 ws old in omega (arith, l, n) in ap length (put-seen ws old o inside) ∙ at o inside (written ws o) refl;
 }
   where
     at : (o : ℕ) → o < length old → (v : Option (List ℕ)) → written ws o ≡ v → length (unwrap_or v (object_words old o)) ≡ (object_at set o).size
@@ -214,7 +213,7 @@ taken k e s h committing after = subst (λ x. IsValid (record k { state = x; pha
           words = h.words;
           programs =
               all-append (λ t. t.program < length k.set.programs) others (children e.first.0 spawns) (all-filter (λ t. t.program < length k.set.programs) (λ t. not (eqb t.id e.task.0)) k.state.tasks h.programs)
-              (all-children (length k.set.programs) e.first.0 spawns (all-spawns (length k.set.programs) k.attempt.spawns h.children));
+              (children_programs (length k.set.programs) e.first.0 spawns (all-spawns (length k.set.programs) k.attempt.spawns h.children));
           records = omega (arith, few, all, fine.records);
           written = h.written;
           increasing = h.increasing;
@@ -243,7 +242,7 @@ opened k h idle memory state words written spawns = record {
   memory = memory;
   objects = subst (λ s. HasShape k.set s.objects) (sym state) (first_shape k.set h);
   words = subst (HasShape k.set) (sym words) (first_shape k.set h);
-  programs = subst (λ s. AllByRecursion (λ t. t.program < length k.set.programs) s.tasks) (sym state) (all-children (length k.set.programs) 1 k.set.tasks (all_from (λ t. IsTask (length k.set.programs) t) (λ t. t.program < length k.set.programs) (λ t i. i.program) k.set.tasks h.each_task));
+  programs = subst (λ s. AllByRecursion (λ t. t.program < length k.set.programs) s.tasks) (sym state) (children_programs (length k.set.programs) 1 k.set.tasks (all_from (λ t. IsTask (length k.set.programs) t) (λ t. t.program < length k.set.programs) (λ t i. i.program) k.set.tasks h.each_task));
   records = let n : length k.state.tasks ≡ length k.set.tasks = ap (λ (s : DeviceState). length s.tasks) state ∙ length-children 1 k.set.tasks in omega (arith, n, h.tasks);
   written = subst (AreBelow (length k.set.objects)) (sym written) tt;
   increasing = subst IsIncreasing (sym written) tt;

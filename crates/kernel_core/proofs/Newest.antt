@@ -6,7 +6,6 @@ use Rattle.kernel_model.specs.Replay.{DeviceState, after_history, clock_of, tabl
 use Rattle.kernel_model.specs.Versions.{Read, Version, chosen, read_words, version_read, versions, words_in}
 use Rattle.kernel_model.specs.Intervals.{Interval, finish_interval, last_touch, raised_for, read_interval, sooner, within}
 use Rattle.kernel_model.proofs.ForCallers.{chosen_exists, last_touch-clock, length-put_from, newest, newest-found, newest_words, tops}
-use Rattle.task_model.proofs.WriteFacts.{seen}
 
 -- as many objects as at first
 pub length-objects : (base : DeviceState) (history : List FinishRecord) → length (after_history history (tables_of base)).objects ≡ length base.objects

@@ -5,8 +5,8 @@ use Rattle.std.proofs.lemmas.List.{ext_get_or, length-map, length-set, take_more
 use Rattle.std.proofs.lemmas.Bool.{eqb-true, eqb-false}
 use Rattle.object_sets.specs.ObjectSets.{is_among, with_object, IsIncreasing}
 use Rattle.kernel_model.specs.Effects.{Objects, Write, put, with_write, object_words, written}
-use Rattle.kernel_model.proofs.ForCallers.{length-put_from, written-with_write}
-use Rattle.task_model.proofs.WriteFacts.{objects_in-with_write, seen}
+use Rattle.kernel_model.proofs.ForCallers.{length-put_from, put-seen, written-with_write}
+use Rattle.task_model.proofs.WriteFacts.{objects_in-with_write}
 use Rattle.set_model.specs.Sets.{ObjPart, TaskSet, object_at}
 use Rattle.kernel_core.specs.Shapes.{AreWritten}
 
@@ -53,7 +53,7 @@ merged_skip objects words old new n h e = record {
 pub merged_all : (objects : List ℕ) (words old new : Objects) (n : ℕ) → IsMerged objects words old new n → length old ≤ n → (ws : List Write) → AreWritten ws objects words → new ≡ put ws old
 merged_all objects words old new n h l ws w =
     ext_get_or [] new (put ws old) (h.number ∙ sym (length-put_from 0 ws old))
-    (λ o b. h.done o (omega (arith, b, l, h.number)) ∙ at o ∙ sym (seen ws old o (omega (arith, b, h.number))))
+    (λ o b. h.done o (omega (arith, b, l, h.number)) ∙ at o ∙ sym (put-seen ws old o (omega (arith, b, h.number))))
   where
     go : (o : ℕ) (v : Option (List ℕ)) → written ws o ≡ v → cond (is_some v) (object_words words o) (object_words old o) ≡ unwrap_or v (object_words old o)
     go o None e = refl

@@ -18,10 +18,6 @@ children-append first (x ∷ xs) ys =
     ap (λ rest. record { id = first; program = x.program; arg = x.arg } ∷ rest)
     (children-append (first + 1) xs ys ∙ ap (λ n. children (first + 1) xs ++ children n ys) (let e : first + 1 + length xs ≡ first + suc (length xs) = omega arith in e))
 
-pub length-children : (first : ℕ) (xs : List Spawn) → length (children first xs) ≡ length xs
-length-children first [] = refl
-length-children first (x ∷ xs) = ap suc (length-children (first + 1) xs)
-
 pub map-filter : {A B : Type 0} → (f : A → B) (p : B → Bool) (xs : List A) → map f (filter (λ x. p (f x)) xs) ≡ filter p (map f xs)
 map-filter f p [] = refl
 map-filter {A} {B} f p (x ∷ xs) = at (p (f x)) (map-filter f p xs)
@@ -63,10 +59,6 @@ all-filter {A} P p (x ∷ xs) h = at (p x) (all-filter P p xs h.1)
 pub all-append : {A : Type 0} → (P : A → Type 0) (xs ys : List A) → AllByRecursion P xs → AllByRecursion P ys → AllByRecursion P (xs ++ ys)
 all-append P [] ys h g = g
 all-append P (x ∷ xs) ys h g = (h.0, all-append P xs ys h.1 g)
-
-pub all-children : (n first : ℕ) (xs : List Spawn) → AllByRecursion (λ s. s.program < n) xs → AllByRecursion (λ t. t.program < n) (children first xs)
-all-children n first [] h = tt
-all-children n first (x ∷ xs) h = (h.0, all-children n (first + 1) xs h.1)
 
 pub all-spawns : (n : ℕ) (xs : List base_spawn.Spawn) → AllByRecursion (λ s. s.program.0 < n) xs → AllByRecursion (λ s. s.program < n) (map spawn_of xs)
 all-spawns n [] h = tt

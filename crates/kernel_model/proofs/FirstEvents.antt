@@ -19,7 +19,7 @@ use Rattle.kernel_model.proofs.ReportLaws.{report_told, start_fresh, told-append
 use Rattle.kernel_model.proofs.StepLaws.{history-step, next_sound, run_sound, sound-ids}
 
 -- the first n + 1 of a list
-take_one_more : {A : Type 0} → (n : ℕ) (xs : List A) (x : A) → slice_get xs n ≡ Some x → take (n + 1) xs ≡ take n xs ++ x ∷ []
+pub take_one_more : {A : Type 0} → (n : ℕ) (xs : List A) (x : A) → slice_get xs n ≡ Some x → take (n + 1) xs ≡ take n xs ++ x ∷ []
 take_one_more {A} n xs x e = rw add-one (take-suc xs n x (slice_get_within xs n x e) ∙ ap (λ (y : A). take n xs ++ y ∷ []) (get_or_from_slice_get xs n x x e))
 
 -- the first n, of the first m and then others

@@ -50,9 +50,9 @@ needed_before base g h o v marks n m own others e = go k.0 _ (mark_at marks n m 
     go k d (no_caller f) i = absurd (let x = rw f at i in cc x)
 
 -- of each version that has this
-each : (P R : Version → Type 0) → ((v : Version) → P v → R v) → (vs : List Version) → AllByRecursion P vs → AllByRecursion R vs
-each P R f [] h = tt
-each P R f (v ∷ vs) h = (f v h.0, each P R f vs h.1)
+pub each_version : (P R : Version → Type 0) → ((v : Version) → P v → R v) → (vs : List Version) → AllByRecursion P vs → AllByRecursion R vs
+each_version P R f [] h = tt
+each_version P R f (v ∷ vs) h = (f v h.0, each_version P R f vs h.1)
 
 -- a begin needs no older version
 begin_needs : (base : DeviceState) (s : CallState) (n o : ℕ) (v : Version) → IsOld base o s.history v → is_needed base (begin_call base s n s.loss).0.history o (cores_of (begin_call base s n s.loss).0.marks) v ≡ true → is_needed base s.history o (cores_of s.marks) v ≡ true
@@ -183,14 +183,14 @@ pub begin_chain : (whole : Programs) (base : DeviceState) (s : CallState) → Is
     (let t = (begin_call base s n s.loss).0 in IsChain base.clock (is_needed base t.history o (cores_of t.marks)) chain (versions base o t.history))
 begin_chain whole base s h n o chain =
     stays base s (begin_call base s n s.loss).0 o chain (begin_history base s n)
-    (each (IsOld base o s.history) _ (λ v old e. begin_needs base s n o v old e) (older (versions base o s.history)) (older-old base o s.history (lawful_of base s.history h.history.numbered h.history.ordered) h.history.numbered))
+    (each_version (IsOld base o s.history) _ (λ v old e. begin_needs base s n o v old e) (older (versions base o s.history)) (older-old base o s.history (lawful_of base s.history h.history.numbered h.history.ordered) h.history.numbered))
 
 pub fetch_chain : (whole : Programs) (base : DeviceState) (s : CallState) → IsLiveState whole base s → (n : ℕ) (m : Mark) → get_or s.marks n None ≡ Some m → (p : ℕ) (device : Option ℕ) (o : ℕ) (chain : List Version) →
     IsChain base.clock (is_needed base s.history o (cores_of s.marks)) chain (versions base o s.history) →
     (let t = (fetch_call base s n m p s.loss device).0 in IsChain base.clock (is_needed base t.history o (cores_of t.marks)) chain (versions base o t.history))
 fetch_chain whole base s h n m own p device o chain =
     stays base s (fetch_call base s n m p s.loss device).0 o chain (fetch_history base s n m p device)
-    (each (IsOld base o s.history) _ (λ v old e. fetch_needs base s n m p device o v own e) (older (versions base o s.history)) (older-old base o s.history (lawful_of base s.history h.history.numbered h.history.ordered) h.history.numbered))
+    (each_version (IsOld base o s.history) _ (λ v old e. fetch_needs base s n m p device o v own e) (older (versions base o s.history)) (older-old base o s.history (lawful_of base s.history h.history.numbered h.history.ordered) h.history.numbered))
 
 pub finish_chain : (whole : Programs) (sizes : Sizes) (base : DeviceState) (s : CallState) → IsLiveState whole base s → (n : ℕ) (m : Mark) (run : Run) (device : Option ℕ) (o : ℕ) (chain : List Version) → IsHistory whole base (finish_call sizes base s n m run s.loss device).0.history →
     IsChain base.clock (is_needed base s.history o (cores_of s.marks)) chain (versions base o s.history) →
@@ -199,7 +199,7 @@ finish_chain whole sizes base s h n m run device o chain g c =
     subst (λ (x : List FinishRecord). IsChain base.clock (is_needed base a.0.history o (cores_of a.0.marks)) (with_joining (added_by a.1) o chain) (versions base o x)) (sym same)
     (chain-joined (is_needed base a.0.history o (cores_of a.0.marks)) base.clock base o (added_by a.1) s.history from chain
     (chain-less base.clock (is_needed base s.history o (cores_of s.marks)) (is_needed base a.0.history o (cores_of a.0.marks)) chain (versions base o s.history)
-    (each (IsOld base o s.history) _ (λ v old e. finish_needs whole sizes base s h n m run device o v g e) (older (versions base o s.history)) (older-old base o s.history (lawful_of base s.history h.history.numbered h.history.ordered) h.history.numbered)) c))
+    (each_version (IsOld base o s.history) _ (λ v old e. finish_needs whole sizes base s h n m run device o v g e) (older (versions base o s.history)) (older-old base o s.history (lawful_of base s.history h.history.numbered h.history.ordered) h.history.numbered)) c))
   where
     a : CallState × Answer
     a = finish_call sizes base s n m run s.loss device

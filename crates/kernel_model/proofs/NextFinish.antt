@@ -3,7 +3,7 @@ use Rattle.std.proofs.Common.{◌≡◌, ℕ, ◌+◌, ◌-◌, ◌≤◌, ◌<�
 use Rattle.std.specs.Prelude.{◌&&◌}
 use Rattle.std.specs.List.{AllByRecursion}
 use Rattle.std.specs.Option.{option_or}
-use Rattle.std.proofs.lemmas.Bool.{eq-eqb, eqb-true, leb-true}
+use Rattle.std.proofs.lemmas.Bool.{eq-eqb, leb-true}
 use Rattle.std.proofs.lemmas.Option.{slice_get_within}
 use Rattle.kernel_model.specs.Effects.{Programs, Spawn}
 use Rattle.kernel_model.specs.Items.{Entry, FinishRecord, entry_of, serial_order}
@@ -16,6 +16,7 @@ use Rattle.kernel_model.proofs.Growth.{task_under-open}
 use Rattle.kernel_model.proofs.Joining.{joined_listings}
 use Rattle.kernel_model.proofs.OpenLaws.{open_order, next-base}
 use Rattle.kernel_model.proofs.Order.{serial_order-all}
+use Rattle.kernel_model.proofs.Theorem.{task_under-below}
 
 pub none_serial : (whole : Programs) (base : DeviceState) → InIdOrder base.tasks → Serial whole base [] base
 none_serial whole base o = record {
@@ -66,15 +67,6 @@ firsts-below : (base : DeviceState) (history : List FinishRecord) → AreNumbere
 firsts-below base [] h = tt
 firsts-below base (i ∷ history) h = (omega (arith, h.1), more (next_id base history) (next_id base (i ∷ history)) history (omega arith) (firsts-below base history h.2))
 
--- old tasks are under ids below the next one, and back
-under-old : (n : ℕ) (tasks : List TaskRec) → AllByRecursion (λ t. t.id < n) tasks → (id : ℕ) (x : Spawn) → task_under tasks id ≡ Some x → id < n
-under-old n [] h id x e = absurd (cc e)
-under-old n (t ∷ tasks) h id x e = go (under-old n tasks h.1 id x) (eqb t.id id) refl e
-  where
-    go : (task_under tasks id ≡ Some x → id < n) → (b : Bool) → eqb t.id id ≡ b → cond b (Some (let s : Spawn = record { program = t.program; arg = t.arg } in s)) (task_under tasks id) ≡ Some x → id < n
-    go rest true f e = let same : t.id ≡ id = eqb-true t.id id f in omega (arith, same, h.0)
-    go rest false f e = rest e
-
 old-under : (n : ℕ) (tasks : List TaskRec) → ((id : ℕ) (x : Spawn) → task_under tasks id ≡ Some x → id < n) → AllByRecursion (λ t. t.id < n) tasks
 old-under n [] h = tt
 old-under n (t ∷ tasks) h = (h t.id (record { program = t.program; arg = t.arg }) (rw (eq-eqb t.id t.id refl) refl), old-under n tasks (λ id x e. later id x e (eqb t.id id) refl))
@@ -96,7 +88,7 @@ serial_old whole base f entries old s = subst (λ n. AllByRecursion (λ t. t.id 
     firsts = serial_order-all (λ i. i.first + length i.run.spawns ≤ n) s.history (firsts-below base s.history s.numbered)
 
     all : IsBelow n (after_all (serial_order s.history) (tables_of base))
-    all = all-below n (serial_order s.history) (tables_of base) firsts (λ id x e. omega (arith, under-old base.next base.tasks old id x e, next-base base s.history))
+    all = all-below n (serial_order s.history) (tables_of base) firsts (λ id x e. omega (arith, task_under-below base.next base.tasks old id x e, next-base base s.history))
 
 -- one finish alone
 one_serial : (whole : Programs) (f : DeviceState) (i : FinishRecord) → HasOldTasks f → InIdOrder f.tasks → IsRunOn whole i (tables_of f) → i.number ≡ f.number + 1 → i.first ≡ f.next → f.next + length i.run.spawns ≤ max_id →
@@ -115,7 +107,7 @@ one_serial whole f i old o run n k l = record {
 }
   where
     numbered : IsNumbered f (i ∷ [])
-    numbered = ((omega (arith, n), k, tt), (omega (arith, k, under-old f.next f.tasks old i.task run.0 run.1), tt))
+    numbered = ((omega (arith, n), k, tt), (omega (arith, k, task_under-below f.next f.tasks old i.task run.0 run.1), tt))
 
 pub next_serial : (whole : Programs) (base f : DeviceState) (entries : List Entry) (i : FinishRecord) → HasOldTasks base → Serial whole base entries f → IsRunOn whole i (tables_of f) → i.number ≡ f.number + 1 → i.first ≡ f.next → f.clock ≤ i.point → f.next + length i.run.spawns ≤ max_id →
     Serial whole base (entries ++ entry_of i ∷ []) (state_left f (i ∷ []))

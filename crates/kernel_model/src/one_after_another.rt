@@ -15,12 +15,15 @@ pub fn no_finish_is_serial()
 
 /// A serial listing goes on with the whole run of an open task on the state that it left, at that state's clock or later.
 pub fn next_finish_is_serial()
-    ensures { (whole : Programs) (base f : DeviceState) (entries : List Entry) (i : FinishRecord) → HasOldTasks base → Serial whole base entries f
-        → IsRunOn whole i (tables_of f) → i.number ≡ f.number + 1 → i.first ≡ f.next → f.clock ≤ i.point → f.next + length i.run.spawns ≤ max_id
+    ensures { (whole : Programs) (base f : DeviceState) (entries : List Entry) (i : FinishRecord)
+        → HasOldTasks base → Serial whole base entries f
+        → IsRunOn whole i (tables_of f) → i.number ≡ f.number + 1 → i.first ≡ f.next
+        → f.clock ≤ i.point → f.next + length i.run.spawns ≤ max_id
         → Serial whole base (entries ++ entry_of i ∷ []) (state_left f (i ∷ [])) }
 {}
 
 /// The open tasks that a serial listing leaves have ids below the next one.
 pub fn serial_tasks_are_old()
-    ensures { (whole : Programs) (base f : DeviceState) (entries : List Entry) → HasOldTasks base → Serial whole base entries f → HasOldTasks f }
+    ensures { (whole : Programs) (base f : DeviceState) (entries : List Entry) → HasOldTasks base
+        → Serial whole base entries f → HasOldTasks f }
 {}

@@ -12,7 +12,8 @@ pub fn with_object_keeps_increasing()
 
 /// Among the objects after one was put in are this one and those before, and no others.
 pub fn with_object_adds_one()
-    ensures { (o p : ℕ) (xs : List ℕ) → is_among p (with_object o xs) ≡ ((o == p) || is_among p xs) }
+    ensures { (o p : ℕ) (xs : List ℕ)
+        → is_among p (with_object o xs) ≡ ((o == p) || is_among p xs) }
 {}
 
 /// All objects stay below a number when one below it is put in.
@@ -22,5 +23,6 @@ pub fn with_object_keeps_below()
 
 /// Two increasing lists with the same objects are one: a set has one spelling.
 pub fn same_objects_same_list()
-    ensures { (xs ys : List ℕ) → IsIncreasing xs → IsIncreasing ys → ((o : ℕ) → is_among o xs ≡ is_among o ys) → xs ≡ ys }
+    ensures { (xs ys : List ℕ) → IsIncreasing xs → IsIncreasing ys
+        → ((o : ℕ) → is_among o xs ≡ is_among o ys) → xs ≡ ys }
 {}

@@ -26,3 +26,4 @@ pub mod Going
 pub mod CodeSide
 pub mod Copies
 pub mod Keeping
+pub mod ForCallers

@@ -346,4 +346,3 @@ live_free whole sizes base s kept image n i left h c = (
 pub live_late : (whole : Programs) (sizes : Sizes) (base : DeviceState) (s : CallState) (kept : Kept) (image : Image) (n : ℕ) (i : FinishRecord) (left : ℕ) → IsLiveLawful whole sizes base s → suc left ≤ late_writes sizes base s.history i → LiveCommits whole sizes base s n i (suc left) kept image → LiveCommits whole sizes base s n i left kept image
 live_late whole sizes base s kept image n i left h l c =
     subst (λ (x : Image). LiveCommits whole sizes base s n i left kept x) (ap (λ t. after_write kept.plan t image) (late_write sizes base s.history i (suc left) l)) (live_write whole sizes base s kept image n i left h c)
-

@@ -14,7 +14,7 @@ use Rattle.kernel_model.specs.History.{IsHistory}
 use Rattle.kernel_model.specs.Fit.{AreSized, IsBase, IsRun}
 use Rattle.kernel_model.specs.Live.{CallState, Mark, core_of, cores_of}
 use Rattle.kernel_model.specs.LiveSound.{IsLiveState, IsMarkedIf}
-use Rattle.kernel_model.proofs.ForCallers.{AreFrom, EndsBy, IsAfter, IsOld, as_before, at_needed, base-sized, chain-joined, chain-less, clock_base, core_at, core_at_marks, fit-runs, lawful_of, needed_at, no_core, older-ended, older-old, start_lo, turned_now}
+use Rattle.kernel_model.proofs.ForCallers.{AreFrom, EndsBy, IsAfter, IsOld, as_before, at_needed, base-sized, chain-joined, chain-less, clock_base, core_at, core_at_marks, each_version, fit-runs, lawful_of, needed_at, no_core, older-ended, older-old, start_lo, turned_now}
 use Rattle.slot_model.specs.Slots.{Image}
 use Rattle.slot_model.specs.Kept.{Kept}
 use Rattle.slot_model.specs.Standing.{Stands}
@@ -53,10 +53,6 @@ needed_turn {M} base g h o v cores n d own others e = at k.0 (get_or (set cores 
     at k x (turned_now a f) i = own (rw f at i)
     at k x (as_before ne f) i = at_needed base h o v cores k (others k ne (rw f at i))
     at k x (no_core f) i = absurd (let y : is_needed_by {M = M} base g o v Idle ≡ true = rw f at i in cc y)
-
-each_version : (P R : Version → Type 0) → ((v : Version) → P v → R v) → (vs : List Version) → AllByRecursion P vs → AllByRecursion R vs
-each_version P R f [] h = tt
-each_version P R f (v ∷ vs) h = (f v h.0, each_version P R f vs h.1)
 
 olds : (whole : Programs) (base : DeviceState) (history : List FinishRecord) → IsHistory whole base history → (o : ℕ) → AllByRecursion (IsOld base o history) (older (versions base o history))
 olds whole base history h o = older-old base o history (lawful_of base history h.numbered h.ordered) h.numbered

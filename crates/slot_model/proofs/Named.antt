@@ -15,7 +15,7 @@ use Rattle.kernel_model.specs.Turns.{Nothing, commit_writes, core_turn, quiet, v
 use Rattle.kernel_model.specs.Events.{Boot, CoreStep, Event, Fail, On, Power, State, acting_on, boot_turn, core_event, durable_commit, event_step, with_finish}
 use Rattle.kernel_model.specs.Durable.{flipped_by, flipped_core}
 use Rattle.kernel_model.specs.Chain.{floored}
-use Rattle.kernel_model.proofs.ForCallers.{chosen_exists, durable_commit-found, durable_commit-idle, durable_commit-none, durable_commit-one, durable_commit-set, finishes, get_or-idle, length-after_history, newest_words, no_commit, others_commit, tops, turn_gives, object_words-put, object_words-put_written}
+use Rattle.kernel_model.proofs.ForCallers.{chosen_exists, durable_commit-found, durable_commit-idle, durable_commit-none, durable_commit-one, durable_commit-put, durable_commit-set, finishes, get_or-idle, length-after_history, newest_words, no_commit, no_finish, others_commit, tops, turn_gives, object_words-put, object_words-put_written}
 use Rattle.slot_model.specs.Slots.{Image}
 use Rattle.slot_model.specs.Kept.{Held, Kept, newest_alone, newest_slot, with_held}
 use Rattle.slot_model.specs.Changes.{kept_after, kept_run, kept_step, kept_turn, kept_verdict, named_slot, pinned, with_finished}
@@ -102,29 +102,8 @@ calm_chains sizes base history others n (Committing i (suc left)) d kept e = ref
 found_core : {M : Type 0} → (cores : List (Core M)) (i : FinishRecord) → durable_commit cores ≡ Some i → (k : ℕ) × (get_or cores k Idle ≡ Committing i 0)
 found_core cores i e = let k = durable_commit-found cores i e in (k.0, (finishes (get_or cores k.0 Idle) i k.1).1)
 
--- a turn that ends no commit and begins none to write
-no_finish : {M : Type 0} → (world : World M) → ((before after : List TaskRec) (writes : List Write) → 0 < world.sizes.index_writes before after writes) → (history : List FinishRecord) (others : List (Core M)) (n : ℕ) (c : Core M) → (commits c ≡ true → ⊥) →
-    finished_by (core_turn world history others n c).core ≡ None
-no_finish {M} world l history others n c h =
-    turn_gives (λ d. finished_by d ≡ None) refl world history others n c
-    (λ t b e f g. refl) (λ a b e f. refl) (λ a b k e f. refl) (λ a outcome e. refl)
-    (λ a outcome i e f g. left_over i (commit_writes world.sizes world.base history i) (let k = l (open_tasks world.base history) (open_tasks world.base (i ∷ history)) i.run.writes in omega (arith, k)))
-    (λ i left e. absurd (h (rw e refl)))
-  where
-    left_over : (i : FinishRecord) (left : ℕ) → 0 < left → finished_by {M = M} (Committing i left) ≡ None
-    left_over i zero l = absurd (omega arith)
-    left_over i (suc left) l = refl
-
--- a commit that has just made its last write
-commit_put : {M : Type 0} → (cores : List (Core M)) (n : ℕ) (i : FinishRecord) → (commits (get_or cores n Idle) ≡ true) → ((k : ℕ) → (k ≡ n → ⊥) → finished_by (get_or cores k Idle) ≡ None) → durable_commit (set cores n (Committing i zero)) ≡ Some i
-commit_put [] n i e h = absurd (cc e)
-commit_put (c ∷ cores) zero i e h = refl
-commit_put (c ∷ cores) (suc n) i e h =
-    let first : finished_by c ≡ None = h 0 (λ f. absurd (omega (arith, f))) in
-    rw first (commit_put cores n i e (λ k ne. h (suc k) (λ f. ne (omega (arith, f)))))
-
 -- what a running core leaves
-run_chains : {M : Type 0} → (base : DeviceState) (history : List FinishRecord) (n : ℕ) (a : Attempt M) (kept : Kept) (j : Option FinishRecord) (d : Core M) → (with_finished j (kept_run base history n a d kept)).chains ≡ (with_finished j kept).chains
+pub run_chains : {M : Type 0} → (base : DeviceState) (history : List FinishRecord) (n : ℕ) (a : Attempt M) (kept : Kept) (j : Option FinishRecord) (d : Core M) → (with_finished j (kept_run base history n a d kept)).chains ≡ (with_finished j kept).chains
 run_chains {M} base history n a kept j d = go d
   where
     pin : (j : Option FinishRecord) (reads : List Read) → (with_finished j (pinned base history n a reads kept)).chains ≡ (with_finished j kept).chains
@@ -176,7 +155,7 @@ named_turn {M} world l s one kept n c e = by c e
     by (Copying a k) e = ap (λ j. (with_finished j kept).chains) (same (Copying a k) e (λ f. cc f) refl)
     by (Ready a outcome) e = ap (λ j. (with_finished j (kept_verdict world.sizes world.base s.history (all_but n s.cores) (now (Ready a outcome)) kept)).chains) (same (Ready a outcome) e (λ f. cc f) refl) ∙ ready a outcome e (durable_commit s.cores) refl
     by (Committing i zero) e = let both = durable_commit-one s.cores n i (rw e refl) (no_other (Committing i zero) e refl) in rw (both.1, both.0) refl
-    by (Committing i (suc zero)) e = rw (commit_put s.cores n i (rw e refl) (no_other (Committing i (suc zero)) e refl), durable_commit-none s.cores (λ k. none_at k i zero e)) refl
+    by (Committing i (suc zero)) e = rw (durable_commit-put s.cores n i (rw e refl) (no_other (Committing i (suc zero)) e refl), durable_commit-none s.cores (λ k. none_at k i zero e)) refl
     by (Committing i (suc (suc left))) e = rw (durable_commit-set s.cores n (Committing i (suc left)) (rw e refl)) refl
 
 -- the named slots after an event: those of a finish whose last write it makes, and else the same

@@ -2,7 +2,7 @@
 use Rattle.std.proofs.Common.{⊎_elim, ◌≡◌, ℕ, Bool, true, false, cond, ltb, eqb, not, List, [], ◌∷◌, Option, Some, None, refl, sym, ap, ◌∙◌}
 use Rattle.std.specs.Prelude.{◌&&◌}
 use Rattle.std.specs.List.{AllByRecursion}
-use Rattle.std.proofs.lemmas.Bool.{eqb-true, eq-eqb, or_right, or_cases}
+use Rattle.std.proofs.lemmas.Bool.{eqb-true, eq-eqb, or_right, or_cases, and_parts}
 use Rattle.kernel_model.specs.Items.{FinishRecord}
 use Rattle.kernel_model.specs.Versions.{Version, chosen}
 use Rattle.slot_model.specs.Kept.{Held, chosen_held, is_there, versions_in, with_held, without_slot}
@@ -17,10 +17,6 @@ chosen_there (Some hi) (h ∷ hs) v e = go (chosen_there (Some hi) hs v) (ltb h.
         (b : Bool) → cond b (Some h.version) (chosen (Some hi) (versions_in hs)) ≡ Some v → (g : Held) × (cond b (Some h) (chosen_held (Some hi) hs) ≡ Some g) × (g.version ≡ v) × (is_there g.slot v.writer (h ∷ hs) ≡ true)
     go rest true e = let same : h.version ≡ v = cc e in (h, refl, same, rw (eq-eqb h.slot h.slot refl, eq-eqb h.version.writer v.writer (ap (λ (x : Version). x.writer) same)) refl)
     go rest false e = let r = rest e in (r.0, r.1, r.2, or_right (eqb h.slot r.0.slot && eqb h.version.writer v.writer) (is_there r.0.slot v.writer hs) r.3)
-
-and_parts : (a b : Bool) → (a && b) ≡ true → (a ≡ true) × (b ≡ true)
-and_parts true b e = (refl, e)
-and_parts false b e = absurd (cc e)
 
 -- what is there and must stand is in no spare slot
 pub there_apart : (must : Held → Bool) (k slot writer : ℕ) (chain : List Held) → ((h : Held) → h.version.writer ≡ writer → must h ≡ true) → AllByRecursion (λ h. must h ≡ true → h.slot ≡ k → ⊥) chain → is_there slot writer chain ≡ true → slot ≡ k → ⊥

@@ -13,7 +13,7 @@ use Rattle.kernel_model.specs.Room.{interval_of}
 use Rattle.kernel_model.specs.Events.{State}
 use Rattle.kernel_model.specs.History.{IsNumbered}
 use Rattle.kernel_model.specs.Sound.{IsSoundCore}
-use Rattle.kernel_model.proofs.ForCallers.{bound_at_clock, length-open_tasks, open_order}
+use Rattle.kernel_model.proofs.ForCallers.{bound_at_clock, chosen-all, length-open_tasks, open_order}
 use Rattle.slot_model.specs.Slots.{Image}
 use Rattle.slot_model.specs.Kept.{Kept}
 use Rattle.slot_model.specs.Changes.{first_kept, with_finished}
@@ -24,16 +24,6 @@ use Rattle.slot_model.proofs.SlotLaws.{chosen_stands}
 use Rattle.slot_model.proofs.Tables.{choose_places, cut_by_place}
 use Rattle.slot_model.proofs.Uniques.{Fall, versions_fall}
 
--- what holds of all versions holds of the chosen one
-chosen_has : (P : Version → Type 0) (hi : Option ℕ) (vs : List Version) (v : Version) → AllByRecursion P vs → chosen hi vs ≡ Some v → P v
-chosen_has P hi [] v p e = absurd (cc e)
-chosen_has P None (x ∷ vs) v p e = let same : x ≡ v = cc e in subst P same p.0
-chosen_has P (Some hi) (x ∷ vs) v p e = go (chosen_has P (Some hi) vs v p.1) (ltb x.begin hi) e
-  where
-    go : (chosen (Some hi) vs ≡ Some v → P v) → (b : Bool) → cond b (Some x) (chosen (Some hi) vs) ≡ Some v → P v
-    go rest true e = let same : x ≡ v = cc e in subst P same p.0
-    go rest false e = rest e
-
 -- the chosen version is found by its writer
 pub chosen_found : (hi : Option ℕ) (vs : List Version) (v : Version) → Fall vs → chosen hi vs ≡ Some v → find_version v.writer vs ≡ Some v
 chosen_found hi [] v f e = absurd (cc e)
@@ -43,7 +33,7 @@ chosen_found (Some hi) (x ∷ vs) v f e = go (chosen_found (Some hi) vs v f.1) (
     go : (chosen (Some hi) vs ≡ Some v → find_version v.writer vs ≡ Some v) → (b : Bool) → cond b (Some x) (chosen (Some hi) vs) ≡ Some v → find_version v.writer (x ∷ vs) ≡ Some v
     go rest true e = let same : x ≡ v = cc e in ap (λ b. cond b (Some x) (find_version v.writer vs)) (eq-eqb x.writer v.writer (ap (λ (y : Version). y.writer) same)) ∙ ap (λ (y : Version). Some y) same
     go rest false e =
-        let low : v.writer < x.writer = chosen_has (λ u. u.writer < x.writer) (Some hi) vs v f.0 e in
+        let low : v.writer < x.writer = chosen-all (λ u. u.writer < x.writer) (Some hi) vs v f.0 e in
         ap (λ b. cond b (Some x) (find_version v.writer vs)) (ne_eqb x.writer v.writer (λ g. absurd (omega (arith, low, g)))) ∙ rest e
 
 -- an outside read, by tables

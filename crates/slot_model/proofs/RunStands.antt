@@ -10,7 +10,7 @@ use Rattle.kernel_model.specs.Events.{Event, Power, State, event_step, opened, s
 use Rattle.kernel_model.specs.Fit.{HasIds, IsSetUp}
 use Rattle.kernel_model.specs.Sound.{IsSound}
 use Rattle.kernel_model.specs.Execution.{Execution, start_of, state_at}
-use Rattle.kernel_model.proofs.ForCallers.{all_sound, base_chain, floor_of_idle, get_or-replicate_idle, history-step, next_sound, opened_sound, sound-ids}
+use Rattle.kernel_model.proofs.ForCallers.{all_sound, base_chain, floor_of_idle, get_or-replicate_idle, history-bound, history-step, next_sound, opened_sound, sound-ids}
 use Rattle.slot_model.specs.Slots.{Image, IsSized}
 use Rattle.slot_model.specs.Changes.{Beside, beside_after, beside_event, first_kept}
 use Rattle.slot_model.specs.Standing.{IsLawful, StandsFor}
@@ -37,17 +37,12 @@ pub run_stands : {M : Type 0} → (x : Execution M) (n : ℕ) (b : Beside) → S
 run_stands {M} x n b f =
     events_stand x.world x.set_up (take n x.events) (start_of x) b (let k = few n x.events in let l : HasIds x.world.base (length x.events) = x.ids in omega (arith, l, k)) (opened_sound x.world x.set_up x.cores x.power x.boots) f
 
--- so many events, so many finishes at most
-grows : {M : Type 0} → (world : World M) (events : List Event) (s : State M) → length (state_after world s events).history ≤ length s.history + length events
-grows world [] s = omega arith
-grows world (e ∷ events) s = let l = grows world events (event_step world s e).0 in let k = history-step world s e in omega (arith, l, k)
-
 -- in each state of a run the laws hold
 pub run_lawful : {M : Type 0} → (x : Execution M) (n : ℕ) → IsLawful x.world (state_at x n)
 run_lawful {M} x n = record {
   set_up = x.set_up;
   sound = sound;
-  ids = sound-ids x.world x.set_up (state_at x n).history sound.history (omega (arith, grows x.world (take n x.events) (start_of x), ids));
+  ids = sound-ids x.world x.set_up (state_at x n).history sound.history (omega (arith, history-bound x.world (take n x.events) (start_of x), ids));
 }
   where
     ids : HasIds x.world.base (length (take n x.events))

@@ -12,14 +12,14 @@ use Rattle.kernel_model.specs.Cores.{Attempt, Copying, Core, Idle}
 use Rattle.kernel_model.specs.Room.{interval_of, is_copied_by, is_needed, is_newest_read, meet}
 use Rattle.kernel_model.specs.History.{IsNumbered}
 use Rattle.kernel_model.specs.Chain.{IsChain, IsPart, floored}
-use Rattle.kernel_model.proofs.ForCallers.{at_needed, chosen-met, chosen_from_chain, writer_found}
+use Rattle.kernel_model.proofs.ForCallers.{at_needed, chosen-met, chosen_from_chain, part_of_chain, writer_found}
 use Rattle.slot_model.specs.Slots.{Image}
 use Rattle.slot_model.specs.Kept.{Held, Kept, chosen_held, is_there, must_stand, versions_in}
 use Rattle.slot_model.specs.Standing.{AreStanding, IsChosen, IsPinned, IsServed, Stands}
 use Rattle.slot_model.proofs.Chains.{HasNewest, both_held, each_held, newest_must}
 use Rattle.slot_model.proofs.Nexts.{newest_of, seen_of}
 use Rattle.slot_model.proofs.Pins.{chosen_there}
-use Rattle.slot_model.proofs.Uniques.{IsFound, chain_part, there_found, versions_fall}
+use Rattle.slot_model.proofs.Uniques.{IsFound, there_found, versions_fall}
 
 -- the version that a core copies stands in the slot that it copies from
 pub copied_stands : {M : Type 0} → (sizes : Sizes) (base : DeviceState) (floor : ℕ) (history : List FinishRecord) (cores : List (Core M)) (kept : Kept) (image : Image) → IsNumbered base history → Stands sizes base floor history cores kept image →
@@ -38,7 +38,7 @@ copied_stands {M} sizes base floor history cores kept image num s n a copied r r
     f : IsFound floor (kept.pins n) r.writer P (versions base r.object history)
     f =
         there_found floor (kept.pins n) r.writer (is_needed base history r.object cores) P (versions base r.object history) (versions_fall None base r.object history num) (kept.chains r.object)
-        (chain_part floor (is_needed base history r.object cores) (versions_in (kept.chains r.object)) (versions base r.object history) stand.chained) pin
+        (part_of_chain floor (is_needed base history r.object cores) (versions_in (kept.chains r.object)) (versions base r.object history) stand.chained) pin
         (both_held (λ h. h.slot < sizes.slots r.object) (λ h. must_stand (is_needed base history r.object cores) h ≡ true → image r.object h.slot ≡ h.version.words) P (λ h p q. (p, q)) (kept.chains r.object) stand.places stand.words)
 
     read : is_newest_read r.object f.held.version a.reads ≡ true

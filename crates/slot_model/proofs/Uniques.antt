@@ -2,7 +2,7 @@
 use Rattle.std.proofs.Common.{◌≡◌, ℕ, ◌+◌, ◌<◌, ◌≤◌, inl, inr, Bool, true, false, cond, eqb, List, [], ◌∷◌, length, Option, Some, None, refl, sym, ap, ◌∙◌, subst, arith, ⊎_elim}
 use Rattle.std.specs.Prelude.{◌&&◌}
 use Rattle.std.specs.List.{AllByRecursion}
-use Rattle.std.proofs.lemmas.Bool.{eqb-true, eq-eqb, ne_eqb, or_cases}
+use Rattle.std.proofs.lemmas.Bool.{eqb-true, eq-eqb, ne_eqb, or_cases, and_parts}
 use Rattle.kernel_model.specs.Effects.{written}
 use Rattle.kernel_model.specs.Items.{FinishRecord}
 use Rattle.kernel_model.specs.Replay.{DeviceState}
@@ -46,14 +46,6 @@ part_unique floor n (v ∷ vs) f (h ∷ hs) (inl p) =
     let part : IsPart floor n (versions_in hs) vs = subst (λ x. IsPart floor n x vs) (sym rest) p.2 in
     let same : h.version.writer ≡ v.writer = ap (λ (x : Version). x.writer) first in
     (each_held floor n (λ u. u.writer < v.writer) (λ u. h.version.writer ≡ u.writer → ⊥) (λ u l e. omega (arith, l, e, same)) vs f.0 hs part, part_unique floor n vs f.1 hs part)
-
-pub chain_part : (floor : ℕ) (n : Version → Bool) (chain vs : List Version) → IsChain floor n chain vs → IsPart floor n chain vs
-chain_part floor n chain [] c = c
-chain_part floor n chain (v ∷ vs) c = inl c
-
-and_parts : (a b : Bool) → (a && b) ≡ true → (a ≡ true) × (b ≡ true)
-and_parts true b e = (refl, e)
-and_parts false b e = absurd (cc e)
 
 -- what is there, and the version that it is
 pub record IsFound (floor slot writer : ℕ) (P : Held → Type 0) (vs : List Version) : Type 0 where

@@ -12,14 +12,14 @@ use Rattle.kernel_model.specs.Intervals.{read_interval}
 use Rattle.kernel_model.specs.Cores.{Attempt, Committing, Copying, Core, Idle, Ready, Running, all_but}
 use Rattle.kernel_model.specs.Room.{is_needed, is_needed_by, is_newest_read, meet}
 use Rattle.kernel_model.specs.History.{IsNumbered}
-use Rattle.kernel_model.proofs.ForCallers.{IsAfter, as_before, core_at, no_core, turned_now}
+use Rattle.kernel_model.proofs.ForCallers.{IsAfter, as_before, core_at, no_core, part_of_chain, turned_now}
 use Rattle.slot_model.specs.Slots.{Image}
 use Rattle.slot_model.specs.Kept.{Held, Kept, is_there, must_stand, versions_in}
 use Rattle.slot_model.specs.Places.{free_from, free_slot, is_taken}
 use Rattle.slot_model.specs.Tabled.{Place, View, free_place, is_copied_from, is_needed_at, is_taken_at, meets_at, pin_of, place_of, places_of, view_of, views_of, with_view}
 use Rattle.slot_model.specs.Standing.{AreStanding, IsPinned, IsServed, Stands}
 use Rattle.slot_model.proofs.Turning.{idle_needs}
-use Rattle.slot_model.proofs.Uniques.{AreUnique, chain_part, part_unique, slot_tells, versions_fall}
+use Rattle.slot_model.proofs.Uniques.{AreUnique, part_unique, slot_tells, versions_fall}
 
 -- where a core copies this object, its slot tells its writer
 abbrev pub Tells : {M : Type 0} → ℕ → (pins : ℕ → ℕ) → ℕ → Core M → Held → Type 0
@@ -73,7 +73,7 @@ others_needed_at {M} sizes base floor history cores kept image num s n o l = go 
     stand = s.objects o l
 
     unique : AreUnique (kept.chains o)
-    unique = part_unique floor (is_needed base history o cores) (versions base o history) (versions_fall None base o history num) (kept.chains o) (chain_part floor (is_needed base history o cores) (versions_in (kept.chains o)) (versions base o history) stand.chained)
+    unique = part_unique floor (is_needed base history o cores) (versions base o history) (versions_fall None base o history num) (kept.chains o) (part_of_chain floor (is_needed base history o cores) (versions_in (kept.chains o)) (versions base o history) stand.chained)
 
     none : (j : ℕ) (hs : List Held) (c : Core M) → c ≡ Idle → AllByRecursion (Tells o kept.pins j c) hs
     none j [] c e = tt

@@ -36,7 +36,8 @@ pub fn sound_state_is_lawful<M>()
 /// And after an event, where there are ids for one more.
 pub fn event_keeps_lawful<M>()
     ensures { (m : Moment M) (e : Event)
-        → IsLawfulIn m → HasIds m.world.base (length m.state.history + 1) → IsLawfulIn (after_event m e) }
+        → IsLawfulIn m → HasIds m.world.base (length m.state.history + 1)
+        → IsLawfulIn (after_event m e) }
 {}
 
 /// So whatever cores step and wherever power fails, what must stand does.

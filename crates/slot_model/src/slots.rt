@@ -22,7 +22,8 @@ ghost use Rattle.slot_model.specs.Moments.{Moment, IsLawfulIn, IsStanding, after
 /// An object has a free slot just where the model says that it has room.
 pub fn free_slot_is_room<M>()
     ensures { (m : Moment M) (n o : ℕ) → IsStanding m → o < m.world.sizes.objects
-        → is_some (free_in m n o) ≡ has_room m.world.sizes m.world.base m.state.history (others_in m n) o }
+        → is_some (free_in m n o)
+        ≡ has_room m.world.sizes m.world.base m.state.history (others_in m n) o }
 {}
 
 /// It is the least slot with no version that must stand.
@@ -47,7 +48,8 @@ pub fn copied_version_stands<M>()
 pub fn copies_stay<M>()
     ensures { (m : Moment M) (e : Event) (k : ℕ) → IsLawfulIn m
         → (let later = (after_event m e).state.history in
-        AllByRecursion (λ r. read_words m.world.base later r ≡ read_words m.world.base m.state.history r)
+        let base = m.world.base in
+        AllByRecursion (λ r. read_words base later r ≡ read_words base m.state.history r)
         (reads_of (core_in m k))) }
 {}
 
@@ -70,7 +72,8 @@ pub fn newest_version_stands<M>()
 pub fn taken_slot_is_spare<M>()
     ensures { (m : Moment M) (n left : ℕ) (i : FinishRecord)
         → IsStanding m → core_in m n ≡ Core.Committing i left
-        → AllByRecursion (IsFree m.world.sizes m.world.base m.state.history m.state.cores m.kept) i.run.writes }
+        → (let spare = IsFree m.world.sizes m.world.base m.state.history m.state.cores m.kept in
+        AllByRecursion spare i.run.writes) }
 {}
 
 /// Its words are written in the order of its list, object by object.
@@ -83,5 +86,6 @@ pub fn words_are_listed()
 pub fn word_goes_to_place<M>()
     ensures { (m : Moment M) (n left made : ℕ) (i : FinishRecord) (t : Target)
         → IsStanding m → core_in m n ≡ Core.Committing i left
-        → target m.world.sizes made i.run.writes ≡ Some t → IsTarget m.world.sizes m.kept i.run.writes t }
+        → target m.world.sizes made i.run.writes ≡ Some t
+        → IsTarget m.world.sizes m.kept i.run.writes t }
 {}

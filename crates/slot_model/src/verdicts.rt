@@ -85,7 +85,8 @@ pub fn finish_cuts_readers<M>()
 pub fn finish_changes_tables<M>()
     ensures { (m : Moment M) (t : Tables) (n left : ℕ) (i : FinishRecord)
         → IsLawfulIn m → core_in m n ≡ Core.Committing i left → AreTablesIn m t
-        → AreTables m.world.sizes m.world.base m.floor (i ∷ m.state.history) (with_finished (Some i) m.kept)
+        → AreTables m.world.sizes m.world.base m.floor (i ∷ m.state.history)
+        (with_finished (Some i) m.kept)
         (tables_with i m.kept.plan t) }
 {}
 
@@ -95,7 +96,8 @@ pub fn read_finds_place<M>()
         → IsStanding m → AreTablesIn m t → core_in m n ≡ Core.Running a
         → is_empty (reads_in m a.start a.reads) ≡ false → o < m.world.sizes.objects
         → (v : Version) × (chosen (reads_in m a.start a.reads).hi (all_versions m o) ≡ Some v)
-        × IsRead m.world.sizes m.world.base m.state.history a.start a.reads o (t.places o) m.image v }
+        × IsRead m.world.sizes m.world.base m.state.history a.start a.reads o
+        (t.places o) m.image v }
 {}
 
 /// The tables change at a step of a core by the finish that joins, if one does.

@@ -20,7 +20,7 @@ use Rattle.set_model.specs.Sets.{object_at}
 use Rattle.device_model.specs.Words.{Words, words_from}
 use Rattle.device_model.specs.Layouts.{slot_place}
 use Rattle.device_model.specs.IndexWords.{Index}
-use Rattle.device_model.proofs.Writes.{length-words_from, word_from}
+use Rattle.device_model.proofs.ForCallers.{length-words_from, word_from}
 use Rattle.table_machine.specs.Tables.{Chain, Copies, Copy, Runs, Saves, Seat, Setting, Tables, Try, Vacant, Waits, sizes_in, world_in}
 use Rattle.table_machine.specs.Places.{index_after, objects_of, places_at, plan_in, run_by}
 use Rattle.table_machine.specs.Seats.{SeatTurn, answered, copy_of, copy_word, fetch_version, given_words, open_copy, read_object, run_step, start_try, still, writes_in}

@@ -12,7 +12,7 @@ use Rattle.device_model.specs.Words.{Change, Words, made}
 use Rattle.device_model.specs.Decoding.{durable_of}
 use Rattle.device_model.specs.Decoding as decoding
 use Rattle.device_model.specs.Keeping.{KeepsIn}
-use Rattle.device_model.proofs.Writes.{made-append}
+use Rattle.device_model.proofs.ForCallers.{made-append}
 use Rattle.table_machine.specs.Tables.{Setting, Tables, world_in}
 use Rattle.table_machine.specs.Events.{Course, course, table_step}
 use Rattle.table_machine.specs.Represents.{Represents}

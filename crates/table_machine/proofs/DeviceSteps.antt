@@ -16,11 +16,11 @@ use Rattle.kernel_model.specs.Verdicts.{Empty, Granted, Records, Slots, Verdict,
 use Rattle.kernel_model.specs.Turns.{commit_writes, core_turn, quiet, start_turn, verdict_turn}
 use Rattle.kernel_model.specs.Events.{State}
 use Rattle.kernel_model.specs.Fit.{IsLast, IsWrite}
-use Rattle.kernel_model.proofs.ForCallers.{IsAfter, as_before, core_at, no_core, others_commit, run_gives, turned_now, word_gives}
+use Rattle.kernel_model.proofs.ForCallers.{IsAfter, as_before, core_at, kept_writes, no_core, others_commit, run_gives, turned_now, word_gives}
 use Rattle.slot_model.specs.Kept.{Kept}
 use Rattle.slot_model.specs.Changes.{kept_run, kept_verdict, put_at}
 use Rattle.slot_model.specs.Standing.{IsLawful, StandsFor}
-use Rattle.slot_model.proofs.Steps.{granted, present}
+use Rattle.slot_model.proofs.ForCallers.{granted, present, run_chains}
 use Rattle.device_model.specs.Words.{Words, made}
 use Rattle.device_model.specs.Decoding as decoding
 use Rattle.device_model.specs.Keeping.{KeepsIn}
@@ -28,7 +28,7 @@ use Rattle.table_machine.specs.Tables.{Setting, sizes_in, world_in}
 use Rattle.table_machine.specs.Events.{written_by}
 use Rattle.table_machine.specs.Represents.{Ghost, IsFitting, IsOnDevice, commit_by, commit_in, held_of, index_of, seat_of, slots_in}
 use Rattle.table_machine.specs.Simulates.{IsSetting}
-use Rattle.table_machine.proofs.OnPower.{now_of, run_keeps, run_writes, state_at}
+use Rattle.table_machine.proofs.OnPower.{now_of, run_keeps, state_at}
 use Rattle.table_machine.proofs.CommitLists.{calm-core, commit-none, commit-one, commit-set, finish-one}
 use Rattle.table_machine.proofs.DeviceTurns.{commit_next, grant_device, joined-held, quiet_device, whole_device, write_device}
 use Rattle.table_machine.proofs.CoreSteps.{turned_ghost}
@@ -63,17 +63,13 @@ device_turned {M} x base last g words s n fit h fits f dev Idle at k l q =
     let d : Core M = (core_turn (world_in x base) s.history (all_but n s.cores) n Idle).core in
     quiet_device x base last g words s g.kept (set s.cores n d) refl refl (commit-set s.cores n d (start_calm x base s.history n (next_task (all_but n s.cores) (open_tasks base s.history)) ∙ sym (ap commit_by at))) dev
 device_turned {M} x base last g words s n fit h fits f dev (Running a) at k l q =
-    quiet_device x base last g words s kept (set s.cores n d) (chains (run_keeps base s.history n a d g.kept)) (plan (run_keeps base s.history n a d g.kept)) (commit-set s.cores n d (run_calm x base s.history (all_but n s.cores) n a ∙ sym (ap commit_by at))) dev
+    quiet_device x base last g words s kept (set s.cores n d) (run_chains base s.history n a g.kept None d) (plan (run_keeps base s.history n a d g.kept)) (commit-set s.cores n d (run_calm x base s.history (all_but n s.cores) n a ∙ sym (ap commit_by at))) dev
   where
     d : Core M
     d = (core_turn (world_in x base) s.history (all_but n s.cores) n (Running a)).core
 
     kept : Kept
     kept = kept_run base s.history n a d g.kept
-
-    chains : (kept ≡ g.kept) ⊎ ((slot : ℕ) × (kept ≡ record g.kept { pins = put_at n slot g.kept.pins })) → kept.chains ≡ g.kept.chains
-    chains (inl e) = ap (λ (k : Kept). k.chains) e
-    chains (inr e) = ap (λ (k : Kept). k.chains) e.1
 
     plan : (kept ≡ g.kept) ⊎ ((slot : ℕ) × (kept ≡ record g.kept { pins = put_at n slot g.kept.pins })) → kept.plan ≡ g.kept.plan
     plan (inl e) = ap (λ (k : Kept). k.plan) e
@@ -138,7 +134,7 @@ device_turned {M} x base last g words s n fit h fits f dev (Ready a outcome) at 
         keeps = subst (λ c. IsOnDevice x (held_of x base last g s) g.kept.plan c words) (commit-none s.cores all_none) dev
 
         writes : AllByRecursion (IsWrite sizes) i.run.writes
-        writes = subst (λ (r : Run). AllByRecursion (IsWrite sizes) r.writes) (sym (granted sizes base s.history others a (run_of a outcome) i p).1) (run_writes (IsWrite sizes) a outcome k)
+        writes = subst (λ (r : Run). AllByRecursion (IsWrite sizes) r.writes) (sym (granted sizes base s.history others a (run_of a outcome) i p).1) (kept_writes (IsWrite sizes) a outcome k)
 device_turned {M} x base last g words s n fit h fits f dev (Committing i zero) at k l q = subst (λ c. IsOnDevice x (held_of x base last after next) after.kept.plan c words) (sym none) keeps
   where
     after : Ghost

@@ -17,11 +17,7 @@ use Rattle.kernel_model.proofs.ForCallers.{chosen_exists, state_left-base, state
 use Rattle.slot_model.specs.Kept.{Held, Kept, newest_slot, with_held}
 use Rattle.slot_model.specs.Changes.{with_finished}
 use Rattle.slot_model.specs.Standing.{IsFree, IsLawful, StandsFor}
-use Rattle.slot_model.proofs.Arms.{taken_free}
-use Rattle.slot_model.proofs.EventLaws.{runs_of}
-use Rattle.slot_model.proofs.Named.{newest_stands}
-use Rattle.slot_model.proofs.Nexts.{newest_of}
-use Rattle.slot_model.proofs.Writing.{write_of}
+use Rattle.slot_model.proofs.ForCallers.{newest_of, newest_stands, runs_of, taken_free, write_of}
 use Rattle.set_model.specs.Sets.{TaskSet, object_at}
 use Rattle.set_model.specs.Numbers.{sizes_of}
 use Rattle.device_model.specs.Words.{Change, Words, made, with_word}
@@ -30,8 +26,7 @@ use Rattle.device_model.specs.IndexWords.{Index, IsIndex}
 use Rattle.device_model.specs.Decoding as decoding
 use Rattle.device_model.specs.Commits as commits
 use Rattle.device_model.specs.Keeping.{KeepsIn}
-use Rattle.device_model.proofs.Steps.{fit_index}
-use Rattle.device_model.proofs.UnderWay.{begins, cut, ends, one_more}
+use Rattle.device_model.proofs.ForCallers.{begins, cut, ends, fit_index, one_more}
 use Rattle.table_machine.specs.Tables.{Setting, sizes_in, world_in}
 use Rattle.table_machine.specs.Places.{index_after}
 use Rattle.table_machine.specs.Seats.{commit_of}

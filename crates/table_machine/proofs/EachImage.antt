@@ -8,7 +8,7 @@ use Rattle.std.proofs.lemmas.List.{append_assoc, append-nil, length-take-le, tak
 use Rattle.std.proofs.lemmas.Option.{get_or_from_slice_get, slice_get_within}
 use Rattle.kernel_model.specs.Items.{Entry, listing}
 use Rattle.kernel_model.specs.Report.{unprinted, found_lines, report_lines}
-use Rattle.kernel_model.proofs.ForCallers.{count_reached}
+use Rattle.kernel_model.proofs.ForCallers.{count_reached, take_one_more}
 use Rattle.device_model.specs.IndexWords.{Index, base_of}
 use Rattle.kernel_model.specs.Replay.{DeviceState}
 use Rattle.kernel_model.specs.Events.{Power, On, Boot, State, Event, state_after, still_owed, opened}
@@ -19,8 +19,7 @@ use Rattle.device_model.specs.Decoding as decoding
 use Rattle.device_model.specs.Keeping.{KeepsIn}
 use Rattle.device_model.specs.Layouts.{IsKindOf, Kind, layout_of}
 use Rattle.device_model.specs.Places.{IsLaidOut}
-use Rattle.device_model.proofs.KeepsDecodes.{keeps_decodes}
-use Rattle.device_model.proofs.Writes.{made-append}
+use Rattle.device_model.proofs.ForCallers.{keeps_decodes, made-append}
 use Rattle.table_machine.specs.Tables.{Setting, Tables, sizes_in, world_in}
 use Rattle.table_machine.specs.Events.{Answer, Course, course, no_index, table_step, untold}
 use Rattle.table_machine.specs.Represents.{Represents, index_of, seat_of, tables_on}
@@ -50,14 +49,10 @@ course-append {M} x (e ∷ first) more words t =
     later : Course M
     later = course x (made (a.writes ++ begun.log) words) begun.tables more
 
--- so many events
-first_events : {A : Type 0} → (n : ℕ) (xs : List A) (x : A) → slice_get xs n ≡ Some x → take (n + 1) xs ≡ take n xs ++ x ∷ []
-first_events {A} n xs x e = take_more xs n x (slice_get_within xs n x e) ∙ ap (λ (y : A). take n xs ++ y ∷ []) (get_or_from_slice_get xs n x x e)
-
 -- one event more
 pub one_event : {M : Type 0} → (x : Setting M) (words : Words) (t : Tables M) (events : List Event) (n : ℕ) (e : Event) → slice_get events n ≡ Some e →
     course x words t (take (n + 1) events) ≡ (let c = course x words t (take n events) in let a = table_step x (made c.log words) c.tables e in record { tables = a.tables; log = c.log ++ a.writes; lines = c.lines ++ a.line ∷ [] })
-one_event {M} x words t events n e h = ap (course x words t) (first_events n events e h) ∙ course-append x (take n events) (e ∷ []) words t
+one_event {M} x words t events n e h = ap (course x words t) (take_one_more n events e h) ∙ course-append x (take n events) (e ∷ []) words t
     ∙ (let c : Course M = course x words t (take n events) in let a : Answer M = table_step x (made c.log words) c.tables e in
     ap (λ (log : List Change). let r : Course M = record { tables = a.tables; log = c.log ++ log; lines = c.lines ++ a.line ∷ [] } in r) (append-nil a.writes))
 

@@ -20,8 +20,7 @@ use Rattle.slot_model.specs.Kept.{Kept, newest_slot, with_held}
 use Rattle.slot_model.specs.Changes.{with_finished}
 use Rattle.slot_model.specs.Standing.{IsLawful, StandsFor}
 use Rattle.slot_model.specs.Tabled.{Place, installed, is_written_read, places_of}
-use Rattle.slot_model.proofs.Tables.{install_places}
-use Rattle.slot_model.proofs.Flips.{finish_cuts}
+use Rattle.slot_model.proofs.ForCallers.{finish_cuts, install_places}
 use Rattle.device_model.specs.Words.{Words}
 use Rattle.device_model.specs.IndexWords.{Index}
 use Rattle.table_machine.specs.Tables.{Chain, Copies, Copy, Runs, Seat, Setting, Tables, Try, Vacant, Waits, each_from, sizes_in, world_in}

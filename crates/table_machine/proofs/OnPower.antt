@@ -1,10 +1,7 @@
 -- A step of a core with power on, where nothing joins: tables that stand for a state lead to tables that stand for the next one.
-use Rattle.slot_model.proofs.Steps.{granted}
-use Rattle.slot_model.proofs.EventLaws.{ended_of}
-use Rattle.slot_model.proofs.Views.{free_at}
-use Rattle.slot_model.proofs.TableVerdicts.{verdict_at}
+use Rattle.slot_model.proofs.ForCallers.{choose_places, copied_stands, ended_of, free_at, granted, read_at, run_chains, verdict_at}
 use Rattle.slot_model.specs.Places.{planned}
-use Rattle.kernel_model.proofs.ForCallers.{others_commit, read_finds}
+use Rattle.kernel_model.proofs.ForCallers.{kept_writes, others_commit, read_finds}
 use Rattle.kernel_model.specs.Sizes.{Sizes}
 use Rattle.kernel_model.specs.Chain.{StartsFrom}
 use Rattle.kernel_model.specs.Fit.{IsWrite}
@@ -29,14 +26,11 @@ use Rattle.slot_model.specs.Kept.{Held, Kept, chosen_held, slot_in, newest_slot}
 use Rattle.slot_model.specs.Changes.{kept_run, put_at, kept_verdict}
 use Rattle.slot_model.specs.Standing.{IsLawful, StandsFor}
 use Rattle.slot_model.specs.Tabled.{AreTables, Place, chosen_place, place_of, places_of, with_place, free_place, table_verdict, views_of}
-use Rattle.slot_model.proofs.Tables.{choose_places}
-use Rattle.slot_model.proofs.Reading.{read_at}
-use Rattle.slot_model.proofs.SlotLaws.{copied_stands}
 use Rattle.device_model.specs.Words.{Words}
 use Rattle.device_model.specs.IndexWords.{Index}
 use Rattle.device_model.specs.Decoding as decoding
 use Rattle.device_model.specs.Commits as commits
-use Rattle.device_model.proofs.Counts.{counted_turns, length-commit}
+use Rattle.device_model.proofs.ForCallers.{counted_turns, length-commit}
 use Rattle.table_machine.specs.Tables.{Chain, Copies, Seat, Setting, Tables, Vacant, sizes_in, Try, Waits, world_in}
 use Rattle.table_machine.specs.Places.{places_at, seen_in, slots_after, index_after, plan_in, run_by, verdict_in}
 use Rattle.table_machine.specs.Seats.{SeatTurn, seat_turn, start_try, answered, commit_of, held_in, still, writes_in}
@@ -196,7 +190,7 @@ place_slot hi chain p e = go (chosen_held hi chain) (sym (choose_places hi chain
 
 pub run_turned : {M : Type 0} → (x : Setting M) (base : DeviceState) (last : Option Entry) (g : Ghost) (words : Words) (s : State M) (n : ℕ) (a : Attempt M) → IsLawful (world_in x base) s → StandsFor (sizes_in x) base g.floor s g.kept (slots_in x words) → get_or s.cores n Idle ≡ Running a →
     Turned x base last g words s n (Running a) (record g { kept = kept_run base s.history n a (core_turn (world_in x base) s.history (all_but n s.cores) n (Running a)).core g.kept })
-run_turned {M} x base last g words s n a h f at = quiet_turned x base last g words s n (Running a) kept (chains (run_keeps base s.history n a d g.kept)) refl refl refl turn (stay (run_keeps base s.history n a d g.kept))
+run_turned {M} x base last g words s n a h f at = quiet_turned x base last g words s n (Running a) kept (run_chains base s.history n a g.kept None d) refl refl refl turn (stay (run_keeps base s.history n a d g.kept))
   where
     index : Index
     index = index_of x base last g.kept s.history
@@ -209,10 +203,6 @@ run_turned {M} x base last g words s n a h f at = quiet_turned x base last g wor
 
     kept : Kept
     kept = kept_run base s.history n a d g.kept
-
-    chains : (kept ≡ g.kept) ⊎ ((slot : ℕ) × (kept ≡ record g.kept { pins = put_at n slot g.kept.pins })) → kept.chains ≡ g.kept.chains
-    chains (inl e) = ap (λ (k : Kept). k.chains) e
-    chains (inr e) = ap (λ (k : Kept). k.chains) e.1
 
     stay : (kept ≡ g.kept) ⊎ ((slot : ℕ) × (kept ≡ record g.kept { pins = put_at n slot g.kept.pins })) → (k : ℕ) → (k ≡ n → ⊥) → seat_of base s.history g.kept index k (get_or s.cores k Idle) ≡ seat_of base s.history kept index k (get_or s.cores k Idle)
     stay (inl e) k ne = ap (λ (q : Kept). seat_of base s.history q index k (get_or s.cores k Idle)) (sym e)
@@ -272,11 +262,6 @@ verdict_stays sizes base history others (Copying a copied) kept index k c e = re
 verdict_stays sizes base history others (Ready a outcome) kept index k c e = refl
 verdict_stays sizes base history others (Committing i left) kept index k c e = other_plan base history kept index _ k c e
 
--- what a run writes, the attempt wrote
-pub run_writes : {M : Type 0} → (P : Write → Type 0) (a : Attempt M) (outcome : Outcome) → AllByRecursion P a.writes → AllByRecursion P (run_of a outcome).writes
-run_writes P a (Exit code) h = h
-run_writes P a (Trap cause) h = tt
-
 in_range : (sizes : Sizes) (ws : List Write) → AllByRecursion (IsWrite sizes) ws → AllByRecursion (λ w. w.object < sizes.objects) ws
 in_range sizes [] h = tt
 in_range sizes (w ∷ ws) h = (h.0.object, in_range sizes ws h.1)
@@ -327,7 +312,7 @@ ready_turned {M} x base last g words s n a outcome fit h f at ws =
         ap (verdict_in sizes index t.chains seats b) (run-same base s.history a outcome)
         ∙ ap (λ views. table_verdict sizes (seen_in index t.chains) views a.task (read_interval base s.history a.start a.reads) (run_of a outcome)) (views-same base s.history g.kept index s.cores n)
         ∙ verdict_at sizes base g.floor s.history s.cores g.kept (slots_in x words) h.sound.history.numbered (ended_of (world_in x base) s h.sound) f.stands (seen_in index t.chains) (are_tables x base last g s.history) n a (run_of a outcome)
-        (subst (StartsFrom g.floor) at (f.since.starts n)) (in_range sizes (run_of a outcome).writes (run_writes (IsWrite sizes) a outcome ws))
+        (subst (StartsFrom g.floor) at (f.since.starts n)) (in_range sizes (run_of a outcome).writes (kept_writes (IsWrite sizes) a outcome ws))
 
     plan : (o : ℕ) → o < length x.set.objects → plan_in sizes seats t.chains o ≡ (planned sizes base s.history others g.kept).plan o
     plan o l = ap (λ (k : Option ℕ). unwrap_or k 0) (
@@ -340,7 +325,7 @@ ready_turned {M} x base last g words s n a outcome fit h f at ws =
         (slots-same (plan_in sizes seats t.chains) (planned sizes base s.history others g.kept).plan i.run.writes 0 index.slots (λ k l m. plan k (omega (arith, m, length-each (λ o. newest_slot (g.kept.chains o)) 0 (length x.set.objects)))))
 
     count : (i : FinishRecord) → v ≡ Granted i → length (writes_in x t i (index_after (plan_in sizes seats t.chains) index i)) ≡ commit_writes sizes base s.history i
-    count i e = counted x base last g.kept s.history (held_in t) refl (plan_in sizes seats t.chains) i (subst (λ (r : Run). AllByRecursion (IsWrite sizes) r.writes) (sym (granted sizes base s.history others a (run_of a outcome) i e).1) (run_writes (IsWrite sizes) a outcome ws))
+    count i e = counted x base last g.kept s.history (held_in t) refl (plan_in sizes seats t.chains) i (subst (λ (r : Run). AllByRecursion (IsWrite sizes) r.writes) (sym (granted sizes base s.history others a (run_of a outcome) i e).1) (kept_writes (IsWrite sizes) a outcome ws))
 
     turn : seat_turn x t words seats n (seat_of base s.history g.kept index n (Ready a outcome)) ≡ seen_turn base s.history (kept_by (is_committing others)) index n (now (is_committing others))
     turn = ap (λ (c : Bool). cond c (still (Waits b outcome)) (answered x t seats n a.task (verdict_in sizes index t.chains seats b (run_by b outcome)))) (saves-same base s.history g.kept index s.cores n) ∙ go (is_committing others)

@@ -8,7 +8,7 @@ use Rattle.kernel_model.specs.Events.{Power, On, Boot, State, opened}
 use Rattle.kernel_model.specs.Fit.{IsBase, IsMachine, IsSetUp}
 use Rattle.kernel_model.proofs.ForCallers.{bound_at_clock, get_or-replicate_idle, opened_sound}
 use Rattle.slot_model.specs.Changes.{first_kept}
-use Rattle.slot_model.proofs.RunStands.{first_stands}
+use Rattle.slot_model.proofs.ForCallers.{first_stands}
 use Rattle.set_model.specs.Sets.{TaskSet, object_at}
 use Rattle.set_model.specs.Limits.{IsTaskSet}
 use Rattle.set_model.specs.Numbers.{sizes_of}
@@ -16,11 +16,8 @@ use Rattle.device_model.specs.Words.{Words, words_from}
 use Rattle.device_model.specs.Layouts.{Kind, Plain, layout_of, slot_place}
 use Rattle.device_model.specs.IndexWords.{Index, base_of}
 use Rattle.device_model.specs.Decoding.{Held}
-use Rattle.device_model.proofs.Counts.{fit_on, plain_sizes}
+use Rattle.device_model.proofs.ForCallers.{fit_on, held_fits, laid_out_set, length-words_from, plain_sizes, words_are}
 use Rattle.device_model.specs.Keeping.{KeepsIn}
-use Rattle.device_model.proofs.DecodesKeeps.{held_fits}
-use Rattle.device_model.proofs.LaidOut.{laid_out_set}
-use Rattle.device_model.proofs.Writes.{length-words_from, words_are}
 use Rattle.table_machine.specs.Tables.{Chain, Seat, Setting, Tables, each_from, sizes_in, world_in}
 use Rattle.table_machine.specs.Events.{no_index, one_version, reopened}
 use Rattle.table_machine.specs.Represents.{Ghost, IsFitting, IsOnDevice, Represents, chains_of, held_of, index_of, seat_of, seats_of, slots_in, tables_on}

@@ -12,13 +12,13 @@ use Rattle.slot_model.specs.Kept.{Held, Kept, newest_alone, newest_slot}
 use Rattle.slot_model.specs.Changes.{afresh, named_slot, with_finished}
 use Rattle.slot_model.specs.Standing.{IsLawful, StandsFor}
 use Rattle.slot_model.specs.Tabled.{AreTables, Place, fresh_tables, places_of}
-use Rattle.slot_model.proofs.Fresh.{boot_idle, tables_begin}
+use Rattle.slot_model.proofs.ForCallers.{boot_idle, tables_begin}
 use Rattle.device_model.specs.Words.{Words}
 use Rattle.device_model.specs.IndexWords.{Index, read_index}
 use Rattle.device_model.specs.Decoding.{index_in}
 use Rattle.device_model.specs.Keeping.{KeepsIn}
 use Rattle.device_model.specs.Places.{IsLaidOut}
-use Rattle.device_model.proofs.IndexKept.{index-kept}
+use Rattle.device_model.proofs.ForCallers.{index-read}
 use Rattle.table_machine.specs.Tables.{Chain, Seat, Setting, Tables, Vacant, sizes_in, world_in}
 use Rattle.table_machine.specs.Events.{Answer, boot_answer, failed, no_index, reopened, saved_in, with_entry}
 use Rattle.table_machine.specs.Represents.{Ghost, chains_of, held_of, index_of, seat_of, seats_of, slots_in, tables_of, tables_on}
@@ -114,7 +114,7 @@ booted_follows {M} x base last g words s d h f off k = subst (λ p. Follows x ba
     seats = seats-alike (seat_of base s.history g.kept no_index) (seat_of base s.history (afresh (clock_of base s.history) g.kept) later) s.cores (λ j. let e = idle j in rw e refl)
 
     is_read : read ≡ index
-    is_read = index-kept x.set x.layout (held_of x base last g s) words d k
+    is_read = index-read x.set x.layout (held_of x base last g s) words d k
 
     tables : with_parts (seats_of base s.history g.kept no_index s.cores) read (words x.layout.root) (reopened x.set read)
         ≡ with_parts (seats_of base s.history (afresh (clock_of base s.history) g.kept) later s.cores) later g.root (chains_of x (fresh_ghost base g s) s.history)

@@ -9,8 +9,7 @@ use Rattle.kernel_model.specs.Events.{Power, On, Boot, State, Event, CoreStep, F
 use Rattle.kernel_model.specs.Chain.{joining}
 use Rattle.kernel_model.proofs.ForCallers.{finishes, history-joined}
 use Rattle.slot_model.specs.Standing.{IsLawful}
-use Rattle.slot_model.proofs.EventLaws.{runs_of}
-use Rattle.slot_model.proofs.Fresh.{boot_idle}
+use Rattle.slot_model.proofs.ForCallers.{boot_idle, runs_of}
 use Rattle.device_model.specs.Words.{Words, made}
 use Rattle.table_machine.specs.Tables.{Setting, Tables, world_in}
 use Rattle.table_machine.specs.Events.{table_step}

@@ -13,16 +13,13 @@ use Rattle.slot_model.specs.Kept.{Kept, newest_slot, with_held}
 use Rattle.slot_model.specs.Changes.{with_finished}
 use Rattle.slot_model.specs.Standing.{IsLawful, StandsFor}
 use Rattle.slot_model.specs.Store.{image_turn}
-use Rattle.slot_model.proofs.Arms.{target_free}
-use Rattle.slot_model.proofs.EventLaws.{event_stands, runs_of}
-use Rattle.slot_model.proofs.Fresh.{boot_idle, fresh_stands}
-use Rattle.slot_model.proofs.SameWords.{same_stands}
+use Rattle.slot_model.proofs.ForCallers.{boot_idle, event_stands, fresh_stands, runs_of, same_stands, target_free}
 use Rattle.device_model.specs.Words.{Change, Words, made, with_word}
 use Rattle.device_model.specs.IndexWords.{Index}
 use Rattle.device_model.specs.Decoding as decoding
 use Rattle.device_model.specs.Commits as commits
 use Rattle.device_model.specs.Keeping.{KeepsIn}
-use Rattle.device_model.proofs.Journaled.{boot_whole}
+use Rattle.device_model.proofs.ForCallers.{boot_whole}
 use Rattle.table_machine.specs.Tables.{Setting, Tables, sizes_in, world_in}
 use Rattle.table_machine.specs.Places.{index_after}
 use Rattle.table_machine.specs.Seats.{commit_of}

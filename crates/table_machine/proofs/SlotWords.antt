@@ -18,8 +18,7 @@ use Rattle.device_model.specs.Layouts.{slot_place, slots_at}
 use Rattle.device_model.specs.Decoding as decoding
 use Rattle.device_model.specs.Commits.{Commit, commit_writes, object_changes}
 use Rattle.device_model.specs.Places.{IsLaidOut}
-use Rattle.device_model.proofs.SlotWrites.{early-write, get-written, late-place, words-other, words-out, words-set}
-use Rattle.device_model.proofs.Writes.{length-written}
+use Rattle.device_model.proofs.ForCallers.{early-write, get-written, late-place, length-written, words-other, words-out, words-set}
 use Rattle.table_machine.specs.Tables.{Setting, sizes_in}
 use Rattle.table_machine.specs.Represents.{slots_in}
 

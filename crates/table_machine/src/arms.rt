@@ -12,7 +12,8 @@ ghost use Rattle.table_machine.specs.Configurations.{FollowsCore, FollowsTo, IsF
 
 /// A core that holds no task begins the least open task that no seat holds, at the clock.
 pub fn start_follows<M>()
-    ensures { (m : Moment M) (n : ℕ) → IsMoment m → m.state.power ≡ Power.On → core_at m n ≡ Core.Idle → FollowsCore m n }
+    ensures { (m : Moment M) (n : ℕ) → IsMoment m → m.state.power ≡ Power.On
+        → core_at m n ≡ Core.Idle → FollowsCore m n }
 {}
 
 /// A running core makes one step of its machine; an outside read chooses by the object's chain, or the try is stale.
@@ -29,7 +30,8 @@ pub fn copy_follows<M>()
 
 /// A ready core waits, is refused with its cause, or begins a commit: its point and its slots are those of the tables.
 pub fn verdict_follows<M>()
-    ensures { (m : Moment M) (n : ℕ) (a : Attempt M) (outcome : Outcome) → IsMoment m → m.state.power ≡ Power.On
+    ensures { (m : Moment M) (n : ℕ) (a : Attempt M) (outcome : Outcome) → IsMoment m
+        → m.state.power ≡ Power.On
         → core_at m n ≡ Core.Ready a outcome → IsFittingAt m n → FollowsCore m n }
 {}
 
@@ -59,6 +61,7 @@ pub fn boot_turn_follows<M>()
 /// The last one makes them of the words that it has read: one version of each object, begun at the clock.
 pub fn last_boot_turn_follows<M>()
     ensures { (m : Moment M) → IsMoment m → m.state.power ≡ Power.Boot 1
-        → KeepsIn m.setting.set m.setting.layout (held_of m.setting m.base m.last m.ghost m.state) m.words
+        → KeepsIn m.setting.set m.setting.layout
+        (held_of m.setting m.base m.last m.ghost m.state) m.words
         → FollowsTo m (Event.CoreStep 0) (fresh_ghost m.base m.ghost m.state) }
 {}

@@ -27,12 +27,14 @@ pub fn event_simulates<M>()
 /// Seen from outside, where the tables have room: whatever state they stood for, what a step makes of them stands for its next state.
 pub fn step_simulates<M>()
     ensures { (x : Setting M) (t : Tables M) (words : Words) (e : Event) → IsSetting x → HasRoom t
-        → (let a = table_step x words t e in SimulatesEvent x t words e a.tables (made a.writes words) a.line (length a.writes)) }
+        → (let a = table_step x words t e in
+        SimulatesEvent x t words e a.tables (made a.writes words) a.line (length a.writes)) }
 {}
 
 /// Room in the tables is room for the next state.
 pub fn room_suffices<M>()
-    ensures { (c : Configuration M) (e : Event) → IsRepresented c → HasRoom c.tables → HasIdsBy c e }
+    ensures { (c : Configuration M) (e : Event) → IsRepresented c → HasRoom c.tables
+        → HasIdsBy c e }
 {}
 
 /// So they do by any events: the same lines, as many writes, and what stands for the state after them.
@@ -43,9 +45,11 @@ pub fn events_simulate<M>()
 
 /// Words that keep a state stand for it before the first event, with the tables that are read from them, or in a boot with none.
 pub fn opened_tables_represent<M>()
-    ensures { (x : Setting M) (h : Held) (words : Words) (cores : ℕ) (power : Power) → IsSetting x → IsMachine x.steps (sizes_in x)
+    ensures { (x : Setting M) (h : Held) (words : Words) (cores : ℕ) (power : Power) → IsSetting x
+        → IsMachine x.steps (sizes_in x)
         → KeepsIn x.set x.layout h words → h.index.next ≤ max_id
-        → Represents x (base_of h.index h.objects) h.index.last (opened_tables x h cores power) words (opened cores power h.boots) }
+        → Represents x (base_of h.index h.objects) h.index.last
+        (opened_tables x h cores power) words (opened cores power h.boots) }
 {}
 
 /// Words that stand for a state keep what is durable in it, and decode to it.
@@ -53,7 +57,8 @@ pub fn words_hold_durable<M>()
     ensures keep { (c : Configuration M) → IsRepresented c → Holds c c.words c.state }
     ensures decode { (kind : Kind) (c : Configuration M) → IsRepresented c
         → c.setting.layout ≡ layout_of kind c.setting.set → IsKindOf c.setting.set.format kind
-        → (h : Held) × (decode c.setting.set c.words ≡ Stored.Holds kind h) × (durable_of h ≡ durable_in c c.state) }
+        → (h : Held) × (decode c.setting.set c.words ≡ Stored.Holds kind h)
+        × (durable_of h ≡ durable_in c c.state) }
 {}
 
 /// A write to the device changes no table, but how many writes are left.
@@ -67,5 +72,6 @@ pub fn device_is_setting<M>()
     ensures setting { (steps : TaskMachine M) (kind : Kind) (set : TaskSet) → IsTaskSet set
         → IsSetting (record { steps = steps; set = set; layout = layout_of kind set }) }
     ensures sizes { (steps : TaskMachine M) (set : TaskSet)
-        → sizes_in {M = M} (record { steps = steps; set = set; layout = layout_of Kind.Plain set }) ≡ sizes_of set }
+        → sizes_in {M = M} (record { steps = steps; set = set; layout = layout_of Kind.Plain set })
+        ≡ sizes_of set }
 {}

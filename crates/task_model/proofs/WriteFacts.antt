@@ -11,17 +11,6 @@ pub put_from-none : (k : ℕ) (m : Objects) → put_from k [] m ≡ m
 put_from-none k [] = refl
 put_from-none k (x ∷ xs) = ap (λ rest. x ∷ rest) (put_from-none (k + 1) xs)
 
--- what the task sees of an object
-pub seen_from : (k : ℕ) (ws : List Write) (m : Objects) (o : ℕ) → o < length m → object_words (put_from k ws m) o ≡ unwrap_or (written ws (k + o)) (object_words m o)
-seen_from k ws [] o h = absurd (omega arith)
-seen_from k ws (x ∷ xs) zero h = ap (λ i. unwrap_or (written ws i) x) (sym (add-zero k))
-seen_from k ws (x ∷ xs) (suc o) h =
-    let e : k + 1 + o ≡ k + suc o = omega arith in
-    seen_from (k + 1) ws xs o (omega arith) ∙ ap (λ i. unwrap_or (written ws i) (object_words xs o)) e
-
-pub seen : (ws : List Write) (m : Objects) (o : ℕ) → o < length m → object_words (put ws m) o ≡ unwrap_or (written ws o) (object_words m o)
-seen ws m o h = seen_from 0 ws m o h ∙ ap (λ i. unwrap_or (written ws i) (object_words m o)) (zero-add o)
-
 -- a write of an object before k leaves those from k on
 put_from-behind : (k : ℕ) (w : Write) (ws : List Write) (m : Objects) → w.object < k → put_from k (with_write w ws) m ≡ put_from k ws m
 put_from-behind k w ws [] h = refl

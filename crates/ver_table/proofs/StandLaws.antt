@@ -200,4 +200,3 @@ reopened base s o slots k v idle e =
       chain = chain_of_one base s idle o v e;
       bound = sym (bound_at_clock base s.history o);
     }
-

@@ -1,5 +1,5 @@
 -- Which slots are free for a new version. This project's own.
-use Rattle.std.specs.Prelude.{◌≡◌, ◌<◌, ℕ, ◌+◌, ◌==◌, nat_le, Bool, true, false, ◌||◌, ◌&&◌, List, [], ◌∷◌, if◌then◌else◌}
+use Rattle.std.specs.Prelude.{◌≡◌, ◌<◌, ℕ, ◌+◌, ◌==◌, nat_le, Bool, true, false, ◌||◌, ◌&&◌, List, [], ◌∷◌, if◌then◌else◌, Option, MatchOption}
 use Rattle.std.specs.List.{list_any}
 use Rattle.interval.specs.declared.version.Pin.{Pin}
 use Rattle.kernel_model.specs.Intervals.{Interval}
@@ -42,3 +42,8 @@ pub record IsLeastFree (needed : Stored → Bool) (c : Chain) (k : ℕ) : Type 0
   pub inside : k < c.slots
   pub free : is_taken needed c.stored k ≡ false
   pub least : (j : ℕ) → j < k → is_taken needed c.stored j ≡ true
+
+-- what a search for a free slot answers: none where there is no place, and else the least one
+abbrev pub IsFreeSlot : (Stored → Bool) → Chain → Option ℕ → Type 0
+IsFreeSlot needed c slot =
+    MatchOption slot (has_place needed c ≡ false) (λ k. (has_place needed c ≡ true) × IsLeastFree needed c k)

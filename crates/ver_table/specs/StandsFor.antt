@@ -2,7 +2,7 @@
 use Rattle.std.specs.Prelude.{◌≡◌, ℕ, ◌==◌, Bool, true, false, not, List, [], ◌∷◌, Option, Some, None, filter, find, if◌then◌else◌, map}
 use Rattle.std.specs.List.{AllByRecursion, list_any}
 use Rattle.interval.specs.declared.version.Pin.{Pin}
-use Rattle.kernel_model.specs.Effects.{written}
+use Rattle.kernel_model.specs.Effects.{written, object_words}
 use Rattle.kernel_model.specs.Items.{FinishRecord}
 use Rattle.kernel_model.specs.Replay.{DeviceState}
 use Rattle.kernel_model.specs.Versions.{Read, Version, versions}
@@ -20,6 +20,13 @@ use Rattle.ver_table.specs.Places.{is_pinned}
 pub record Held : Type 0 where
   pub slot : ℕ
   pub version : Version
+
+-- the base's version of an object, in a slot
+abbrev pub first_held : DeviceState → (o slot : ℕ) → Held
+first_held base o slot = record {
+  slot = slot;
+  version = record { writer = base.number; begin = base.clock; end = None; words = object_words base.objects o };
+}
 
 -- as the table has it
 abbrev pub stored_of : Held → Stored

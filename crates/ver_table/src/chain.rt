@@ -1,11 +1,11 @@
 // The versions of one object, in memory that never grows.
 
-ghost use Rattle.std.specs.Prelude.{◌≡◌, ◌<◌, ◌≤◌, ◌==◌, not, filter, find, map, IsSome, MatchOption, Some, slice_index, false, true, length, ℕ};
+ghost use Rattle.std.specs.Prelude.{◌≡◌, ◌<◌, ◌≤◌, ◌==◌, not, filter, find, map, IsSome, Some, slice_index, false, true, length, ℕ};
 ghost use Rattle.std.specs.List.{list_any};
 ghost use Rattle.kernel_model.specs.Room.{is_below, meet};
 ghost use Rattle.interval.specs.Ranges.{number_of, range_of};
 ghost use Rattle.ver_table.specs.Chains.{Stored, holds_newest, in_slot, installed, lived, newest_before, noted, one_version};
-ghost use Rattle.ver_table.specs.Places.{IsLeastFree, has_place, is_needed, is_pinned, is_taken};
+ghost use Rattle.ver_table.specs.Places.{IsFreeSlot, is_needed, is_pinned, is_taken};
 ghost use Rattle.ver_table.specs.Slots.{IsLaid, begin_at};
 
 use arrayvec::ArrayVec;
@@ -91,7 +91,9 @@ impl Chain {
     /// The slot and the begin of the newest version that begins before `hi`.
     pub(crate) fn choose(&self, hi: Option<Point>) -> (u8, Point)
         requires { IsSome (newest_before (number_of hi) self.now.stored) }
-        ensures chosen { (v : Stored) → newest_before (number_of hi) self.now.stored ≡ Some v → (result.0 ≡ v.slot) × (result.1.0 ≡ v.begin) × (in_slot result.0 self.now.stored ≡ Some v) }
+        ensures chosen { (v : Stored) → newest_before (number_of hi) self.now.stored ≡ Some v
+            → (result.0 ≡ v.slot) × (result.1.0 ≡ v.begin)
+            × (in_slot result.0 self.now.stored ≡ Some v) }
         ensures inside { result.0 < self.now.slots }
         ensures laid { IsLaid self.now }
     {
@@ -112,7 +114,8 @@ impl Chain {
     // Whether a slot holds the newest version, or an older one that is needed.
     fn is_taken(&self, slot: u8, o: ObjId, others: &[Interval], pins: &[Pin]) -> bool
         requires { slot < self.now.slots }
-        ensures { result ≡ is_taken (is_needed o.0 (map range_of others.now) pins.now) self.now.stored slot }
+        ensures { let needed = is_needed o.0 (map range_of others.now) pins.now in
+            result ≡ is_taken needed self.now.stored slot }
     {
         let newest = self.order[0];
         newest == slot
@@ -129,7 +132,7 @@ impl Chain {
 
     /// The least slot that holds neither the newest nor a needed version: None exactly where there is no place.
     pub(crate) fn free_slot(&self, o: ObjId, others: &[Interval], pins: &[Pin]) -> Option<u8>
-        ensures { let needed = is_needed o.0 (map range_of others.now) pins.now in MatchOption result (has_place needed self.now ≡ false) (λ k. (has_place needed self.now ≡ true) × IsLeastFree needed self.now k) }
+        ensures { IsFreeSlot (is_needed o.0 (map range_of others.now) pins.now) self.now result }
     {
         for slot in 0..self.slots {
             if !self.is_taken(slot, o, others, pins) {
@@ -187,7 +190,8 @@ fn is_needed(
     others: &[Interval],
     pins: &[Pin],
 ) -> bool
-    ensures { result ≡ is_needed o.0 (map range_of others.now) pins.now (record { slot = slot; begin = begin.0; end = number_of end }) }
+    ensures { let s : Stored = record { slot = slot; begin = begin.0; end = number_of end } in
+        result ≡ is_needed o.0 (map range_of others.now) pins.now s }
 {
     is_pinned(o, slot, pins) || is_met(begin, end, others)
 }
@@ -201,7 +205,8 @@ fn is_pinned(o: ObjId, slot: u8, pins: &[Pin]) -> bool
 
 // Whether one of the intervals meets a life.
 fn is_met(begin: Point, end: Option<Point>, others: &[Interval]) -> bool
-    ensures { result ≡ list_any (λ i. meet (lived begin.0 (number_of end)) (range_of i)) others.now }
+    ensures { let life = lived begin.0 (number_of end) in
+        result ≡ list_any (λ i. meet life (range_of i)) others.now }
 {
     others.iter().any(|i| meets(i, begin, end))
 }

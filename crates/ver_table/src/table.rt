@@ -1,9 +1,9 @@
 // The table of versions: the versions of all objects, and what the kernel asks of them.
 
-ghost use Rattle.std.specs.Prelude.{◌≡◌, ◌<◌, ◌≤◌, Some, false, true, IfOk, IsSome, MatchOption, length, map, slice_set};
+ghost use Rattle.std.specs.Prelude.{◌≡◌, ◌<◌, ◌≤◌, Some, false, IfOk, IsSome, length, map, slice_set};
 ghost use Rattle.interval.specs.Ranges.{number_of, range_of};
 ghost use Rattle.ver_table.specs.Chains.{AreNamed, AreOpened, Stored, chain_at, holds_newest, in_slot, installed, newest_before, noted};
-ghost use Rattle.ver_table.specs.Places.{IsLeastFree, has_place, is_needed};
+ghost use Rattle.ver_table.specs.Places.{IsFreeSlot, is_needed};
 ghost use Rattle.ver_table.specs.Slots.{IsLaid};
 
 use crate::chain::Chain;
@@ -38,7 +38,8 @@ impl Versions {
         clock: Point,
     ) -> Result<Versions, NoMemory>
         requires { AreNamed (map (λ p. p.slots) set.now.objects) slots.now }
-        ensures { IfOk result (λ v. AreOpened (map (λ p. p.slots) set.now.objects) slots.now clock.0 v) }
+        ensures { let sizes = map (λ p. p.slots) set.now.objects in
+            IfOk result (λ v. AreOpened sizes slots.now clock.0 v) }
     {
         let mut chains = Vec::with_capacity(alloc, usize::from(set.objects()))?;
         for o in 0..set.objects() {
@@ -77,7 +78,10 @@ impl Versions {
         requires inside { o.0 < length self.now }
         requires begun { IsSome (newest_before (number_of hi) (chain_at self.now o.0).stored) }
         ensures object { result.object ≡ o }
-        ensures chosen { (v : Stored) → newest_before (number_of hi) (chain_at self.now o.0).stored ≡ Some v → (result.slot ≡ v.slot) × (result.begin.0 ≡ v.begin) × (in_slot result.slot (chain_at self.now o.0).stored ≡ Some v) }
+        ensures chosen { (v : Stored)
+            → newest_before (number_of hi) (chain_at self.now o.0).stored ≡ Some v
+            → (result.slot ≡ v.slot) × (result.begin.0 ≡ v.begin)
+            × (in_slot result.slot (chain_at self.now o.0).stored ≡ Some v) }
         ensures slot { result.slot < (chain_at self.now o.0).slots }
         ensures laid { IsLaid (chain_at self.now o.0) }
     {
@@ -110,7 +114,8 @@ impl Versions {
     pub fn end_of(&self, v: Version) -> Option<Point>
         requires inside { v.object.0 < length self.now }
         requires stands { IsSome (in_slot v.slot (chain_at self.now v.object.0).stored) }
-        ensures { (s : Stored) → in_slot v.slot (chain_at self.now v.object.0).stored ≡ Some s → number_of result ≡ s.end }
+        ensures { (s : Stored) → in_slot v.slot (chain_at self.now v.object.0).stored ≡ Some s
+            → number_of result ≡ s.end }
     {
         self.chain(v.object).end_of(v.slot)
     }
@@ -119,7 +124,8 @@ impl Versions {
     /// where the object has no room.
     pub fn free_slot(&self, o: ObjId, others: &[Interval], pins: &[Pin]) -> Option<u8>
         requires { o.0 < length self.now }
-        ensures { let needed = is_needed o.0 (map range_of others.now) pins.now in MatchOption result (has_place needed (chain_at self.now o.0) ≡ false) (λ k. (has_place needed (chain_at self.now o.0) ≡ true) × IsLeastFree needed (chain_at self.now o.0) k) }
+        ensures { let needed = is_needed o.0 (map range_of others.now) pins.now in
+            IsFreeSlot needed (chain_at self.now o.0) result }
     {
         self.chain(o).free_slot(o, others, pins)
     }

@@ -1,8 +1,9 @@
 use Rattle.std.proofs.Common.{◌≡◌, ◌+◌, length, map, take, ap, ◌∙◌, arith, length-append}
 use Rattle.std.proofs.lemmas.List.{length-map, length-take-le}
 use Rattle.kernel_model.specs.OpenTasks.{children}
+use Rattle.kernel_model.proofs.ForCallers.{length-children}
 use Rattle.set_model.specs.Views.{spawn_of}
-use Rattle.kernel_core.proofs.Tasks.{add_one_more, length-children}
+use Rattle.kernel_core.proofs.Tasks.{add_one_more}
 use Rattle.kernel_core.proofs.queue.Queue.add.Goals as goal
 
 pub push-requires : goal.push-requires
