@@ -4,3 +4,5 @@ pub mod WordBack
 pub mod Streams
 pub mod Memory
 pub mod StdStreams
+pub mod Refusals
+pub mod Results
