@@ -2,11 +2,11 @@
 #![tactic(auto)]
 
 pub mod laws;
-mod version;
 mod ranges;
+mod version;
 
-pub use version::{Pin, Version};
 pub use ranges::Interval;
+pub use version::{Pin, Version};
 
 #[cfg(test)]
 mod tests;

@@ -1,3 +1,4 @@
 pub mod Puts
 pub mod SoFar
 pub mod Words
+pub mod ForCallers

@@ -5,3 +5,5 @@ pub mod Streams
 pub mod WholeInputs
 pub mod Memory
 pub mod StdStreams
+pub mod Refusals
+pub mod Results

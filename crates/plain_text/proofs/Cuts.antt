@@ -8,6 +8,7 @@ use Rattle.std.proofs.lemmas.List.{take_all, drop_all}
 use Rattle.std.proofs.lemmas.List.Sums.{length-filter, count_by-le-length, fails_before_first, passes_at_first, prefix_len-le-length}
 use Rattle.std.proofs.lemmas.List.Splits.{slice_split_first, slice_split_none, slice_split-cons_yes, slice_split-cons_no, length-slice_split}
 use Rattle.plain_text.specs.Words.{is_blank, words_in, line_words, word_and_rest}
+use Rattle.plain_text.proofs.ForCallers.{nowhere, parts-cons}
 
 abbrev is_feed : ℕ → Bool
 is_feed b = eqb b 10
@@ -17,18 +18,8 @@ position_is p xs i e =
     let h = cond_some (ltb (position_or_len p xs) (length xs)) (position_or_len p xs) i e in
     (ltb-true _ _ h.0, h.1)
 
-nowhere : {X : Type 0} (p : X → Bool) (xs : List X) → position p xs ≡ None → length xs ≤ position_or_len p xs
-nowhere p xs e = elim (cases_lt (position_or_len p xs) (length xs)) [
-  | inl lt ↦ absurd (grind arith)
-  | inr le ↦ le
-]
-
 split_whole : {X : Type 0} (p : X → Bool) (xs : List X) → length xs ≤ position_or_len p xs → slice_split p xs ≡ xs ∷ []
 split_whole p xs le = slice_split_none p xs (λ k d lt. fails_before_first p xs k d (omega arith))
-
-parts-cons : (x : List ℕ) (parts : List (List ℕ)) → 0 < length parts → lines_of_parts (x ∷ parts) ≡ strip_carriage_return x ∷ lines_of_parts parts
-parts-cons x [] h = absurd (omega arith)
-parts-cons x (y ∷ more) h = refl
 
 -- a line that a line feed ends
 pub lines-fed : (bytes : List ℕ) (i : ℕ) → position is_feed bytes ≡ Some i → lines bytes ≡ strip_carriage_return (take i bytes) ∷ lines (drop (i + 1) bytes)

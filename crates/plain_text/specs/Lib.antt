@@ -2,3 +2,4 @@ pub mod Words
 pub mod Numbers
 pub mod Names
 pub mod Left
+pub mod BadLines

@@ -1,8 +1,10 @@
 //! Bytes cut into lines, one after another.
 
-ghost use Rattle.std.specs.Prelude.{◌≡◌, ◌∷◌, ◌==◌, length, ◌<◌, ◌≤◌, position};
+ghost use Rattle.std.specs.Prelude.{◌≡◌, ◌∷◌, ◌==◌, length, ◌<◌, ◌≤◌, position, map, vec_len, IfOk};
 ghost use Rattle.std.specs.Iterator.{YieldsFirstBy, item_count};
 ghost use Rattle.std.specs.Str.Lines.{lines, strip_carriage_return};
+
+use std::alloc::{AllocError, Global};
 
 /// The lines of bytes, as `str::lines` gives those of a text: each without its line feed and without the carriage
 /// return directly before that. What stands behind the last line feed is a line where it is not empty.
@@ -68,4 +70,12 @@ impl<'a> Iterator for Lines<'a> {
         self.rest = rest;
         Some(line)
     }
+}
+
+/// The lines of these bytes, in one list.
+pub fn lines_of(alloc: Global, bytes: &[u8]) -> Result<Vec<&[u8]>, AllocError>
+    ensures exact { IfOk result (λ ls. map (λ line. line.now) ls.items ≡ lines bytes.entry.now) }
+    ensures few { IfOk result (λ ls. vec_len ls ≤ length bytes.entry.now) }
+{
+    Lines::new(bytes).collect(alloc)
 }

@@ -4,6 +4,8 @@ ghost use Rattle.std.specs.Prelude.{◌≡◌, MatchBool};
 ghost use Rattle.std.specs.List.{list_all};
 ghost use Rattle.plain_text.specs.Names.{IsName, is_name as name_test, is_name_byte};
 
+use nv_base::limits::MAX_NAME;
+
 fn has_name_bytes(word: &[u8]) -> bool
     ensures { result ≡ list_all is_name_byte word.now }
 {
@@ -16,7 +18,7 @@ pub fn is_name(word: &[u8]) -> bool
     ensures test { result ≡ name_test word.now }
     ensures facts { MatchBool result (IsName word.now) (IsName word.now → ⊥) }
 {
-    if word.is_empty() || 16 < word.len() {
+    if word.is_empty() || usize::from(MAX_NAME) < word.len() {
         return false;
     }
     !word[0].is_ascii_digit() && has_name_bytes(word)

@@ -43,8 +43,31 @@ impl Model for Schedule {
 }
 
 impl Schedule {
-    /// The schedule of these items on so many cores, with power that fails after each of the on-times `on`, which
-    /// are numbers of core steps. `NoMemory` where it could not be kept.
+    /// The schedule of these items on so many cores, with power that fails after each of the on-times, which are
+    /// numbers of core steps. It keeps the lists. `NoMemory` where there was none for what is worked out once.
+    pub fn of_lists(
+        alloc: Global,
+        cores: u8,
+        items: Vec<StepItem>,
+        on_times: Vec<u32>,
+    ) -> Result<Schedule, NoMemory>
+        requires { IsSchedule (schedule_of cores items.items on_times.items) }
+        ensures { IfOk result (λ s. s ≡ schedule_of cores items.items on_times.items) }
+    {
+        let steps = index::steps_of(&items);
+        let starts = index::starts_of(alloc, &items)?;
+        let failures = index::failures_of(alloc, &on_times, steps)?;
+        Ok(Schedule {
+            cores,
+            items,
+            on_times,
+            steps,
+            starts,
+            failures,
+        })
+    }
+
+    /// The same of lists that are lent: it keeps copies of them.
     pub fn of(
         alloc: Global,
         cores: u8,
@@ -54,20 +77,9 @@ impl Schedule {
         requires { IsSchedule (schedule_of cores items.now on.now) }
         ensures { IfOk result (λ s. s ≡ schedule_of cores items.now on.now) }
     {
-        let steps = index::steps_of(items);
-        let starts = index::starts_of(alloc, items)?;
-        let failures = index::failures_of(alloc, on, steps)?;
         let copies = index::copies_of(alloc, items)?;
-        let mut on_times = Vec::new(alloc);
-        on_times.extend_from_slice(on)?;
-        Ok(Schedule {
-            cores,
-            items: copies,
-            on_times,
-            steps,
-            starts,
-            failures,
-        })
+        let on_times = Vec::from_slice(alloc, on)?;
+        Schedule::of_lists(alloc, cores, copies, on_times)
     }
 
     /// How many events there are.

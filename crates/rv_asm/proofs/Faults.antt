@@ -2,8 +2,10 @@
 use Rattle.std.proofs.Common.{◌≡◌, ℕ, ◌+◌, ◌≤◌, List, [], ◌∷◌, ◌++◌, length, map, Result, Ok, Err, refl, ap, subst, arith, ltb, inl, inr, length-append}
 use Rattle.std.proofs.lemmas.Bool.{cases_Bool, ltb-false}
 use Rattle.rv_asm.specs.declared.cause.AsmCause.{AsmCause}
-use Rattle.rv_asm.specs.declared.cause.AsmError.{AsmError}
-use Rattle.rv_asm.specs.Assembly.{◌>>=◌, at, assembled, fitting, label_taken, line_after, lines_after, body_words}
+use Rattle.rv_asm.specs.Causes.{AsmError}
+use Rattle.nv_base.specs.Refusals.{at}
+use Rattle.nv_base.specs.Results.{◌>>=◌}
+use Rattle.rv_asm.specs.Assembly.{assembled, fitting, label_taken, line_after, lines_after, body_words}
 use Rattle.rv_asm.specs.Labels.{Found, labels_of}
 use Rattle.rv_asm.specs.Laws.{FirstFault}
 use Rattle.rv_asm.specs.Lines.{Body, Line, parsed}

@@ -1,8 +1,9 @@
 -- The two passes over lines.
 use Rattle.std.proofs.Common.{◌≡◌, ℕ, ◌+◌, ◌<◌, List, ◌∷◌, length, get_or, map, drop, drop-cons, add-one, Bor, refl}
-use Rattle.rv_asm.specs.declared.cause.LineRefusal.{LineRefusal}
-use Rattle.rv_asm.specs.declared.cause.LineRefusal.TheVariants as lines
-use Rattle.rv_asm.specs.Answers.{Fails, LineFails, refusal_at}
+use Rattle.nv_base.proofs.ForCallers.{refuses_at, refuses_bind}
+use Rattle.nv_base.specs.declared.refusals.Refusal.{Refusal}
+use Rattle.nv_base.specs.Refusals.{Refuses, at, refusal_at}
+use Rattle.rv_asm.specs.declared.cause.AsmCause.{AsmCause}
 use Rattle.rv_asm.specs.Assembly.{line_after, lines_after}
 use Rattle.rv_asm.specs.Labels.{Found, labels_from, line_count, noted, spot}
 use Rattle.rv_asm.specs.Lines.{Line, parsed}
@@ -17,7 +18,7 @@ pub labels_step : (found next all : Found) (n place count : ℕ) (l : Line) (ls 
 unfolding labels_from
 labels_step found next all n place count l ls e k so_far = rw (e, k) so_far
 
-pub lines_fail : (found : Found) (n : ℕ) (words : List ℕ) (l : Line) (ls : List Line) (refusal : LineRefusal) → LineFails refusal (line_after found n words l) → Fails (refusal_at n refusal) (lines_after found n words (l ∷ ls))
+pub lines_fail : (found : Found) (n : ℕ) (words : List ℕ) (l : Line) (ls : List Line) (refusal : Refusal AsmCause) → Refuses refusal (line_after found n words l) → Refuses (refusal_at n refusal) (lines_after found n words (l ∷ ls))
 unfolding lines_after
-lines_fail found n words l ls lines.Memory h = tt
-lines_fail found n words l ls (lines.Fault cause) h = rw h refl
+lines_fail found n words l ls refusal h =
+    refuses_bind (refusal_at n refusal) (at n (line_after found n words l)) (λ more. lines_after found (n + 1) more ls) (refuses_at n refusal (line_after found n words l) h)

@@ -1,6 +1,6 @@
 -- The range of a value is what its instruction has room for.
 use Rattle.std.proofs.Common.{◌≡◌, ◌<◌, ◌%◌, ◌&&◌, Bool, true, false, refl, arith, pos, negsuc, ℤ, ltb, leb, eqb}
-use Rattle.std.proofs.lemmas.Bool.{ltb-true, leb-true, eqb-true, lt-ltb, le-leb, eq-eqb}
+use Rattle.std.proofs.lemmas.Bool.{ltb-true, leb-true, eqb-true, lt-ltb, le-leb, eq-eqb, and_parts, and_from}
 use Rattle.rv_isa.specs.Fields.{unsigned, IsSigned}
 use Rattle.rv_isa.specs.Ranges.{IsInstr, IsOffset, IsAmount, IsImmediate}
 use Rattle.rv_isa.specs.declared.instruction.ImmOp.{ImmOp}
@@ -10,10 +10,6 @@ use Rattle.rv_isa.specs.declared.instruction.Instr.TheVariants.{Lui, Auipc, Jal,
 use Rattle.rv_asm.specs.Numbers.{is_within, is_even, is_word}
 use Rattle.rv_asm.specs.Fields.{fits, immediate_fits, with_value}
 
-both : (a b : Bool) → (a && b) ≡ true → (a ≡ true) × (b ≡ true)
-both true b e = (refl, e)
-both false b e = absurd cc
-
 -- ---- what is in range has its field
 
 short : (z : ℤ) → is_within 2048 2047 z ≡ true → IsSigned 12 z
@@ -22,22 +18,22 @@ short (negsuc n) e = ltb-true n 2048 e
 
 branch_offset : (z : ℤ) → (is_within 4096 4094 z && is_even z) ≡ true → IsOffset 13 z
 branch_offset (pos n) e =
-    let p = both (leb n 4094) (eqb (n % 2) 0) e in
+    let p = and_parts (leb n 4094) (eqb (n % 2) 0) e in
     let h = leb-true n 4094 p.0 in
     (omega arith, eqb-true (n % 2) 0 p.1)
 branch_offset (negsuc n) e =
-    let p = both (ltb n 4096) (eqb (n % 2) 1) e in
+    let p = and_parts (ltb n 4096) (eqb (n % 2) 1) e in
     let h = ltb-true n 4096 p.0 in
     let odd = eqb-true (n % 2) 1 p.1 in
     (h, omega arith)
 
 jump_offset : (z : ℤ) → (is_within 1048576 1048574 z && is_even z) ≡ true → IsOffset 21 z
 jump_offset (pos n) e =
-    let p = both (leb n 1048574) (eqb (n % 2) 0) e in
+    let p = and_parts (leb n 1048574) (eqb (n % 2) 0) e in
     let h = leb-true n 1048574 p.0 in
     (omega arith, eqb-true (n % 2) 0 p.1)
 jump_offset (negsuc n) e =
-    let p = both (ltb n 1048576) (eqb (n % 2) 1) e in
+    let p = and_parts (ltb n 1048576) (eqb (n % 2) 1) e in
     let h = ltb-true n 1048576 p.0 in
     let odd = eqb-true (n % 2) 1 p.1 in
     (h, omega arith)
@@ -77,22 +73,17 @@ value_is_whole Ebreak z h e = h
 
 -- ---- what has its field is in range
 
-and : (a b : Bool) → a ≡ true → b ≡ true → (a && b) ≡ true
-and true true p q = refl
-and true false p q = q
-and false b p q = p
-
 back_short : (z : ℤ) → IsSigned 12 z → is_within 2048 2047 z ≡ true
 back_short (pos n) h = le-leb n 2047 (omega arith)
 back_short (negsuc n) h = lt-ltb n 2048 (omega arith)
 
 back_branch : (z : ℤ) → IsOffset 13 z → (is_within 4096 4094 z && is_even z) ≡ true
-back_branch (pos n) h = and (leb n 4094) (eqb (n % 2) 0) (le-leb n 4094 (omega arith)) (eq-eqb (n % 2) 0 h.1)
-back_branch (negsuc n) h = and (ltb n 4096) (eqb (n % 2) 1) (lt-ltb n 4096 (omega arith)) (eq-eqb (n % 2) 1 (omega arith))
+back_branch (pos n) h = and_from (leb n 4094) (eqb (n % 2) 0) (le-leb n 4094 (omega arith)) (eq-eqb (n % 2) 0 h.1)
+back_branch (negsuc n) h = and_from (ltb n 4096) (eqb (n % 2) 1) (lt-ltb n 4096 (omega arith)) (eq-eqb (n % 2) 1 (omega arith))
 
 back_jump : (z : ℤ) → IsOffset 21 z → (is_within 1048576 1048574 z && is_even z) ≡ true
-back_jump (pos n) h = and (leb n 1048574) (eqb (n % 2) 0) (le-leb n 1048574 (omega arith)) (eq-eqb (n % 2) 0 h.1)
-back_jump (negsuc n) h = and (ltb n 1048576) (eqb (n % 2) 1) (lt-ltb n 1048576 (omega arith)) (eq-eqb (n % 2) 1 (omega arith))
+back_jump (pos n) h = and_from (leb n 1048574) (eqb (n % 2) 0) (le-leb n 1048574 (omega arith)) (eq-eqb (n % 2) 0 h.1)
+back_jump (negsuc n) h = and_from (ltb n 1048576) (eqb (n % 2) 1) (lt-ltb n 1048576 (omega arith)) (eq-eqb (n % 2) 1 (omega arith))
 
 back_amount : (z : ℤ) → IsAmount z → is_within 0 31 z ≡ true
 back_amount (pos n) h = le-leb n 31 (omega arith)

@@ -3,21 +3,17 @@ use Rattle.std.proofs.Common.{◌≡◌, ℕ, Bool, true, false, cond, List, [],
 use Rattle.std.specs.Cmp.Lexicographic.{pointwise}
 use Rattle.std.specs.Map.{lookup}
 use Rattle.std.specs.Option.{option_or}
-use Rattle.std.proofs.lemmas.Bool.{eqb-true, cases_Bool}
+use Rattle.std.proofs.lemmas.Bool.{eqb-true, cases_Bool, and_parts}
 use Rattle.indexmap.specs.IndexMap.{insert_entry}
 use Rattle.rv_asm.specs.declared.labels.Spot.{Spot}
 use Rattle.rv_asm.specs.Labels.{Found, noted}
-
-both : (a b : Bool) → (a && b) ≡ true → (a ≡ true) × (b ≡ true)
-both true b e = (refl, e)
-both false b e = absurd cc
 
 pointwise_true : (a b : List ℕ) → pointwise nat_eq a b ≡ true → a ≡ b
 pointwise_true [] [] e = refl
 pointwise_true [] (y ∷ b) e = absurd cc
 pointwise_true (x ∷ a) [] e = absurd cc
 pointwise_true (x ∷ a) (y ∷ b) e =
-    let p = both (eqb x y) (pointwise nat_eq a b) e in
+    let p = and_parts (eqb x y) (pointwise nat_eq a b) e in
     let head = eqb-true x y p.0 in
     let tail = pointwise_true a b p.1 in
     cc

@@ -21,7 +21,7 @@ use Rattle.rv_asm.specs.Forms.{x0, single_templates, branch_templates, load_temp
 use Rattle.rv_asm.specs.Labels.{Found, labels_of}
 use Rattle.rv_asm.specs.Lines.{Body, Instruction, Word, line, parsed, body_of}
 use Rattle.rv_asm.specs.Operands.{opened, Absent, before_end, filled}
-use Rattle.rv_asm.proofs.Tokens.{is_token, token_inner, is_text_byte, token_text, word_first, operand_is, pieces_are, no_comment, line_first}
+use Rattle.rv_asm.proofs.Tokens.{is_token, token_inner, is_text_byte, token_text, word_first, operand_is, pieces_are, no_comment, text_first}
 use Rattle.rv_asm.proofs.WrittenNumbers.{hexadecimal_back, hexadecimal_inner}
 use Rattle.rv_asm.proofs.WrittenOperands.{IsPlain, plain, operand_token, put_all, filled_back}
 use Rattle.rv_asm.proofs.WrittenForms.{template, IsFormed, formed, IsNoFence, words_back}
@@ -157,7 +157,7 @@ lines_back back found n done [] small few = ap (λ (d : List ℕ). Ok d) (sym (a
 lines_back back found n done (w ∷ ws) small few =
     let so = said back w small.0 in
     let cut : disassembled (w ∷ ws) ≡ text_of w ++ 10 ∷ disassembled ws = append_assoc (text_of w) (10 ∷ []) (disassembled ws) in
-    let split : map parsed (lines (disassembled (w ∷ ws))) ≡ parsed (text_of w) ∷ map parsed (lines (disassembled ws)) = ap (λ (t : List ℕ). map parsed (lines t)) cut ∙ ap (λ (ls : List (List ℕ)). map parsed ls) (line_first (text_of w) (disassembled ws) so.bytes so.some) in
+    let split : map parsed (lines (disassembled (w ∷ ws))) ≡ parsed (text_of w) ∷ map parsed (lines (disassembled ws)) = ap (λ (t : List ℕ). map parsed (lines t)) cut ∙ ap (λ (ls : List (List ℕ)). map parsed ls) (text_first (text_of w) (disassembled ws) so.bytes so.some) in
     let room : ltb 1024 (length done + 1) ≡ false = le-ltb _ _ (omega arith) in
     let rest = lines_back back found (n + 1) (done ++ w ∷ []) ws small.1 (omega (arith, length-append done (w ∷ []))) in
     rw (split, so.read, so.words found (length done), room, rest) (ap (λ (d : List ℕ). Ok d) (append_assoc done (w ∷ []) ws))

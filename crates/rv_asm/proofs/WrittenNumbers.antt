@@ -6,7 +6,7 @@ use Rattle.std.specs.Fmt.{decimal, signed_decimal}
 use Rattle.std.specs.Str.Parse.{digits_value, AllDigits}
 use Rattle.std.proofs.Math.Arith.{mod-mul}
 use Rattle.std.proofs.Math.Nat.{one-le-pow, pow-suc}
-use Rattle.std.proofs.lemmas.Bool.{ltb-true, lt-ltb, le-leb, ne_eqb, cases_Bool}
+use Rattle.std.proofs.lemmas.Bool.{ltb-true, lt-ltb, le-leb, ne_eqb, cases_Bool, and_parts}
 use Rattle.std.proofs.lemmas.Fmt.{decimal_is_IsNumeral}
 use Rattle.std.proofs.lemmas.Int.Digits.{digits_value_push}
 use Rattle.std.proofs.lemmas.List.Folds.{list_all-append}
@@ -18,7 +18,7 @@ use Rattle.rv_isa.specs.Texts.{hexadecimal}
 use Rattle.rv_asm.specs.Numbers.{numeral, number_of, minus, is_word}
 use Rattle.rv_asm.specs.Operands as operands
 use Rattle.rv_asm.specs.Operands.{target_of}
-use Rattle.rv_asm.proofs.Tokens.{both, is_inner, is_token}
+use Rattle.rv_asm.proofs.Tokens.{is_inner, is_token}
 
 -- a number of 32 bits, with a sign or without
 abbrev pub IsShort : ℤ → Type 0
@@ -35,7 +35,7 @@ abbrev is_figure : ℕ → Bool
 is_figure b = ltb 47 b && ltb b 58
 
 figure_range : (b : ℕ) → is_figure b ≡ true → (47 < b) × (b < 58)
-figure_range b h = let p = both (ltb 47 b) (ltb b 58) h in (ltb-true 47 b p.0, ltb-true b 58 p.1)
+figure_range b h = let p = and_parts (ltb 47 b) (ltb b 58) h in (ltb-true 47 b p.0, ltb-true b 58 p.1)
 
 figures_of : (ds : List ℕ) → AllDigits 10 ds → list_all is_figure ds ≡ true
 figures_of [] all = refl
@@ -76,9 +76,9 @@ plain_number : (n : ℕ) (ds : List ℕ) → IsDecimal n ds → number_of ds ≡
 plain_number n [] so = let some : 0 < 0 = so.some in absurd (omega arith)
 plain_number n (a ∷ []) so = ap (option_map pos) so.read
 plain_number n (a ∷ b ∷ ds) so =
-    let h = both (is_figure a) (list_all is_figure (b ∷ ds)) so.figures in
+    let h = and_parts (is_figure a) (list_all is_figure (b ∷ ds)) so.figures in
     let first = figure_range a h.0 in
-    let second = figure_range b (both (is_figure b) (list_all is_figure ds) h.1).0 in
+    let second = figure_range b (and_parts (is_figure b) (list_all is_figure ds) h.1).0 in
     let no_minus : eqb a 45 ≡ false = ne_eqb _ _ (omega arith) in
     let no_x : eqb b 120 ≡ false = ne_eqb _ _ (omega arith) in
     elim (cases_Bool (eqb a 48)) [
@@ -103,7 +103,7 @@ is_number_byte b = ltb 44 b && ltb b 58
 figures_bytes : (ds : List ℕ) → list_all is_figure ds ≡ true → list_all is_number_byte ds ≡ true
 figures_bytes [] e = refl
 figures_bytes (d ∷ ds) e =
-    let h = both (is_figure d) (list_all is_figure ds) e in
+    let h = and_parts (is_figure d) (list_all is_figure ds) e in
     let r = figure_range d h.0 in
     let low : ltb 44 d ≡ true = lt-ltb _ _ (omega arith) in
     let high : ltb d 58 ≡ true = lt-ltb _ _ (omega arith) in
@@ -118,12 +118,12 @@ number_some (pos n) small = (decimal_is n (omega arith)).some
 number_some (negsuc n) small = omega arith
 
 pub number_byte_range : (b : ℕ) → is_number_byte b ≡ true → (44 < b) × (b < 58)
-number_byte_range b h = let p = both (ltb 44 b) (ltb b 58) h in (ltb-true 44 b p.0, ltb-true b 58 p.1)
+number_byte_range b h = let p = and_parts (ltb 44 b) (ltb b 58) h in (ltb-true 44 b p.0, ltb-true b 58 p.1)
 
 pub number_inner : (w : List ℕ) → list_all is_number_byte w ≡ true → list_all is_inner w ≡ true
 number_inner [] e = refl
 number_inner (b ∷ w) e =
-    let h = both (is_number_byte b) (list_all is_number_byte w) e in
+    let h = and_parts (is_number_byte b) (list_all is_number_byte w) e in
     let r = number_byte_range b h.0 in
     let low : ltb 35 b ≡ true = lt-ltb _ _ (omega arith) in
     let other : eqb b 44 ≡ false = ne_eqb _ _ (omega arith) in
@@ -143,7 +143,7 @@ and_false false = refl
 figure_no_name : (n : ℕ) (ds : List ℕ) → IsDecimal n ds → is_name ds ≡ false
 figure_no_name n [] so = let some : 0 < 0 = so.some in absurd (omega arith)
 figure_no_name n (a ∷ ds) so =
-    let r = figure_range a (both (is_figure a) (list_all is_figure ds) so.figures).0 in
+    let r = figure_range a (and_parts (is_figure a) (list_all is_figure ds) so.figures).0 in
     let low : leb 48 a ≡ true = le-leb _ _ (omega arith) in
     let high : leb a 57 ≡ true = le-leb _ _ (omega arith) in
     rw (low, high) (ap (λ (b : Bool). b && list_all is_name_byte ds) (and_false (is_in_range 1 16 (length (a ∷ ds)))))

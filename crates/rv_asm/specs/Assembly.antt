@@ -1,12 +1,14 @@
 -- The words that lines stand for, or the first faulty line and its first cause. This project's own.
 use Rattle.std.specs.Prelude.{ℕ, ◌+◌, ◌*◌, nat_lt, ℤ, pos, ◌-ℤ◌, Bool, false, List, [], ◌∷◌, ◌++◌, length, map, Option, Some, None, Result, Ok, Err, if◌then◌else◌}
 use Rattle.nv_base.specs.declared.limits.TheConstants.{MAX_CODE}
+use Rattle.nv_base.specs.Refusals.{at}
+use Rattle.nv_base.specs.Results.{◌>>=◌}
 use Rattle.rv_isa.specs.Fields.{unsigned}
 use Rattle.rv_isa.specs.Words.{instruction_word}
 use Rattle.rv_isa.specs.declared.instruction.Instr.{Instr}
 use Rattle.rv_asm.specs.declared.cause.AsmCause.{AsmCause}
 use Rattle.rv_asm.specs.declared.cause.AsmCause.TheVariants.{Twice, Label, Range, TooLong}
-use Rattle.rv_asm.specs.declared.cause.AsmError.{AsmError}
+use Rattle.rv_asm.specs.Causes.{AsmError}
 use Rattle.rv_asm.specs.declared.labels.Spot.{Spot}
 use Rattle.rv_asm.specs.Numbers.{is_word}
 use Rattle.rv_asm.specs.Fields.{with_value, fits}
@@ -15,11 +17,6 @@ use Rattle.rv_asm.specs.Operands.{Open, Value}
 use Rattle.rv_asm.specs.Lines.{Body, Nothing, Instruction, Word, Load, Line, parsed}
 use Rattle.rv_asm.specs.Loads.{loads}
 use Rattle.rv_asm.specs.Labels.{Found, labels_of}
-
-infixl 10 ◌>>=◌
-abbrev pub ◌>>=◌ : {E A B : Type 0} → Result A E → (A → Result B E) → Result B E
-(Ok x) >>= f = f x
-(Err e) >>= f = Err e
 
 -- from the word at one place to that at another, in bytes
 abbrev pub distance : ℕ → ℕ → ℤ
@@ -65,10 +62,6 @@ line_after found n words l = do
   body ← l.body
   more ← body_words found (length words) body
   fitting words more
-
-abbrev pub at : {A : Type 0} → ℕ → Result A AsmCause → Result A AsmError
-at n (Ok x) = Ok x
-at n (Err cause) = Err (record { line = n; cause = cause })
 
 -- the words after lines, from line n on, or the first faulty line
 unfoldable pub lines_after : Found → ℕ → List ℕ → List Line → Result (List ℕ) AsmError

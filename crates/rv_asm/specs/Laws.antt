@@ -4,7 +4,7 @@ use Rattle.std.specs.Prelude.{◌≡◌, ℕ, ◌==◌, ◌+◌, ◌*◌, ◌%�
 use Rattle.rv_isa.specs.Fields.{unsigned}
 use Rattle.rv_isa.specs.declared.instruction.Instr.{Instr}
 use Rattle.rv_isa.specs.declared.instruction.Instr.TheVariants.{Lui, OpImm}
-use Rattle.rv_asm.specs.declared.cause.AsmError.{AsmError}
+use Rattle.rv_asm.specs.Causes.{AsmError}
 use Rattle.rv_asm.specs.Assembly.{line_after, lines_after}
 use Rattle.rv_asm.specs.Labels.{labels_of}
 use Rattle.rv_asm.specs.Lines.{parsed}

@@ -7,7 +7,7 @@ pub mod Lines
 pub mod Loads
 pub mod Labels
 pub mod Assembly
-pub mod Answers
+pub mod Causes
 pub mod Seen
 pub mod Found
 pub mod Laws

@@ -2,7 +2,7 @@
 
 ghost use Rattle.std.specs.Prelude.{◌≡◌, ◌≤◌, ◌++◌, length, map, option_map, vec_len, IfOk, OnOk, []};
 ghost use Rattle.std.specs.Str.Lines.{lines as lines_in};
-ghost use Rattle.rv_asm.specs.Answers.{Gives, Leaves};
+ghost use Rattle.nv_base.specs.Refusals.{Gives, Leaves};
 ghost use Rattle.rv_asm.specs.Assembly.{assembled, label_taken, line_after, lines_after};
 ghost use Rattle.rv_asm.specs.Found.{find_in};
 ghost use Rattle.rv_asm.specs.Labels.{labels_of as labels_in, line_count, noted, spot};
@@ -14,7 +14,7 @@ use crate::labels::{Labels, Spot};
 use crate::lines::parse;
 use crate::words::{Code, code_of, count};
 use nv_base::limits::{MAX_CODE, MAX_INPUT};
-use plain_text::Lines;
+use plain_text::lines_of;
 use std::alloc::{AllocError, Global};
 
 /// Notes the label of a line, and answers how many words the line has.
@@ -103,7 +103,7 @@ fn take_line(
     check_label(labels, number, line.label)?;
     let code = code_of(labels, words.len() as u32, line.body?)?;
     if usize::from(MAX_CODE) < words.len() + code.count() as usize {
-        return Err(LineRefusal::Fault(AsmCause::TooLong));
+        return Err(LineRefusal::At(AsmCause::TooLong));
     }
     push_code(words, code)?;
     Ok(())
@@ -134,14 +134,6 @@ pub fn assemble_lines(alloc: Global, lines: &[&[u8]]) -> Result<Vec<u32>, AsmRef
 {
     let labels = labels_of(alloc, lines)?;
     encode_lines(alloc, &labels, lines)
-}
-
-/// The lines of bytes.
-fn lines_of(alloc: Global, bytes: &[u8]) -> Result<Vec<&[u8]>, AllocError>
-    ensures exact { IfOk result (λ lines. map (λ line. line.now) lines.items ≡ lines_in bytes.entry.now) }
-    ensures few { IfOk result (λ lines. vec_len lines ≤ length bytes.entry.now) }
-{
-    Lines::new(bytes).collect(alloc)
 }
 
 /// The words of a text of at most 1,048,576 bytes. `At` the first faulty line, counted from 1, with its first cause,

@@ -2,7 +2,7 @@
 
 ghost use Rattle.std.specs.Prelude.{◌≡◌};
 
-use std::alloc::{AllocError, AllocFailed};
+use nv_base::{LineError, Refusal};
 
 /// What is wrong with a line. On one line the first of these counts: Twice, Mnemonic, Operand, Label, Range, TooLong.
 #[derive(Clone, Copy, Debug, PartialEq, Eq)]
@@ -22,7 +22,7 @@ pub enum AsmCause {
 }
 
 impl AsmCause {
-    ghost use Rattle.rv_asm.specs.Answers.{cause_number};
+    ghost use Rattle.rv_asm.specs.Causes.{cause_number};
 
     /// The number of the cause, from 1 to 6.
     pub fn number(self) -> u32
@@ -40,87 +40,20 @@ impl AsmCause {
 }
 
 /// The first faulty line, counted from 1, and the first cause on it.
-#[derive(Clone, Copy, Debug, PartialEq, Eq)]
-pub struct AsmError {
-    pub line: u32,
-    pub cause: AsmCause,
-}
+pub type AsmError = LineError<AsmCause>;
 
-/// Why a text was not assembled.
-#[derive(Clone, Copy, PartialEq, Eq, Debug)]
-pub enum AsmRefusal {
-    /// A line is faulty.
-    At(AsmError),
-    /// Memory ran out.
-    NoMemory,
-}
+/// Why a text was not assembled: `At` with the faulty line, or `NoMemory`.
+pub type AsmRefusal = Refusal<AsmError>;
 
 /// Why a line was not taken.
-#[derive(Debug, Drop)]
-pub(crate) enum LineRefusal {
-    Fault(AsmCause),
-    Memory,
-}
+pub(crate) type LineRefusal = Refusal<AsmCause>;
 
-impl LineRefusal {
-    ghost use Rattle.rv_asm.specs.Answers.{refusal_at};
+impl From<AsmCause> for Refusal<AsmCause> {
+    ghost use Rattle.nv_base.specs.declared.refusals.Refusal.TheVariants.{At};
 
-    pub(crate) fn at(self, line: u32) -> AsmRefusal
-        ensures { result ≡ refusal_at line self }
-    {
-        match self {
-            LineRefusal::Fault(cause) => AsmRefusal::At(AsmError { line, cause }),
-            LineRefusal::Memory => AsmRefusal::NoMemory,
-        }
-    }
-}
+    ghost from_gives = { λ cause e. e ≡ At cause };
 
-impl From<AsmCause> for LineRefusal {
-    ghost use Rattle.rv_asm.specs.declared.cause.LineRefusal.TheVariants.{Fault};
-
-    ghost from_gives = { λ cause e. e ≡ Fault cause };
-
-    fn from(cause: AsmCause) -> LineRefusal {
-        LineRefusal::Fault(cause)
-    }
-}
-
-impl From<AllocError> for LineRefusal {
-    ghost use Rattle.rv_asm.specs.declared.cause.LineRefusal.TheVariants.{Memory};
-
-    ghost from_gives = { λ _ e. e ≡ Memory };
-
-    fn from(_error: AllocError) -> LineRefusal {
-        LineRefusal::Memory
-    }
-}
-
-impl<T: Drop> From<AllocFailed<T>> for LineRefusal {
-    ghost use Rattle.rv_asm.specs.declared.cause.LineRefusal.TheVariants.{Memory};
-
-    ghost from_gives = { λ _ e. e ≡ Memory };
-
-    fn from(_error: AllocFailed<T>) -> LineRefusal {
-        LineRefusal::Memory
-    }
-}
-
-impl From<AllocError> for AsmRefusal {
-    ghost use Rattle.rv_asm.specs.declared.cause.AsmRefusal.TheVariants.{NoMemory};
-
-    ghost from_gives = { λ _ e. e ≡ NoMemory };
-
-    fn from(_error: AllocError) -> AsmRefusal {
-        AsmRefusal::NoMemory
-    }
-}
-
-impl<T: Drop> From<AllocFailed<T>> for AsmRefusal {
-    ghost use Rattle.rv_asm.specs.declared.cause.AsmRefusal.TheVariants.{NoMemory};
-
-    ghost from_gives = { λ _ e. e ≡ NoMemory };
-
-    fn from(_error: AllocFailed<T>) -> AsmRefusal {
-        AsmRefusal::NoMemory
+    fn from(cause: AsmCause) -> Refusal<AsmCause> {
+        Refusal::At(cause)
     }
 }

@@ -5,7 +5,7 @@ ghost use Rattle.rv_isa.specs.declared.instruction.Instr.{Instr};
 ghost use Rattle.rv_isa.specs.declared.instruction.Reg.{Reg};
 ghost use Rattle.rv_isa.specs.Fields.{unsigned, IsSigned};
 ghost use Rattle.rv_isa.specs.Ranges.{IsInstr};
-ghost use Rattle.rv_asm.specs.declared.cause.AsmError.{AsmError};
+ghost use Rattle.rv_asm.specs.Causes.{AsmError};
 ghost use Rattle.rv_asm.specs.Assembly.{assembled};
 ghost use Rattle.rv_asm.specs.Fields.{fits, with_value};
 ghost use Rattle.rv_asm.specs.Laws.{FirstFault, values_after};

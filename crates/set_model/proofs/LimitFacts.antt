@@ -23,3 +23,6 @@ few_objects set h = let l : length set.objects ≤ max_objects set.format = h.ob
 
 pub few_records : (set : TaskSet) → IsTaskSet set → set.records ≤ MAX_RECORDS
 few_records set h = let l : set.records ≤ max_records set.format = h.records.1 in omega (arith, l, most_records set.format)
+
+pub few_tasks : (set : TaskSet) → IsTaskSet set → length set.tasks ≤ MAX_RECORDS
+few_tasks set h = omega (arith, h.tasks, few_records set h)

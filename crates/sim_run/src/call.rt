@@ -11,10 +11,10 @@ ghost use Rattle.sim_run.specs.declared.command.Command.TheVariants as Command;
 ghost use Rattle.sim_run.specs.Promises.{IsPromised, KeepsHeadline};
 ghost use Rattle.sim_run.specs.Carried.{CarriedOut, Replied};
 
+use crate::answer_line::put_name;
 use crate::assembly::asm;
 use crate::command::{Command, words_of};
 use crate::input::read_input;
-use crate::answer_line::put_name;
 use crate::packing::{dis, pack};
 use crate::run::run;
 use nv_base::limits::MAX_INPUT;

@@ -1,11 +1,11 @@
 //! The simulator: from bytes in to bytes out.
 #![tactic(auto)]
 
+mod answer_line;
 mod assembly;
 mod call;
 mod command;
 mod input;
-mod answer_line;
 mod packing;
 mod read_back;
 mod refusals;

@@ -3,7 +3,7 @@ use Rattle.std.proofs.Common.{◌≡◌, ℕ, ◌*◌, ◌%◌, ◌==◌, Bool, 
 use Rattle.std.specs.Int.{is_in_range}
 use Rattle.std.specs.List.{AllByRecursion, list_all}
 use Rattle.std.specs.Cmp.Derive.{both_true}
-use Rattle.std.proofs.lemmas.Bool.{leb-true, le-leb, ltb-true, lt-ltb, eqb-true}
+use Rattle.std.proofs.lemmas.Bool.{leb-true, le-leb, ltb-true, lt-ltb, eqb-true, and_parts}
 use Rattle.std.proofs.Common.{eq-eqb}
 use Rattle.kernel_model.specs.Effects.{Spawn}
 use Rattle.nv_base.specs.declared.limits.TheConstants.{MAX_CODE, MAX_CORES, MAX_FORMAT, MAX_FUEL, MAX_MEMORY, MAX_PROGRAMS, MAX_SIZE, MAX_SLOTS, MIN_MEMORY, MIN_SLOTS}
@@ -69,12 +69,8 @@ none_if_all_hold : (set : TaskSet) → AllHold set → first_broken set ≡ None
 unfolding first_broken
 none_if_all_hold set h = rw (h.format, h.cores, h.memory, h.records, h.objects, h.sizes, h.slots, h.firsts, h.programs, h.fuels, h.codes, h.tasks, h.task_programs) refl
 
-both : (a b : Bool) → (a && b) ≡ true → (a ≡ true) × (b ≡ true)
-both true b e = (refl, e)
-both false b e = let f : false ≡ true = e in absurd (cc)
-
 within : (low high n : ℕ) → is_in_range low high n ≡ true → IsWithin low high n
-within low high n e = let h = both (nat_le low n) (nat_le n high) e in (leb-true low n h.0, leb-true n high h.1)
+within low high n e = let h = and_parts (nat_le low n) (nat_le n high) e in (leb-true low n h.0, leb-true n high h.1)
 
 in_range : (low high n : ℕ) → IsWithin low high n → is_in_range low high n ≡ true
 in_range low high n h = both_true (le-leb low n h.0) (le-leb n high h.1)
@@ -83,9 +79,9 @@ each_object : (objects : List ObjPart) → list_all (λ o. is_in_range 1 MAX_SIZ
     → AllByRecursion (λ o. AllByRecursion IsWord o.first) objects → AllByRecursion IsObject objects
 each_object [] e f g w = tt
 each_object (o ∷ objects) e f g w =
-    let h = both (is_in_range 1 MAX_SIZE o.size) (list_all (λ p. is_in_range 1 MAX_SIZE p.size) objects) e in
-    let i = both (is_in_range MIN_SLOTS MAX_SLOTS o.slots) (list_all (λ p. is_in_range MIN_SLOTS MAX_SLOTS p.slots) objects) f in
-    let j = both (length o.first == o.size) (list_all (λ p. length p.first == p.size) objects) g in
+    let h = and_parts (is_in_range 1 MAX_SIZE o.size) (list_all (λ p. is_in_range 1 MAX_SIZE p.size) objects) e in
+    let i = and_parts (is_in_range MIN_SLOTS MAX_SLOTS o.slots) (list_all (λ p. is_in_range MIN_SLOTS MAX_SLOTS p.slots) objects) f in
+    let j = and_parts (length o.first == o.size) (list_all (λ p. length p.first == p.size) objects) g in
     (record { size = within 1 MAX_SIZE o.size h.0; slots = within MIN_SLOTS MAX_SLOTS o.slots i.0; first = eqb-true (length o.first) o.size j.0; words = w.0 }, each_object objects h.1 i.1 j.1 w.1)
 
 each_program : (memory : ℕ) (programs : List ProgPart) → list_all (λ p. is_in_range 1 MAX_FUEL p.fuel) programs ≡ true
@@ -93,22 +89,22 @@ each_program : (memory : ℕ) (programs : List ProgPart) → list_all (λ p. is_
     → AllByRecursion (IsProgram memory) programs
 each_program memory [] e f w = tt
 each_program memory (p ∷ programs) e f w =
-    let h = both (is_in_range 1 MAX_FUEL p.fuel) (list_all (λ q. is_in_range 1 MAX_FUEL q.fuel) programs) e in
-    let i = both (nat_le (length p.code) MAX_CODE && nat_le (4 * length p.code) memory) (list_all (λ q. nat_le (length q.code) MAX_CODE && nat_le (4 * length q.code) memory) programs) f in
-    let j = both (nat_le (length p.code) MAX_CODE) (nat_le (4 * length p.code) memory) i.0 in
+    let h = and_parts (is_in_range 1 MAX_FUEL p.fuel) (list_all (λ q. is_in_range 1 MAX_FUEL q.fuel) programs) e in
+    let i = and_parts (nat_le (length p.code) MAX_CODE && nat_le (4 * length p.code) memory) (list_all (λ q. nat_le (length q.code) MAX_CODE && nat_le (4 * length q.code) memory) programs) f in
+    let j = and_parts (nat_le (length p.code) MAX_CODE) (nat_le (4 * length p.code) memory) i.0 in
     (record { fuel = within 1 MAX_FUEL p.fuel h.0; code = leb-true (length p.code) MAX_CODE j.0; fits = leb-true (4 * length p.code) memory j.1; words = w.0 }, each_program memory programs h.1 i.1 w.1)
 
 each_task : (n : ℕ) (tasks : List Spawn) → list_all (λ t. nat_lt t.program n) tasks ≡ true → AllByRecursion (λ t. IsWord t.arg) tasks → AllByRecursion (IsTask n) tasks
 each_task n [] e w = tt
 each_task n (t ∷ tasks) e w =
-    let h = both (nat_lt t.program n) (list_all (λ s. nat_lt s.program n) tasks) e in
+    let h = and_parts (nat_lt t.program n) (list_all (λ s. nat_lt s.program n) tasks) e in
     (record { program = ltb-true t.program n h.0; arg = w.0 }, each_task n tasks h.1 w.1)
 
 pub within_if_none : (set : TaskSet) → HasWords set → first_broken set ≡ None → IsTaskSet set
 unfolding format_holds cores_hold memory_holds records_hold objects_hold sizes_hold slots_hold firsts_hold programs_hold fuels_hold codes_hold tasks_hold task_programs_hold
 within_if_none set w e =
     let h = all_hold set e in
-    let m = both (is_in_range MIN_MEMORY MAX_MEMORY set.memory) (set.memory % 4 == 0) h.memory in
+    let m = and_parts (is_in_range MIN_MEMORY MAX_MEMORY set.memory) (set.memory % 4 == 0) h.memory in
     record {
       format = within 1 MAX_FORMAT set.format h.format;
       cores = within 1 MAX_CORES set.cores h.cores;

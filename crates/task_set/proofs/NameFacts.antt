@@ -3,15 +3,13 @@ use Rattle.std.proofs.Common.{◌≡◌, ◌≢◌, ℕ, zero, suc, ◌+◌, ◌
 use Rattle.std.specs.List.{AllByRecursion, list_all, list_any}
 use Rattle.std.specs.Bool.{Decides}
 use Rattle.std.specs.Char.{is_ascii_digit}
-use Rattle.std.proofs.lemmas.List.{take_more, take_all}
+use Rattle.std.proofs.lemmas.List.{map_push, take_more, take_all}
 use Rattle.std.proofs.lemmas.List.Sums.{AllPass-from_list_all, list_all-from_AllPass}
+use Rattle.nv_base.specs.declared.limits.TheConstants.{MAX_NAME}
 use Rattle.set_model.specs.Limits.{IsWithin}
 use Rattle.set_model.specs.Names.{AreDistinct, AreNames, IsName, is_name_byte}
-use Rattle.task_set.proofs.WordFacts.{all_with, all_last}
-
-distinct_with : (xs : List (List ℕ)) (y : List ℕ) → AreDistinct xs → AllByRecursion (λ x. x ≢ y) xs → AreDistinct (xs ++ y ∷ [])
-distinct_with [] y d h = (tt, tt)
-distinct_with (x ∷ xs) y d h = (all_with (λ later. x ≢ later) xs y d.0 h.0, distinct_with xs y d.1 h.1)
+use Rattle.set_model.proofs.ForCallers.{all_with, distinct_with}
+use Rattle.task_set.proofs.WordFacts.{all_last}
 
 others_than_last : (xs : List (List ℕ)) (y : List ℕ) → AreDistinct (xs ++ y ∷ []) → AllByRecursion (λ x. x ≢ y) xs
 others_than_last [] y d = tt
@@ -46,10 +44,6 @@ one_found same tells name [] e h = let i : false ≡ true = e in cc
 one_found same tells name (k ∷ keys) e h =
     one_found_more (same name k) (list_any (same name) keys) name.now k.now keys (tells name k) e (λ g. one_found same tells name keys g) h
 
-now_with : (keys : List (Bor (List ℕ))) (name : Bor (List ℕ)) → map (λ n. n.now) (keys ++ name ∷ []) ≡ map (λ n. n.now) keys ++ name.now ∷ []
-now_with [] name = refl
-now_with (k ∷ keys) name = ap (λ ns. k.now ∷ ns) (now_with keys name)
-
 abbrev Takes : List (Bor (List ℕ)) → List (Bor (List ℕ)) → Bor (List ℕ) → Bool → Type 0
 Takes old new name r =
     MatchBool r ((map (λ n. n.now) new ≡ map (λ n. n.now) old ++ name.now ∷ []) × AreNames (map (λ n. n.now) new)) (AreNames (map (λ n. n.now) old ++ name.now ∷ []) → ⊥)
@@ -65,7 +59,7 @@ name_is_taken same tells old new name r n h e f = by (list_any (same name) old) 
     by : (b : Bool) → list_any (same name) old ≡ b → r ≡ not b → new ≡ cond b old (old ++ name ∷ []) → Takes old new name r
     by true g i j = subst (Takes old new name) (sym i) (λ k. one_found same tells name old g (others_than_last (map (λ n. n.now) old) name.now k.once))
     by false g i j =
-        let all : map (λ n. n.now) new ≡ map (λ n. n.now) old ++ name.now ∷ [] = ap (map (λ n. n.now)) j ∙ now_with old name in
+        let all : map (λ n. n.now) new ≡ map (λ n. n.now) old ++ name.now ∷ [] = ap (map (λ n. n.now)) j ∙ map_push (λ n. n.now) old name in
         subst (Takes old new name) (sym i) (all, subst AreNames (sym all) (named_with (map (λ n. n.now) old) name.now h n (none_found same tells name old g)))
 
 all_first : {X : Type 0} (P : X → Type 0) (xs : List X) (n : ℕ) → AllByRecursion P xs → AllByRecursion P (take n xs)
@@ -83,12 +77,8 @@ map_first f xs zero = refl
 map_first f [] (suc n) = refl
 map_first f (x ∷ xs) (suc n) = ap (λ ys. f x ∷ ys) (map_first f xs n)
 
-map_with : {X : Type 0} (f : X → List ℕ) (xs : List X) (x : X) → map f (xs ++ x ∷ []) ≡ map f xs ++ f x ∷ []
-map_with f [] x = refl
-map_with f (y ∷ xs) x = ap (λ ys. f y ∷ ys) (map_with f xs x)
-
 pub map_more : {X : Type 0} (f : X → List ℕ) (xs : List X) (i : ℕ) (d : X) → i < length xs → map f (take (i + 1) xs) ≡ map f (take i xs) ++ f (get_or xs i d) ∷ []
-map_more f xs i d l = ap (map f) (take_more xs i d l) ∙ map_with f (take i xs) (get_or xs i d)
+map_more f xs i d l = ap (map f) (take_more xs i d l) ∙ map_push f (take i xs) (get_or xs i d)
 
 -- names that stand first are names
 pub names_first : {X : Type 0} (f : X → List ℕ) (xs : List X) (i : ℕ) (d : X) → i < length xs → AreNames (map f xs) → AreNames (map f (take i xs) ++ f (get_or xs i d) ∷ [])
@@ -103,3 +93,6 @@ pub not_named : {X : Type 0} (f : X → List ℕ) (xs : List X) (i : ℕ) (d : X
     → i < length xs → first ≡ map f (take i xs) → name ≡ f (get_or xs i d) → b ≡ false → MatchBool b P (AreNames (first ++ name ∷ []) → ⊥) → AreNames (map f xs) → ⊥
 not_named f xs i d first name true P l e g h m = λ _. let k : true ≡ false = h in cc
 not_named f xs i d first name false P l e g h m = λ k. m (rw (e, g) (names_first f xs i d l k))
+
+pub name_is_short : (name : List ℕ) → IsName name → length name ≤ MAX_NAME
+name_is_short name h = h.size.1

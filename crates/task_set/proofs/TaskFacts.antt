@@ -1,6 +1,7 @@
 -- Tasks, as the program has them and as the model does.
-use Rattle.std.proofs.Common.{◌≡◌, ℕ, nat_lt, Bool, List, map, length, sym, ◌∙◌}
+use Rattle.std.proofs.Common.{◌≡◌, ℕ, nat_lt, Bool, List, map, length, sym, ap, ◌∙◌}
 use Rattle.std.specs.List.{list_all}
+use Rattle.std.proofs.lemmas.List.{length-map}
 use Rattle.std.proofs.lemmas.List.Folds.{list_all-map}
 use Rattle.nv_base.specs.declared.lines.Spawn as base_spawn
 use Rattle.kernel_model.specs.Effects.{Spawn}
@@ -15,3 +16,6 @@ pub tasks_name_programs : (b : Bool) (set : TaskSet) (tasks : List base_spawn.Sp
     → b ≡ task_programs_hold set
 unfolding task_programs_hold
 tasks_name_programs b set tasks n e f g = rw (← f, ← g) (e ∙ sym (programs_alike n tasks))
+
+pub same_number : (set : TaskSet) (tasks : List base_spawn.Spawn) → map spawn_of tasks ≡ set.tasks → length tasks ≡ length set.tasks
+same_number set tasks e = sym (length-map tasks spawn_of) ∙ ap (λ (ts : List Spawn). length ts) e

@@ -5,16 +5,13 @@ use Rattle.std.proofs.lemmas.List.{take_more, take_all}
 use Rattle.nv_base.specs.declared.lines.Spawn as base_spawn
 use Rattle.set_model.specs.Sets.{ObjPart, ProgPart, TaskSet}
 use Rattle.set_model.specs.Limits.{IsWord}
+use Rattle.set_model.proofs.ForCallers.{all_with}
 use Rattle.set_model.specs.Views.{spawn_of}
 use Rattle.task_set.specs.Ranges.{HasWords}
 
 pub all_words : (xs : List ℕ) → ((i : ℕ) → get_or xs i 0 < 2 ^ 32) → AllByRecursion IsWord xs
 all_words [] h = tt
 all_words (x ∷ xs) h = (h 0, all_words xs (λ i. h (suc i)))
-
-pub all_with : {X : Type 0} (P : X → Type 0) (xs : List X) (x : X) → AllByRecursion P xs → P x → AllByRecursion P (xs ++ x ∷ [])
-all_with P [] x h p = (p, tt)
-all_with P (y ∷ xs) x h p = (h.0, all_with P xs x h.1 p)
 
 pub all_last : {X : Type 0} (P : X → Type 0) (xs : List X) (x : X) → AllByRecursion P (xs ++ x ∷ []) → P x
 all_last P [] x h = h.0

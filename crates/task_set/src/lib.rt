@@ -1,11 +1,11 @@
 //! Task sets that keep all limits.
 #![tactic(auto)]
 
+mod distinct_names;
 mod formats;
 pub mod laws;
 mod limits;
 mod lists;
-mod distinct_names;
 mod parts;
 mod ranges;
 mod refusals;

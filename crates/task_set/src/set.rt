@@ -1,20 +1,24 @@
-//! Checked task sets: `build`, `copy` and the readers.
+//! Checked task sets: two constructors, `copy` and the readers.
 
-ghost use Rattle.std.specs.Prelude.{◌≡◌, ◌<◌, ◌≤◌, map, length, IfOk, MatchResult};
+ghost use Rattle.std.specs.Prelude.{◌≡◌, ◌<◌, ◌≤◌, None, map, length, IfOk, MatchResult};
+ghost use Rattle.task_set.specs.FirstBroken.{first_broken};
 ghost use Rattle.task_set.specs.Refusals.{IsRefused};
 ghost use Rattle.set_model.specs.Limits.{IsObject, IsProgram, IsTaskSet};
-ghost use Rattle.set_model.specs.Names.{IsNamed};
+ghost use Rattle.set_model.specs.Names.{IsName, IsNamed};
 ghost use Rattle.set_model.specs.Sets.{object_at, program_at};
 ghost use Rattle.set_model.specs.Views.{spawn_of};
 
-use crate::limits::first_broken;
 use crate::distinct_names::are_named;
+use crate::laws::none_broken_is_within;
+use crate::limits::first_broken;
 use crate::parts::{ObjPart, ProgPart, SetParts};
 use crate::ranges::has_words;
 use crate::refusals::SetRefusal;
-use nv_base::limits::{MAX_OBJECTS, MAX_RECORDS};
+use nv_base::limits::{MAX_NAME, MAX_OBJECTS, MAX_RECORDS};
 use nv_base::{NoMemory, ObjId, ProgId, Spawn};
-use set_model::laws::{any_format_is_below, object_is_within, program_is_within};
+use set_model::laws::{
+    any_format_is_below, object_is_named, object_is_within, program_is_named, program_is_within,
+};
 use std::alloc::Global;
 use std::marker::Model;
 
@@ -37,6 +41,19 @@ impl Model for TaskSet {
 }
 
 impl TaskSet {
+    /// The set of parts that are known to break no limit, with names that are names. Nothing is tested, and no memory
+    /// is taken.
+    pub fn of(parts: SetParts) -> TaskSet
+        requires limits { first_broken parts ≡ None }
+        requires names { IsNamed parts }
+        ensures exact { result ≡ parts }
+        ensures limits { IsTaskSet parts }
+    {
+        has_words(&parts);
+        none_broken_is_within();
+        TaskSet { parts }
+    }
+
     /// The set of the parts, which are consumed. `Limit` with the first limit that is broken; where none is, `Name`
     /// where a name is malformed, or given twice among the objects or among the programs; `NoMemory` where the names
     /// found none to be compared in.
@@ -49,10 +66,7 @@ impl TaskSet {
         match are_named(alloc, &parts) {
             Err(NoMemory) => Err(SetRefusal::NoMemory),
             Ok(false) => Err(SetRefusal::Name),
-            Ok(true) => {
-                has_words(&parts);
-                Ok(TaskSet { parts })
-            }
+            Ok(true) => Ok(TaskSet::of(parts)),
         }
     }
 
@@ -122,8 +136,10 @@ impl TaskSet {
         requires { o.0 < length self.now.objects }
         ensures exact { result.now ≡ object_at self.now o.0 }
         ensures limits { IsObject (object_at self.now o.0) }
+        ensures name { IsName (object_at self.now o.0).name }
     {
         object_is_within();
+        object_is_named();
         &self.parts.objects.as_slice()[usize::from(o.0)]
     }
 
@@ -131,8 +147,10 @@ impl TaskSet {
         requires { p.0 < length self.now.programs }
         ensures exact { result.now ≡ program_at self.now p.0 }
         ensures limits { IsProgram self.now.memory (program_at self.now p.0) }
+        ensures name { IsName (program_at self.now p.0).name }
     {
         program_is_within();
+        program_is_named();
         &self.parts.programs.as_slice()[usize::from(p.0)]
     }
 
@@ -166,19 +184,27 @@ impl TaskSet {
         object.first.as_slice()
     }
 
-    /// The name of an object.
+    /// The name of an object: at most 16 bytes.
+    #[tactic(auto, using(crate::proofs::NameFacts::name_is_short))]
     pub fn object_name(&self, o: ObjId) -> &[u8]
         requires { o.0 < length self.now.objects }
-        ensures { result.now ≡ (object_at self.now o.0).name }
+        ensures exact { result.now ≡ (object_at self.now o.0).name }
+        ensures name { IsName result.now }
+        ensures short { length result.now ≤ MAX_NAME }
+        ensures limits { IsObject (object_at self.now o.0) }
     {
         let object = self.object(o);
         object.name.as_slice()
     }
 
-    /// The name of a program.
+    /// The name of a program: at most 16 bytes.
+    #[tactic(auto, using(crate::proofs::NameFacts::name_is_short))]
     pub fn program_name(&self, p: ProgId) -> &[u8]
         requires { p.0 < length self.now.programs }
-        ensures { result.now ≡ (program_at self.now p.0).name }
+        ensures exact { result.now ≡ (program_at self.now p.0).name }
+        ensures name { IsName result.now }
+        ensures short { length result.now ≤ MAX_NAME }
+        ensures limits { IsProgram self.now.memory (program_at self.now p.0) }
     {
         let program = self.program(p);
         program.name.as_slice()
@@ -205,9 +231,14 @@ impl TaskSet {
     }
 
     /// The tasks that are open at first, under the ids 1, 2, ..
+    #[tactic(auto, using(crate::proofs::TaskFacts::same_number))]
     pub fn tasks(&self) -> &[Spawn]
-        ensures { map spawn_of result.now ≡ self.now.tasks }
+        ensures exact { map spawn_of result.now ≡ self.now.tasks }
+        ensures number { length result.now ≡ length self.now.tasks }
+        ensures few { length result.now ≤ MAX_RECORDS }
+        ensures limits { IsTaskSet self.now }
     {
+        any_format_is_below();
         self.parts.tasks.as_slice()
     }
 }

@@ -52,91 +52,108 @@ fn refusal(rt: &HostRuntime, parts: SetParts) -> Option<SetRefusal> {
     }
 }
 
+// whether the numbers are those of the parts
+fn has_numbers(set: &TaskSet) -> bool {
+    let numbers = set.format() == 1 && set.cores() == 1 && set.memory() == 1024;
+    numbers && set.records() == 3 && set.objects() == 2 && set.programs() == 1
+}
+
+// whether the second object and the program are those of the parts
+fn has_things(set: &TaskSet) -> bool {
+    if set.objects() < 2 || set.programs() < 1 {
+        return false;
+    }
+    let (y, add) = (ObjId(1), ProgId(0));
+    let object = set.size(y) == 2 && set.slots(y) == 2 && set.first(y) == [6, 7].as_slice();
+    let program = set.fuel(add) == 100 && set.code(add) == [0x0000_006f].as_slice();
+    let names = set.object_name(y) == b"y_2".as_slice()
+        && set.program_name(add) == b"add".as_slice();
+    object && program && names
+}
+
+// the set of these parts, and a copy of it
+fn copied(rt: &HostRuntime, parts: SetParts) -> Result<Option<TaskSet>, NoMemory> {
+    match TaskSet::build(rt.alloc(), parts) {
+        Ok(set) => Ok(Some(set.copy(rt.alloc())?)),
+        Err(_) => Ok(None),
+    }
+}
+
 #[test]
 fn a_set_and_its_copy_tell_the_parts(rt: HostRuntime) -> Result<(), Fail> {
-    let Ok(set) = TaskSet::build(rt.alloc(), parts(&rt, b"add", 100, 0)?) else {
-        assert!(rt; false);
-        return Ok(());
+    let copied = copied(&rt, parts(&rt, b"add", 100, 0)?)?;
+    let Some(set) = &copied else {
+        return Err("no set")?;
     };
-    let set = set.copy(rt.alloc())?;
-    assert_eq!(rt; set.format(), 1);
-    assert_eq!(rt; set.cores(), 1);
-    assert_eq!(rt; set.memory(), 1024);
-    assert_eq!(rt; set.records(), 3);
-    assert_eq!(rt; set.objects(), 2);
-    assert_eq!(rt; set.programs(), 1);
-    assert!(rt; set.tasks().len() == 1 && set.tasks()[0].arg == 9);
-    if 1 < set.objects() {
-        assert_eq!(rt; set.size(ObjId(1)), 2);
-        assert_eq!(rt; set.slots(ObjId(1)), 2);
-        assert!(rt; set.first(ObjId(1)) == [6, 7].as_slice());
-        assert!(rt; set.object_name(ObjId(1)) == b"y_2".as_slice());
-    }
-    if 0 < set.programs() {
-        assert!(rt; set.program_name(ProgId(0)) == b"add".as_slice());
-        assert!(rt; set.code(ProgId(0)) == [0x0000_006f].as_slice());
-        assert_eq!(rt; set.fuel(ProgId(0)), 100);
-    }
+    let tasks = set.tasks();
+    assert!(rt; has_numbers(set) && has_things(set) && tasks.len() == 1 && tasks[0].arg == 9);
     Ok(())
 }
 
 #[test]
 fn the_first_broken_limit_is_told(rt: HostRuntime) -> Result<(), Fail> {
-    let mut wrong = parts(&rt, b"add", 0, 1)?;
-    assert!(rt; refusal(&rt, wrong) == Some(SetRefusal::Limit(LimitKind::Fuel)));
-    wrong = parts(&rt, b"add", 100, 1)?;
-    assert!(rt; refusal(&rt, wrong) == Some(SetRefusal::Limit(LimitKind::TaskProgram)));
-    wrong = parts(&rt, b"1", 100, 1)?;
-    wrong.memory = 1026;
-    assert!(rt; refusal(&rt, wrong) == Some(SetRefusal::Limit(LimitKind::Memory)));
-    wrong = parts(&rt, b"add", 100, 0)?;
-    wrong.objects.push(object(&rt, b"x", 2, &[1])?)?;
-    assert!(rt; refusal(&rt, wrong) == Some(SetRefusal::Limit(LimitKind::First)));
+    for (name, fuel, task, memory, kind) in [
+        (b"add".as_slice(), 0, 1, 1024, LimitKind::Fuel),
+        (b"add".as_slice(), 100, 1, 1024, LimitKind::TaskProgram),
+        (b"1".as_slice(), 100, 1, 1026, LimitKind::Memory),
+    ] {
+        let mut wrong = parts(&rt, name, fuel, task)?;
+        wrong.memory = memory;
+        assert!(rt; refusal(&rt, wrong) == Some(SetRefusal::Limit(kind)));
+    }
     Ok(())
 }
 
 #[test]
 fn limits_go_by_the_format(rt: HostRuntime) -> Result<(), Fail> {
-    for (format, records, told) in [
-        (1, 256, None),
-        (1, 257, Some(SetRefusal::Limit(LimitKind::Records))),
-        (2, 1024, None),
-        (2, 1025, Some(SetRefusal::Limit(LimitKind::Records))),
-        (0, 256, Some(SetRefusal::Limit(LimitKind::Format))),
-        (3, 256, Some(SetRefusal::Limit(LimitKind::Format))),
+    for (format, cores, records, told) in [
+        (1, 1, 256, None),
+        (1, 1, 257, Some(SetRefusal::Limit(LimitKind::Records))),
+        (2, 1, 1024, None),
+        (2, 1, 1025, Some(SetRefusal::Limit(LimitKind::Records))),
+        (0, 1, 256, Some(SetRefusal::Limit(LimitKind::Format))),
+        (3, 0, 256, Some(SetRefusal::Limit(LimitKind::Format))),
     ] {
         let mut tried = parts(&rt, b"add", 100, 0)?;
         tried.format = format;
+        tried.cores = cores;
         tried.records = records;
         assert!(rt; refusal(&rt, tried) == told);
     }
-    let mut no_core = parts(&rt, b"add", 100, 0)?;
-    no_core.format = 3;
-    no_core.cores = 0;
-    assert!(rt; refusal(&rt, no_core) == Some(SetRefusal::Limit(LimitKind::Format)));
-    assert!(rt; max_objects(1) == 64 && max_objects(2) == 128);
-    assert!(rt; max_records(1) == 256 && max_records(2) == 1024);
     Ok(())
 }
 
 #[test]
-fn names_are_names_and_given_once(rt: HostRuntime) -> Result<(), Fail> {
-    for name in [
-        b"".as_slice(),
-        b"7a".as_slice(),
-        b"a-b".as_slice(),
-        b"seventeen_letters".as_slice(),
+fn the_most_go_by_the_format(rt: HostRuntime) {
+    let objects = max_objects(1) == 64 && max_objects(2) == 128;
+    assert!(rt; objects && max_records(1) == 256 && max_records(2) == 1024);
+}
+
+#[test]
+fn names_are_names(rt: HostRuntime) -> Result<(), Fail> {
+    for (name, told) in [
+        (b"".as_slice(), Some(SetRefusal::Name)),
+        (b"7a".as_slice(), Some(SetRefusal::Name)),
+        (b"a-b".as_slice(), Some(SetRefusal::Name)),
+        (b"seventeen_letters".as_slice(), Some(SetRefusal::Name)),
+        // an object and a program may share a name
+        (b"x".as_slice(), None),
+        (b"sixteen_letters_".as_slice(), None),
     ] {
-        let wrong = parts(&rt, name, 100, 0)?;
-        assert!(rt; refusal(&rt, wrong) == Some(SetRefusal::Name));
+        assert!(rt; refusal(&rt, parts(&rt, name, 100, 0)?) == told);
     }
-    let mut twice = parts(&rt, b"add", 100, 0)?;
-    twice.objects.push(object(&rt, b"x", 1, &[1])?)?;
-    assert!(rt; refusal(&rt, twice) == Some(SetRefusal::Name));
-    // an object and a program may share a name
-    let shared = parts(&rt, b"x", 100, 0)?;
-    assert!(rt; refusal(&rt, shared) == None);
-    let longest = parts(&rt, b"sixteen_letters_", 100, 0)?;
-    assert!(rt; refusal(&rt, longest) == None);
+    Ok(())
+}
+
+#[test]
+fn a_third_object_is_looked_at(rt: HostRuntime) -> Result<(), Fail> {
+    for (name, size, told) in [
+        (b"x".as_slice(), 2, SetRefusal::Limit(LimitKind::First)),
+        (b"x".as_slice(), 1, SetRefusal::Name),
+    ] {
+        let mut wrong = parts(&rt, b"add", 100, 0)?;
+        wrong.objects.push(object(&rt, name, size, &[1])?)?;
+        assert!(rt; refusal(&rt, wrong) == Some(told));
+    }
     Ok(())
 }

@@ -1,6 +1,6 @@
 use Rattle.std.proofs.Common.{◌≡◌, ℕ, ◌+◌, List, [], ◌∷◌, get_or, map, drop, Bor, Result, subst}
-use Rattle.rv_asm.specs.declared.cause.AsmError.{AsmError}
-use Rattle.rv_asm.specs.Answers.{Fails, refusal_at}
+use Rattle.rv_asm.specs.Causes.{AsmError}
+use Rattle.nv_base.specs.Refusals.{Refuses, refusal_at}
 use Rattle.rv_asm.specs.Assembly.{lines_after}
 use Rattle.rv_asm.specs.Found.{find_in}
 use Rattle.rv_asm.specs.Lines.{Line, parsed}
@@ -16,4 +16,4 @@ returns-in-Err c =
     let so_far : lines_after (find_in c.args.labels.now) c.loop-line.number c.loop-line.words.items (line ∷ rest) ≡ all =
     rw (next_line c.args.lines.now c.loop-line.line-index d c.loop-line-test.true) at c.loop-line.invariant.words in
     let fails = lines_fail (find_in c.args.labels.now) c.loop-line.number c.loop-line.words.items line rest c.in-Err.refusal c.in-Err.ensures.line in
-    rw c.at.ensures (subst (λ (r : Result (List ℕ) AsmError). Fails (refusal_at c.loop-line.number c.in-Err.refusal) r) so_far fails)
+    rw c.at.ensures (subst (λ (r : Result (List ℕ) AsmError). Refuses (refusal_at c.loop-line.number c.in-Err.refusal) r) so_far fails)
