@@ -26,7 +26,7 @@ use Rattle.kernel_model.proofs.OpenLaws.{length-open_tasks, open_order}
 use Rattle.kernel_model.proofs.Points.{raised_for-hi}
 use Rattle.kernel_model.proofs.Soundness.{still_open}
 
-no_marks : (n k : ℕ) → (let none : Option Mark = None in get_or (replicate n none) k none ≡ none)
+pub no_marks : (n k : ℕ) → (let none : Option Mark = None in get_or (replicate n none) k none ≡ none)
 no_marks zero k = refl
 no_marks (suc n) zero = refl
 no_marks (suc n) (suc k) = no_marks n k

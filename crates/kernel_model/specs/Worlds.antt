@@ -1,4 +1,4 @@
--- What stays while cores step, power fails and callers call: this project's own.
+-- What stays while cores step and power fails: this project's own.
 use Rattle.kernel_model.specs.Runs.{TaskMachine}
 use Rattle.kernel_model.specs.Replay.{DeviceState}
 use Rattle.kernel_model.specs.Sizes.{Sizes}

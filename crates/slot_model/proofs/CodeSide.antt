@@ -26,6 +26,7 @@ use Rattle.slot_model.proofs.LiveCalls.{Caller}
 use Rattle.slot_model.proofs.LiveCores.{cores_length, cores_set}
 use Rattle.slot_model.proofs.Tables.{choose_places}
 use Rattle.slot_model.proofs.Views.{free_at}
+use Rattle.slot_model.proofs.Named.{alone_slot}
 
 -- the place that is chosen is that of the version that is
 pub place_held : (hi : Option ℕ) (chain : List Held) (p : Place) → chosen_place hi (places_of chain) ≡ Some p → slot_in (chosen_held hi chain) ≡ p.slot
@@ -39,11 +40,7 @@ place_held hi chain p e = go (chosen_held hi chain) (sym (choose_places hi chain
 pub afresh_named : {M : Type 0} → (s : State M) (kept : Kept) (clock o : ℕ) → ((k : ℕ) → get_or s.cores k Idle ≡ Idle) → named_slot s (afresh clock kept) o ≡ named_slot s kept o
 afresh_named s kept clock o idle =
     let none : durable_commit s.cores ≡ None = durable_commit-idle s.cores idle in
-    ap (λ j. newest_slot ((with_finished j (afresh clock kept)).chains o)) none ∙ alone (kept.chains o) ∙ ap (λ j. newest_slot ((with_finished j kept).chains o)) (sym none)
-  where
-    alone : (chain : List Held) → newest_slot (newest_alone clock chain) ≡ newest_slot chain
-    alone [] = refl
-    alone (h ∷ hs) = refl
+    ap (λ j. newest_slot ((with_finished j (afresh clock kept)).chains o)) none ∙ alone_slot clock (kept.chains o) ∙ ap (λ j. newest_slot ((with_finished j kept).chains o)) (sym none)
 
 get_front : {A : Type 0} → (xs ys : List A) (n : ℕ) → n < length xs → slice_get (xs ++ ys) n ≡ slice_get xs n
 get_front [] ys n l = absurd (omega (arith, l))

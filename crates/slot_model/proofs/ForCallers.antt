@@ -4,7 +4,7 @@ pub use Rattle.slot_model.proofs.Nexts.{newest_of}
 pub use Rattle.slot_model.proofs.Steps.{granted, present}
 pub use Rattle.slot_model.proofs.EventLaws.{ended_of, event_stands, runs_of}
 pub use Rattle.slot_model.proofs.RunStands.{first_stands}
-pub use Rattle.slot_model.proofs.Named.{newest_stands, run_chains}
+pub use Rattle.slot_model.proofs.Named.{alone_slot, newest_stands, run_chains}
 pub use Rattle.slot_model.proofs.SlotLaws.{copied_stands}
 pub use Rattle.slot_model.proofs.Tables.{choose_places, install_places}
 pub use Rattle.slot_model.proofs.Views.{free_at}

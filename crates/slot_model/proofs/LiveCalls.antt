@@ -19,7 +19,7 @@ use Rattle.kernel_model.specs.History.{AreFound, IsAttempt, IsHistory}
 use Rattle.kernel_model.specs.Chain.{cut}
 use Rattle.kernel_model.specs.Live.{Answer, IsStale, Limit, CallState, Mark, Receipt, added_by, attempt_of, begin_answer, begin_call, core_of, cores_of, fetch_answer, fetch_call, finish_answer, finish_call, lost, marked}
 use Rattle.kernel_model.specs.LiveSound.{IsLiveState, IsMarkedIf}
-use Rattle.kernel_model.proofs.ForCallers.{AreFrom, IsAfter, IsOld, as_before, at_needed, base_chain, chosen_exists, clock_base, core_at, core_at_marks, history_added, interval-shrinks, lawful_of, length-after_history, length-open_tasks, meet-wider, newest_words, no_core, open_order, starts_after, still_open, task_under-open, turned_now, within-shrinks, object_words-put, object_words-put_written}
+use Rattle.kernel_model.proofs.ForCallers.{AreFrom, IsAfter, IsOld, as_before, at_needed, base_chain, chosen_exists, clock_base, core_at, core_at_marks, history_added, interval-shrinks, lawful_of, length-after_history, length-open_tasks, meet-wider, newest_words, no_core, no_marks, open_order, starts_after, still_open, task_under-open, turned_now, within-shrinks, object_words-put, object_words-put_written}
 use Rattle.slot_model.specs.Slots.{Image, IsSized}
 use Rattle.slot_model.specs.Kept.{Kept, newest_slot, with_held}
 use Rattle.slot_model.specs.Places.{planned}
@@ -323,13 +323,8 @@ live_first sizes base callers limit named image sized h = record {
   served = λ k. subst (IsServed sizes base [] (cores_of (replicate callers None)) (first_kept base named) image k) (sym (idle k)) tt;
 }
   where
-    none : (n k : ℕ) → (let x : Option Mark = None in get_or (replicate n x) k x ≡ x)
-    none zero k = refl
-    none (suc n) zero = refl
-    none (suc n) (suc k) = none n k
-
     idle : (k : ℕ) → get_or (cores_of (replicate callers None)) k Idle ≡ Idle
-    idle k = core_at_marks (replicate callers None) k ∙ ap core_of (none callers k)
+    idle k = core_at_marks (replicate callers None) k ∙ ap core_of (no_marks callers k)
 
 -- where a commit may write
 pub live_free : (whole : Programs) (sizes : Sizes) (base : DeviceState) (s : CallState) (kept : Kept) (image : Image) (n : ℕ) (i : FinishRecord) (left : ℕ) → IsLiveLawful whole sizes base s → LiveCommits whole sizes base s n i left kept image →

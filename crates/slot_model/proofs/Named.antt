@@ -15,7 +15,7 @@ use Rattle.kernel_model.specs.Turns.{Nothing, commit_writes, core_turn, quiet, v
 use Rattle.kernel_model.specs.Events.{Boot, CoreStep, Event, Fail, On, Power, State, acting_on, boot_turn, core_event, durable_commit, event_step, with_finish}
 use Rattle.kernel_model.specs.Durable.{flipped_by, flipped_core}
 use Rattle.kernel_model.specs.Chain.{floored}
-use Rattle.kernel_model.proofs.ForCallers.{chosen_exists, durable_commit-found, durable_commit-idle, durable_commit-none, durable_commit-one, durable_commit-put, durable_commit-set, finishes, get_or-idle, length-after_history, newest_words, no_commit, no_finish, others_commit, tops, turn_gives, object_words-put, object_words-put_written}
+use Rattle.kernel_model.proofs.ForCallers.{chosen_exists, durable_commit-found, durable_commit-idle, durable_commit-none, durable_commit-one, durable_commit-put, durable_commit-set, finishes, get_or-idle, length-after_history, newest_words, no_commit, no_finish, none_beside, none_made, others_commit, tops, turn_gives, object_words-put, object_words-put_written}
 use Rattle.slot_model.specs.Slots.{Image}
 use Rattle.slot_model.specs.Kept.{Held, Kept, newest_alone, newest_slot, with_held}
 use Rattle.slot_model.specs.Changes.{kept_after, kept_run, kept_step, kept_turn, kept_verdict, named_slot, pinned, with_finished}
@@ -67,7 +67,7 @@ named_holds {M} world floor s kept image h f o l = go (durable_commit s.cores) r
     go : (j : Option FinishRecord) → durable_commit s.cores ≡ j → IsNamed world.sizes world.base s kept image o
     go j e = let k = at (durable_commit s.cores) refl in record { slot = k.0; words = k.1 }
 
-alone_slot : (clock : ℕ) (chain : List Held) → newest_slot (newest_alone clock chain) ≡ newest_slot chain
+pub alone_slot : (clock : ℕ) (chain : List Held) → newest_slot (newest_alone clock chain) ≡ newest_slot chain
 alone_slot clock [] = refl
 alone_slot clock (h ∷ hs) = refl
 
@@ -131,12 +131,6 @@ named_turn {M} world l s one kept n c e = by c e
     Goal : Core M → Type 0
     Goal c = (with_finished (durable_commit (set s.cores n (now c))) (kept_turn world.sizes world.base s.history (all_but n s.cores) n c (now c) kept)).chains ≡ (with_finished (flipped_core c) (with_finished (durable_commit s.cores) kept)).chains
 
-    no_other : (c : Core M) → get_or s.cores n Idle ≡ c → commits c ≡ true → (k : ℕ) → (k ≡ n → ⊥) → finished_by (get_or s.cores k Idle) ≡ None
-    no_other c e f k ne = no_commit (get_or s.cores k Idle) (λ g. ne (one k n g (rw e f)))
-
-    none_at : (k : ℕ) → (i : FinishRecord) (left : ℕ) → get_or s.cores n Idle ≡ Committing i (suc left) → finished_by (get_or s.cores k Idle) ≡ None
-    none_at k i left e = ⊎_elim (λ f. ap (λ j. finished_by (get_or s.cores j Idle)) f ∙ rw e refl) (λ ne. no_other (Committing i (suc left)) e refl k ne) (cases_eq k n)
-
     same : (c : Core M) → get_or s.cores n Idle ≡ c → (commits c ≡ true → ⊥) → finished_by c ≡ None → durable_commit (set s.cores n (now c)) ≡ durable_commit s.cores
     same c e f g = durable_commit-set s.cores n (now c) (no_finish world l s.history (all_but n s.cores) n c f ∙ sym (rw e g))
 
@@ -154,8 +148,8 @@ named_turn {M} world l s one kept n c e = by c e
     by (Running a) e = ap (λ j. (with_finished j (kept_run world.base s.history n a (now (Running a)) kept)).chains) (same (Running a) e (λ f. cc f) refl) ∙ run_chains world.base s.history n a kept (durable_commit s.cores) (now (Running a))
     by (Copying a k) e = ap (λ j. (with_finished j kept).chains) (same (Copying a k) e (λ f. cc f) refl)
     by (Ready a outcome) e = ap (λ j. (with_finished j (kept_verdict world.sizes world.base s.history (all_but n s.cores) (now (Ready a outcome)) kept)).chains) (same (Ready a outcome) e (λ f. cc f) refl) ∙ ready a outcome e (durable_commit s.cores) refl
-    by (Committing i zero) e = let both = durable_commit-one s.cores n i (rw e refl) (no_other (Committing i zero) e refl) in rw (both.1, both.0) refl
-    by (Committing i (suc zero)) e = rw (durable_commit-put s.cores n i (rw e refl) (no_other (Committing i (suc zero)) e refl), durable_commit-none s.cores (λ k. none_at k i zero e)) refl
+    by (Committing i zero) e = let both = durable_commit-one s.cores n i (rw e refl) (none_beside s.cores one n (rw e refl)) in rw (both.1, both.0) refl
+    by (Committing i (suc zero)) e = rw (durable_commit-put s.cores n i (rw e refl) (none_beside s.cores one n (rw e refl)), durable_commit-none s.cores (none_made s.cores one n i zero e)) refl
     by (Committing i (suc (suc left))) e = rw (durable_commit-set s.cores n (Committing i (suc left)) (rw e refl)) refl
 
 -- the named slots after an event: those of a finish whose last write it makes, and else the same

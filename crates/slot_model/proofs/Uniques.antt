@@ -9,7 +9,7 @@ use Rattle.kernel_model.specs.Replay.{DeviceState}
 use Rattle.kernel_model.specs.Versions.{Version, find_version, versions_to}
 use Rattle.kernel_model.specs.History.{IsNumbered}
 use Rattle.kernel_model.specs.Chain.{IsChain, IsPart, floored}
-use Rattle.kernel_model.proofs.ForCallers.{found, tops, writer_found, writers_below}
+use Rattle.kernel_model.proofs.ForCallers.{found, tops, writer_found, writers-older, writers_below}
 use Rattle.slot_model.specs.Kept.{Held, AreApart, is_there, versions_in}
 use Rattle.slot_model.proofs.Chains.{each_held}
 
@@ -22,13 +22,9 @@ pub versions_fall : (end : Option ℕ) (base : DeviceState) (o : ℕ) (history :
 versions_fall end base o [] h = (tt, tt)
 versions_fall end base o (i ∷ history) h = go (λ e. versions_fall e base o history (h.0.2, h.1.1)) (written i.run.writes o)
   where
-    below : (vs : List Version) → AllByRecursion (λ v. v.writer ≤ base.number + length history) vs → AllByRecursion (λ v. v.writer < i.number) vs
-    below [] k = tt
-    below (v ∷ vs) k = (let l : v.writer ≤ base.number + length history = k.0 in let e : i.number ≡ base.number + length history + 1 = h.0.0 in omega (arith, l, e), below vs k.1)
-
     go : ((e : Option ℕ) → Fall (versions_to e base o history)) → (w : Option (List ℕ)) → Fall (tops end base o i history w)
     go rest None = rest end
-    go rest (Some words) = (below (versions_to (Some i.point) base o history) (writers_below (Some i.point) base o history (h.0.2, h.1.1)), rest (Some i.point))
+    go rest (Some words) = (writers-older (Some i.point) base o i history h, rest (Some i.point))
 
 -- no two that are held have the same writer
 abbrev pub AreUnique : List Held → Type 0

@@ -12,7 +12,7 @@ use Rattle.slot_model.specs.Kept.{Held, Kept, newest_alone, newest_slot}
 use Rattle.slot_model.specs.Changes.{afresh, named_slot, with_finished}
 use Rattle.slot_model.specs.Standing.{IsLawful, StandsFor}
 use Rattle.slot_model.specs.Tabled.{AreTables, Place, fresh_tables, places_of}
-use Rattle.slot_model.proofs.ForCallers.{boot_idle, tables_begin}
+use Rattle.slot_model.proofs.ForCallers.{alone_slot, boot_idle, tables_begin}
 use Rattle.device_model.specs.Words.{Words}
 use Rattle.device_model.specs.IndexWords.{Index, read_index}
 use Rattle.device_model.specs.Decoding.{index_in}
@@ -50,11 +50,7 @@ fail_follows {M} x base last g words s after = record { line = refl; writes = re
 pub fresh-index : {M : Type 0} → (x : Setting M) (base : DeviceState) (last : Option Entry) (clock : ℕ) (kept : Kept) (history : List FinishRecord) → index_of x base last (afresh clock kept) history ≡ index_of x base last kept history
 fresh-index x base last clock kept history =
     ap (λ (slots : List ℕ). let index : Index = index_of x base last kept history in let y : Index = record { clock = index.clock; number = index.number; next = index.next; last = index.last; slots = slots; tasks = index.tasks } in y)
-    (each-same _ _ (length x.set.objects) (λ o l. at (kept.chains o)))
-  where
-    at : (chain : List Held) → newest_slot (newest_alone clock chain) ≡ newest_slot chain
-    at [] = refl
-    at (h ∷ hs) = refl
+    (each-same _ _ (length x.set.objects) (λ o l. alone_slot clock (kept.chains o)))
 
 -- the objects after a boot
 fresh-chains : {M : Type 0} → (x : Setting M) (base : DeviceState) (last : Option Entry) (g : Ghost) (words : Words) (s : State M) → ((k : ℕ) → get_or s.cores k Idle ≡ Idle) → StandsFor (sizes_in x) base g.floor s g.kept (slots_in x words) →
