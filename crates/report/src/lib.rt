@@ -4,7 +4,6 @@
 mod line_buf;
 mod lines;
 mod pieces;
-mod set_names;
 
 pub use line_buf::LineBuf;
 

@@ -7,7 +7,6 @@ ghost use Rattle.report_text.specs.Lines.{line_text, end_text, object_text, open
 ghost use Rattle.report.specs.Named.{NamesObject};
 
 use crate::line_buf::LineBuf;
-use crate::set_names::{object_name, program_name};
 use nv_base::{Line, ObjId, Point, Seq, TaskId, TaskRec};
 use task_set::TaskSet;
 
@@ -31,7 +30,7 @@ impl LineBuf {
             }
             Line::RefuseSlots { core, task, object } => {
                 self.append(b"refuse slots ");
-                self.append(object_name(set, object));
+                self.append(set.object_name(object));
                 self.append_attempt(core, task);
             }
             Line::RefuseRecords {
@@ -63,6 +62,7 @@ impl LineBuf {
     }
 
     /// The words of an object that were read back, as many as its size.
+    #[tactic(auto, using(crate::proofs::SetFacts::size_fits))]
     pub fn put_object(&mut self, set: &TaskSet, o: ObjId, words: &[u32])
         requires object { o.0 < length set.now.objects }
         requires words { length words.now ≡ (object_at set.now o.0).size }
@@ -70,7 +70,7 @@ impl LineBuf {
     {
         self.clear();
         self.append(b"object ");
-        self.append(object_name(set, o));
+        self.append(set.object_name(o));
         self.append_words(words);
         self.append(b"\n");
     }
@@ -83,7 +83,7 @@ impl LineBuf {
         self.clear();
         self.append_field(b"open ", task.id.0);
         self.append(b" ");
-        self.append(program_name(set, task.program));
+        self.append(set.program_name(task.program));
         self.append_field(b" ", task.arg);
         self.append(b"\n");
     }

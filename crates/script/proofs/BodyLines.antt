@@ -4,7 +4,9 @@ use Rattle.std.specs.List.{position, position_or_len}
 use Rattle.std.proofs.lemmas.Bool.{cases_lt, lt-ltb}
 use Rattle.std.proofs.lemmas.List.{length-map, drop_all}
 use Rattle.plain_text.specs.Words.{is_plain}
-use Rattle.script.specs.Blocks.{is_bad, or_empty}
+use Rattle.plain_text.specs.BadLines.{is_bad}
+use Rattle.plain_text.proofs.ForCallers.{nowhere}
+use Rattle.script.specs.Blocks.{or_empty}
 
 abbrev now : Bor (List ℕ) → List ℕ
 now line = line.now
@@ -20,19 +22,6 @@ lines_next xs i d h = rw add-one (next xs i d h)
 
 pub lines_over : (xs : List (Bor (List ℕ))) (i : ℕ) → length xs ≤ i → map (λ line. line.now) (drop i xs) ≡ []
 lines_over xs i h = ap (λ (ys : List (Bor (List ℕ))). map now ys) (drop_all i xs h)
-
-place-map : {X Y : Type 0} (p : Y → Bool) (f : X → Y) (xs : List X) → position_or_len p (map f xs) ≡ position_or_len (λ x. p (f x)) xs
-place-map p f [] = refl
-place-map p f (x ∷ xs) = rw (place-map p f xs) refl
-
-pub position_map : (p : List ℕ → Bool) (xs : List (Bor (List ℕ))) → position p (map (λ line. line.now) xs) ≡ position (λ line. p line.now) xs
-position_map p xs = rw (place-map p now xs, length-map) refl
-
-nowhere : {X : Type 0} (p : X → Bool) (xs : List X) → position p xs ≡ None → length xs ≤ position_or_len p xs
-nowhere p xs e = elim (cases_lt (position_or_len p xs) (length xs)) [
-  | inl lt ↦ absurd (let t = lt-ltb _ _ lt in grind arith)
-  | inr le ↦ le
-]
 
 step : (v : Bool) (n m : ℕ) → suc n ≤ cond (not (not v)) (1 + m) 0 → (v ≡ true) × (n ≤ m)
 step true n m le = (refl, omega arith)

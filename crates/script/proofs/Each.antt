@@ -2,10 +2,12 @@
 use Rattle.std.proofs.Common.{◌≡◌, List, [], ◌∷◌, ◌++◌, Result, Ok, Err, refl, sym, ap, ◌∙◌, append_assoc}
 use Rattle.std.proofs.lemmas.List.{append-nil}
 use Rattle.script.specs.declared.refusals.ScriptCause.{ScriptCause}
-use Rattle.script.specs.declared.refusals.LineRefusal.{LineRefusal}
-use Rattle.script.specs.declared.refusals.LineRefusal.TheVariants as refusals
-use Rattle.script.specs.Answers.{Fails}
-use Rattle.script.specs.Results.{◌>>=◌, each}
+use Rattle.nv_base.proofs.ForCallers.{refuses_bind}
+use Rattle.nv_base.specs.declared.refusals.Refusal.{Refusal}
+use Rattle.nv_base.specs.declared.refusals.Refusal.TheVariants as refusals
+use Rattle.nv_base.specs.Refusals.{Refuses}
+use Rattle.nv_base.specs.Results.{◌>>=◌}
+use Rattle.script.specs.Results.{each}
 
 module _ {X Y : Type 0} (f : X → Result Y ScriptCause) where
   -- what was read before, and what is still read
@@ -22,10 +24,10 @@ module _ {X Y : Type 0} (f : X → Result Y ScriptCause) where
       let one : each_from front (word ∷ words) ≡ each_from (front ++ y ∷ []) words = rw h (regroup front y (each f words)) in
       sym one ∙ so_far
 
-  pub ends : (e : LineRefusal) (front : List Y) (word : X) (words : List X) (total : Result (List Y) ScriptCause) → Fails e (f word)
-      → each_from front (word ∷ words) ≡ total → Fails e total
-  ends refusals.Memory front word words total h so_far = tt
-  ends (refusals.Fault cause) front word words total h so_far =
+  pub ends : (e : Refusal ScriptCause) (front : List Y) (word : X) (words : List X) (total : Result (List Y) ScriptCause) → Refuses e (f word)
+      → each_from front (word ∷ words) ≡ total → Refuses e total
+  ends refusals.NoMemory front word words total h so_far = tt
+  ends (refusals.At cause) front word words total h so_far =
       let one : each_from front (word ∷ words) ≡ Err cause = rw h refl in
       sym so_far ∙ one
 

@@ -2,8 +2,10 @@
 use Rattle.std.proofs.Common.{◌≡◌, ℕ, suc, ◌+◌, ◌<◌, ◌≤◌, List, [], ◌∷◌, length, map, Result, Ok, Err, Bor, ap, arith}
 use Rattle.std.proofs.lemmas.List.{length-map}
 use Rattle.rv_asm.specs.declared.cause.AsmCause.{AsmCause}
-use Rattle.rv_asm.specs.declared.cause.AsmError.{AsmError}
-use Rattle.rv_asm.specs.Assembly.{assembled, at, line_after, lines_after, ◌>>=◌}
+use Rattle.rv_asm.specs.Causes.{AsmError}
+use Rattle.nv_base.specs.Refusals.{at}
+use Rattle.nv_base.specs.Results.{◌>>=◌}
+use Rattle.rv_asm.specs.Assembly.{assembled, line_after, lines_after}
 use Rattle.rv_asm.specs.Labels.{Found, labels_of}
 use Rattle.rv_asm.specs.Lines.{Line, parsed}
 

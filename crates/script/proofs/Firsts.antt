@@ -1,31 +1,26 @@
 -- The first section that is refused, and the line in it.
 use Rattle.std.proofs.Common.{◌≡◌, ℕ, suc, ◌+◌, ◌<◌, ◌≤◌, Bool, true, false, cond, List, [], ◌∷◌, length, map, position, take, Option, Some, None, Result, Ok, Err, ltb, refl, sym, ap, subst, ◌∙◌, ◌⊎◌, inl, inr, arith}
+use Rattle.nv_base.proofs.ForCallers.{at_err, bind_err}
 use Rattle.std.specs.List.{position_or_len}
 use Rattle.std.proofs.lemmas.Bool.{ltb-true}
 use Rattle.std.proofs.lemmas.List.{length-map}
 use Rattle.std.proofs.lemmas.Option.{cond_some}
 use Rattle.rv_asm.specs.Assembly.{assembled}
-use Rattle.rv_asm.specs.declared.cause.AsmError.{AsmError}
+use Rattle.rv_asm.specs.Causes.{AsmError}
+use Rattle.plain_text.specs.BadLines.{is_bad}
 use Rattle.script.specs.declared.refusals.ScriptCause.{ScriptCause}
-use Rattle.script.specs.declared.refusals.ScriptError.{ScriptError}
+use Rattle.script.specs.Causes.{ScriptError}
 use Rattle.script.specs.declared.keyword.BlockKind.{BlockKind}
 use Rattle.script.specs.declared.keyword.BlockKind.TheVariants as blocks
-use Rattle.script.specs.Results.{◌>>=◌}
+use Rattle.nv_base.specs.Results.{◌>>=◌}
 use Rattle.script.specs.Parts.{Parts}
 use Rattle.script.specs.Lines.{line_after}
 use Rattle.script.specs.Sections.{Section, Single, Block, line_count}
-use Rattle.script.specs.Blocks.{at, header_of, code_line_after, code_lines_after, earlier, fault_at, bad_at, is_bad, or_empty, code_of, program_after, block_after}
+use Rattle.nv_base.specs.Refusals.{at}
+use Rattle.script.specs.Blocks.{header_of, code_line_after, code_lines_after, earlier, fault_at, bad_at, or_empty, code_of, program_after, block_after}
 use Rattle.script.specs.Reading.{section_after, sections_after}
 use Rattle.script.specs.Laws.{IsFirstRefused}
 use Rattle.script.proofs.Faults.{fault_in}
-
-bind_err : {E A B : Type 0} (r : Result A E) (f : A → Result B E) (e : E) → (r >>= f) ≡ Err e → (r ≡ Err e) ⊎ ((x : A) × (r ≡ Ok x) × (f x ≡ Err e))
-bind_err (Ok x) f e h = inr (x, refl, h)
-bind_err (Err y) f e h = let same : y ≡ e = cc in inl (ap (λ z. Err z) same)
-
-at_err : {A : Type 0} (n : ℕ) (r : Result A ScriptCause) (e : ScriptError) → at n r ≡ Err e → e.line ≡ n
-at_err n (Ok x) e h = absurd cc
-at_err n (Err cause) e h = let same : record { line = n; cause = cause } ≡ e = cc in ap (λ (e : ScriptError). e.line) (sym same)
 
 abbrev Inside : ℕ → ℕ → ScriptError → Type 0
 Inside low high e = (low ≤ e.line) × (e.line < high)

@@ -3,18 +3,14 @@ use Rattle.std.proofs.Common.{◌≡◌, ℕ, ◌^◌, ◌<◌, Bool, true, fals
 use Rattle.std.specs.List.{list_all}
 use Rattle.std.specs.Char.{digit_value}
 use Rattle.std.specs.Str.Parse.{AllDigits, digits_value}
-use Rattle.std.proofs.lemmas.Bool.{ltb-true}
+use Rattle.std.proofs.lemmas.Bool.{ltb-true, and_parts}
 use Rattle.std.proofs.lemmas.Int.Digits.{digits_value-lt}
 use Rattle.plain_text.specs.Numbers.{is_numeral, value_in}
-
-both : (a b : Bool) → (a && b) ≡ true → (a ≡ true) × (b ≡ true)
-both true b e = (refl, e)
-both false b e = absurd cc
 
 all_digits : (radix : ℕ) (ds : List ℕ) → list_all (λ d. ltb (digit_value d) radix) ds ≡ true → AllDigits radix ds
 all_digits radix [] e = tt
 all_digits radix (d ∷ ds) e =
-    let p = both (ltb (digit_value d) radix) (list_all (λ d. ltb (digit_value d) radix) ds) e in
+    let p = and_parts (ltb (digit_value d) radix) (list_all (λ d. ltb (digit_value d) radix) ds) e in
     (ltb-true _ _ p.0, all_digits radix ds p.1)
 
 some_test : (b : Bool) (m n : ℕ) → cond b (Some m) None ≡ Some n → (b ≡ true) × (m ≡ n)
@@ -24,7 +20,7 @@ some_test false m n e = absurd cc
 digits_small : (word : List ℕ) (n : ℕ) → length word ≡ 8 → value_in 16 8 word ≡ Some n → n < 2 ^ 32
 digits_small word n l e =
     let t = some_test (is_numeral 16 8 word) (digits_value 16 word) n e in
-    let p = both (not (eqb (length word) 0) && leb (length word) 8) (list_all (λ d. ltb (digit_value d) 16) word) t.0 in
+    let p = and_parts (not (eqb (length word) 0) && leb (length word) 8) (list_all (λ d. ltb (digit_value d) 16) word) t.0 in
     let lt : digits_value 16 word < 16 ^ length word = digits_value-lt 16 word (all_digits 16 word p.1) in
     let q : digits_value 16 word < 16 ^ 8 = subst (λ (k : ℕ). digits_value 16 word < 16 ^ k) l lt in
     let q' : digits_value 16 word < 2 ^ 32 = q in

@@ -1,20 +1,18 @@
 -- What an answer that is Ok says of the answers before it.
 use Rattle.std.proofs.Common.{◌≡◌, ℕ, suc, ◌≤◌, Bool, true, false, cond, ◌||◌, ◌&&◌, List, [], ◌∷◌, length, replicate, Option, Some, None, Result, Ok, Err, ltb, eqb, refl, sym, ap, subst, ◌∙◌, arith}
+use Rattle.nv_base.proofs.ForCallers.{bind_ok}
 use Rattle.std.specs.List.{AllByRecursion}
-use Rattle.std.proofs.lemmas.Bool.{ltb-false, eqb-true}
+use Rattle.std.proofs.lemmas.Bool.{ltb-false, eqb-true, or_parts}
 use Rattle.std.proofs.lemmas.List.{length-replicate}
 use Rattle.plain_text.specs.Numbers.{value_in, within}
 use Rattle.plain_text.specs.declared.numbers.NumberFault.TheVariants as faults
 use Rattle.script.specs.declared.refusals.ScriptCause.{ScriptCause}
 use Rattle.script.specs.declared.refusals.ScriptCause.TheVariants as causes
-use Rattle.script.specs.Results.{◌>>=◌, each}
+use Rattle.nv_base.specs.Results.{◌>>=◌}
+use Rattle.script.specs.Results.{each}
 use Rattle.script.specs.Words.{number, value, by_cause}
 use Rattle.script.specs.SetLines.{first_values}
-use Rattle.script.specs.Blocks.{at}
-
-pub bind_ok : {E A B : Type 0} (r : Result A E) (f : A → Result B E) (y : B) → (r >>= f) ≡ Ok y → (x : A) × (r ≡ Ok x) × (f x ≡ Ok y)
-bind_ok (Ok x) f y h = (x, refl, h)
-bind_ok (Err e) f y h = absurd cc
+use Rattle.nv_base.specs.Refusals.{at}
 
 pub refused_if : {E A : Type 0} (b : Bool) (e : E) (x y : A) → cond b (Err e) (Ok x) ≡ Ok y → (b ≡ false) × (x ≡ y)
 refused_if true e x y h = absurd cc
@@ -24,18 +22,6 @@ pub allowed_if : {E A : Type 0} (b : Bool) (e : E) (x y : A) → cond b (Ok x) (
 allowed_if true e x y h = (refl, cc)
 allowed_if false e x y h = absurd cc
 
-pub at_ok : {A : Type 0} (n : ℕ) (r : Result A ScriptCause) (x : A) → at n r ≡ Ok x → r ≡ Ok x
-at_ok n (Ok y) x h = let same : y ≡ x = cc in ap (λ z. Ok z) same
-at_ok n (Err e) x h = absurd cc
-
-pub either_false : (a b : Bool) → (a || b) ≡ false → (a ≡ false) × (b ≡ false)
-either_false true b e = absurd cc
-either_false false b e = (refl, e)
-
-pub both_true : (a b : Bool) → (a && b) ≡ true → (a ≡ true) × (b ≡ true)
-both_true true b e = (refl, e)
-both_true false b e = absurd cc
-
 -- a number that is read is within its limits
 pub number_ok : (low high n : ℕ) (word : List ℕ) → number low high word ≡ Ok n → (low ≤ n) × (n ≤ high)
 number_ok low high n word h = go (value_in 10 10 word) h
@@ -44,7 +30,7 @@ number_ok low high n word h = go (value_in 10 10 word) h
     test m true e h = absurd cc
     test m false e h =
         let same : m ≡ n = cc in
-        let t = either_false (ltb m low) (ltb high m) e in
+        let t = or_parts (ltb m low) (ltb high m) e in
         let p = ltb-false m low t.0 in
         let q = ltb-false high m t.1 in
         (omega (arith, p, same), omega (arith, q, same))

@@ -1,7 +1,8 @@
 -- Each line and each block keeps the limits.
 use Rattle.std.proofs.Common.{◌≡◌, ℕ, ◌+◌, ◌-◌, ◌%◌, ◌^◌, ◌<◌, ◌≤◌, Bool, true, false, cond, not, ◌&&◌, List, [], ◌∷◌, ◌++◌, length, map, replicate, Option, Some, None, Result, Ok, Err, ltb, leb, eqb, refl, subst, arith, length-append}
+use Rattle.nv_base.proofs.ForCallers.{bind_ok}
 use Rattle.std.specs.List.{AllByRecursion, list_all, flat_map, before_first}
-use Rattle.std.proofs.lemmas.Bool.{ltb-false, ltb-true, leb-true, eqb-true, eqb-false}
+use Rattle.std.proofs.lemmas.Bool.{ltb-false, ltb-true, leb-true, eqb-true, eqb-false, and_parts}
 use Rattle.std.proofs.lemmas.List.{length-map}
 use Rattle.plain_text.specs.Words.{is_plain, line_words}
 use Rattle.plain_text.specs.Numbers.{is_numeral}
@@ -19,7 +20,8 @@ use Rattle.script.specs.declared.keyword.Stage.{Stage}
 use Rattle.script.specs.declared.keyword.Stage.TheVariants as stages
 use Rattle.script.specs.declared.keyword.Keyword.{Keyword}
 use Rattle.script.specs.declared.keyword.Keyword.TheVariants.{Nvk, Cores, Memory, Records, Object, Task, Power, Steps, Mix, Run}
-use Rattle.script.specs.Results.{◌>>=◌, each}
+use Rattle.nv_base.specs.Results.{◌>>=◌}
+use Rattle.script.specs.Results.{each}
 use Rattle.script.specs.Keywords.{keyword_of, stage_of, may_follow}
 use Rattle.script.specs.Words.{number, value, one, two, three, new_name, known_name, allowed}
 use Rattle.script.specs.Parts.{Parts, Timeline, event_count}
@@ -27,7 +29,7 @@ use Rattle.script.specs.SetLines.{format_after, cores_after, memory_after, recor
 use Rattle.script.specs.ScheduleLines.{on_times, steps, steps_within, times_of, is_star, are_times, are_many, times_together, power_after, steps_after, mix_after}
 use Rattle.script.specs.Lines.{keyword_after, words_after, line_after, found}
 use Rattle.script.proofs.Counts.{times_length, steps-append}
-use Rattle.script.proofs.Inversions.{bind_ok, refused_if, allowed_if, both_true, number_ok, each_all, length-first}
+use Rattle.script.proofs.Inversions.{refused_if, allowed_if, number_ok, each_all, length-first}
 use Rattle.script.proofs.NewNames.{all_append, named_with, known_within}
 use Rattle.script.proofs.Kept.{rank, follows, Kept, kept_format, kept_cores, kept_memory, kept_records, kept_object, kept_task, kept_events, kept_run}
 
@@ -132,7 +134,7 @@ some_length (d ∷ digits) e = omega arith
 cores_all : (cores : ℕ) (digits : List ℕ) → list_all (λ d. ltb (d - 48) cores) digits ≡ true → AllByRecursion (λ core. core < cores) (map (λ d. d - 48) digits)
 cores_all cores [] e = tt
 cores_all cores (d ∷ digits) e =
-    let t = both_true (ltb (d - 48) cores) (list_all (λ d. ltb (d - 48) cores) digits) e in
+    let t = and_parts (ltb (d - 48) cores) (list_all (λ d. ltb (d - 48) cores) digits) e in
     (ltb-true (d - 48) cores t.0, cores_all cores digits t.1)
 
 within_ok : (cores : ℕ) (digits : List ℕ) (times : Option ℕ) (item : StepItem) → steps_within cores digits times ≡ Ok item → IsItem cores item
@@ -143,8 +145,8 @@ within_ok cores digits (Some times) item h = go (is_numeral 10 32 digits) refl h
     go false e h = absurd cc
     go true e h =
         let t = allowed_if (list_all (λ d. ltb (d - 48) cores) digits && are_times times) causes.Range (schedules.Steps (map (λ d. d - 48) digits) times) item h in
-        let u = both_true (list_all (λ d. ltb (d - 48) cores) digits) (are_times times) t.0 in
-        let v = both_true (leb 1 times) (leb times 1000000) u.1 in
+        let u = and_parts (list_all (λ d. ltb (d - 48) cores) digits) (are_times times) t.0 in
+        let v = and_parts (leb 1 times) (leb times 1000000) u.1 in
         let some = some_length digits e in
         subst (IsItem cores) t.1 (omega (arith, some, length-map digits (λ (d : ℕ). d - 48)), leb-true 1 times v.0, cores_all cores digits u.0)
 

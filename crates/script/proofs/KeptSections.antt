@@ -1,9 +1,11 @@
 -- Each block and each section keeps the limits, and so does a whole script.
 use Rattle.std.proofs.Common.{◌≡◌, ℕ, ◌+◌, ◌*◌, ◌≤◌, Bool, true, false, cond, not, is_some, List, [], ◌∷◌, length, map, position, Option, Some, None, Result, Ok, Err, ltb, eqb, refl, ap, subst, arith}
+use Rattle.nv_base.proofs.ForCallers.{at_ok, bind_ok}
 use Rattle.std.proofs.lemmas.Bool.{ltb-false, eqb-false}
 use Rattle.plain_text.specs.Words.{is_plain, line_words}
+use Rattle.plain_text.specs.BadLines.{is_bad}
 use Rattle.rv_asm.specs.Assembly.{assembled}
-use Rattle.rv_asm.specs.declared.cause.AsmError.{AsmError}
+use Rattle.rv_asm.specs.Causes.{AsmError}
 use Rattle.set_model.specs.Limits.{IsWithin}
 use Rattle.set_model.specs.Sets.{ProgPart}
 use Rattle.script.specs.declared.refusals.ScriptCause.{ScriptCause}
@@ -11,15 +13,16 @@ use Rattle.script.specs.declared.refusals.ScriptCause.TheVariants as causes
 use Rattle.script.specs.declared.keyword.BlockKind.{BlockKind}
 use Rattle.script.specs.declared.keyword.BlockKind.TheVariants as blocks
 use Rattle.script.specs.declared.keyword.Stage.TheVariants as stages
-use Rattle.script.specs.Results.{◌>>=◌}
+use Rattle.nv_base.specs.Results.{◌>>=◌}
 use Rattle.script.specs.Keywords.{may_follow}
 use Rattle.script.specs.Words.{number, two, new_name, allowed}
 use Rattle.script.specs.Parts.{Parts}
 use Rattle.script.specs.Lines.{line_after}
 use Rattle.script.specs.Sections.{Section, Single, Block, line_count}
-use Rattle.script.specs.Blocks.{at, Header, header_of, hex_word, with_words, code_after, code_line_after, code_lines_after, earlier, fault_at, bad_at, is_bad, or_empty, code_of, is_ended, with_program, program_after, block_after}
+use Rattle.nv_base.specs.Refusals.{at}
+use Rattle.script.specs.Blocks.{Header, header_of, hex_word, with_words, code_after, code_line_after, code_lines_after, earlier, fault_at, bad_at, or_empty, code_of, is_ended, with_program, program_after, block_after}
 use Rattle.script.specs.Reading.{section_after, sections_after}
-use Rattle.script.proofs.Inversions.{bind_ok, refused_if, allowed_if, at_ok, number_ok}
+use Rattle.script.proofs.Inversions.{refused_if, allowed_if, number_ok}
 use Rattle.script.proofs.NewNames.{named_with}
 use Rattle.script.proofs.Kept.{rank, follows, kept_program}
 use Rattle.script.proofs.KeptLines.{KeptParts, line_kept}

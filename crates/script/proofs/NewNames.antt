@@ -4,30 +4,20 @@ use Rattle.std.specs.Char.{is_ascii_digit}
 use Rattle.std.specs.Cmp.Lexicographic.{pointwise}
 use Rattle.std.specs.Int.{is_in_range}
 use Rattle.std.specs.List.{AllByRecursion, list_all, position, position_or_len}
-use Rattle.std.proofs.lemmas.Bool.{cases_lt, lt-ltb, ltb-true, leb-true}
+use Rattle.std.proofs.lemmas.Bool.{cases_lt, lt-ltb, ltb-true, leb-true, and_parts}
 use Rattle.std.proofs.lemmas.List.Sums.{AllPass-from_list_all}
 use Rattle.std.proofs.lemmas.Option.{cond_some}
-use Rattle.plain_text.specs.Names.{IsName, is_name, is_name_byte}
-use Rattle.set_model.specs.Names.{AreDistinct, AreNames}
+use Rattle.std.proofs.lemmas.List.{map_push}
+use Rattle.plain_text.specs.Names.{IsName, is_name}
+use Rattle.plain_text.proofs.ForCallers.{name_means, nowhere}
+use Rattle.set_model.specs.Names.{AreNames}
+use Rattle.set_model.proofs.ForCallers.{all_with, distinct_with}
 use Rattle.script.specs.declared.refusals.ScriptCause.TheVariants as causes
 use Rattle.script.specs.Words.{place_of, new_name, known_name, known}
-use Rattle.script.proofs.Inversions.{both_true}
-
-pub all_with : {X : Type 0} (P : X → Type 0) (xs : List X) (x : X) → AllByRecursion P xs → P x → AllByRecursion P (xs ++ x ∷ [])
-all_with P [] x h p = (p, tt)
-all_with P (y ∷ xs) x h p = (h.0, all_with P xs x h.1 p)
 
 pub all_append : {X : Type 0} (P : X → Type 0) (xs ys : List X) → AllByRecursion P xs → AllByRecursion P ys → AllByRecursion P (xs ++ ys)
 all_append P [] ys h g = g
 all_append P (x ∷ xs) ys h g = (h.0, all_append P xs ys h.1 g)
-
-map_with : {X : Type 0} (f : X → List ℕ) (xs : List X) (x : X) → map f (xs ++ x ∷ []) ≡ map f xs ++ f x ∷ []
-map_with f [] x = refl
-map_with f (y ∷ xs) x = ap (λ ys. f y ∷ ys) (map_with f xs x)
-
-distinct_with : (xs : List (List ℕ)) (y : List ℕ) → AreDistinct xs → AllByRecursion (λ x. x ≢ y) xs → AreDistinct (xs ++ y ∷ [])
-distinct_with [] y d h = (tt, tt)
-distinct_with (x ∷ xs) y d h = (all_with (λ later. x ≢ later) xs y d.0 h.0, distinct_with xs y d.1 h.1)
 
 same_test : (xs : List ℕ) → pointwise nat_eq xs xs ≡ true
 same_test [] = refl
@@ -35,12 +25,6 @@ same_test (x ∷ xs) = rw (eq-eqb x x refl, same_test xs) refl
 
 differ : (a b : List ℕ) → pointwise nat_eq a b ≡ false → a ≢ b
 differ a b e = λ same. let t : pointwise nat_eq a b ≡ true = subst (λ (c : List ℕ). pointwise nat_eq a c ≡ true) same (same_test a) in let wrong : true ≡ false = sym t ∙ e in cc
-
-nowhere : {X : Type 0} (p : X → Bool) (xs : List X) → position p xs ≡ None → length xs ≤ position_or_len p xs
-nowhere p xs e = elim (cases_lt (position_or_len p xs) (length xs)) [
-  | inl lt ↦ absurd (let t = lt-ltb _ _ lt in grind arith)
-  | inr le ↦ le
-]
 
 step : (v : Bool) (n m : ℕ) → suc n ≤ cond (not v) (1 + m) 0 → (v ≡ false) × (n ≤ m)
 step true n m le = absurd (omega arith)
@@ -51,23 +35,6 @@ others f word [] le = tt
 others f word (x ∷ xs) le =
     let s = step (pointwise nat_eq (f x) word) (length xs) (position_or_len (λ x. pointwise nat_eq (f x) word) xs) le in
     (differ (f x) word s.0, others f word xs s.1)
-
-is_name_ok : (word : List ℕ) → is_name word ≡ true → IsName word
-is_name_ok word e =
-    let range = is_in_range 1 16 (length word) in
-    let first = not (is_ascii_digit (get_or word 0 0)) in
-    let all = both_true (range && first) (list_all is_name_byte word) e in
-    let front = both_true range first all.0 in
-    let size = both_true (leb 1 (length word)) (leb (length word) 16) front.0 in
-    record {
-      size = (leb-true 1 (length word) size.0, leb-true (length word) 16 size.1);
-      bytes = AllPass-from_list_all is_name_byte word all.1;
-      first = not_true (is_ascii_digit (get_or word 0 0)) front.1;
-    }
-  where
-    not_true : (b : Bool) → not b ≡ true → b ≡ false
-    not_true true e = absurd cc
-    not_true false e = refl
 
 record IsNew {X : Type 0} (f : X → List ℕ) (xs : List X) (name : List ℕ) : Type 0 where
   proper : IsName name
@@ -80,7 +47,7 @@ is_new f xs word name h = go (is_name word) refl h
     placed (Some place) e n h = absurd cc
     placed None e n h =
         let same : word ≡ name = cc in
-        subst (IsNew f xs) same (record { proper = is_name_ok word n; other = others f word xs (nowhere (λ x. pointwise nat_eq (f x) word) xs e) })
+        subst (IsNew f xs) same (record { proper = name_means word n; other = others f word xs (nowhere (λ x. pointwise nat_eq (f x) word) xs e) })
 
     go : (b : Bool) → is_name word ≡ b → cond (not b) (Err causes.Name) (cond (is_some (place_of f word xs)) (Err causes.Twice) (Ok word)) ≡ Ok name → IsNew f xs name
     go true e h = placed (place_of f word xs) refl e h
@@ -91,7 +58,7 @@ pub named_with : {X : Type 0} (f : X → List ℕ) (xs : List X) (x : X) (word n
 named_with f xs x word name names h e =
     let new = is_new f xs word name h in
     let all : AreNames (map f xs ++ name ∷ []) = record { each = all_with IsName (map f xs) name names.each new.proper; once = distinct_with (map f xs) name names.once new.other } in
-    subst AreNames (ap (λ (n : List ℕ). map f xs ++ n ∷ []) (sym e) ∙ sym (map_with f xs x)) all
+    subst AreNames (ap (λ (n : List ℕ). map f xs ++ n ∷ []) (sym e) ∙ sym (map_push f xs x)) all
 
 -- a name that is known is one of those
 pub known_within : {X : Type 0} (f : X → List ℕ) (xs : List X) (word : List ℕ) (place : ℕ) → known_name f xs word ≡ Ok place → place < length xs

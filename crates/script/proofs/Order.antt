@@ -1,5 +1,6 @@
 -- The lines of a script come in the order of the table.
 use Rattle.std.proofs.Common.{◌≡◌, ℕ, suc, ◌+◌, Bool, true, false, cond, ◌&&◌, List, [], ◌∷◌, ◌++◌, replicate, length, Option, Some, None, Ok, Err, refl, sym, ap, ◌∙◌, option_map}
+use Rattle.nv_base.proofs.ForCallers.{at_ok, bind_ok}
 use Rattle.std.specs.List.{cons_option}
 use Rattle.plain_text.specs.Words.{is_plain, line_words}
 use Rattle.script.specs.declared.refusals.ScriptCause.TheVariants as causes
@@ -7,16 +8,17 @@ use Rattle.script.specs.declared.keyword.Keyword.{Keyword}
 use Rattle.script.specs.declared.keyword.BlockKind.{BlockKind}
 use Rattle.script.specs.declared.keyword.Stage.{Stage}
 use Rattle.script.specs.declared.keyword.Stage.TheVariants.{Nvk, Cores, Memory, Records, Object, Program, Task, Schedule, Run}
-use Rattle.script.specs.Results.{◌>>=◌}
+use Rattle.nv_base.specs.Results.{◌>>=◌}
 use Rattle.script.specs.Keywords.{keyword_of, stage_of, may_follow}
 use Rattle.script.specs.Words.{allowed}
 use Rattle.script.specs.Parts.{Parts}
 use Rattle.script.specs.Lines.{found, keyword_after, line_after, words_after}
 use Rattle.script.specs.Sections.{Section, Single, Block, line_count}
-use Rattle.script.specs.Blocks.{at, header_of, code_of, program_after, block_after}
+use Rattle.nv_base.specs.Refusals.{at}
+use Rattle.script.specs.Blocks.{header_of, code_of, program_after, block_after}
 use Rattle.script.specs.Reading.{section_after, sections_after}
 use Rattle.script.specs.Laws.{IsLaidOut, stage_of_words, stage_in, stages_of}
-use Rattle.script.proofs.Inversions.{bind_ok, allowed_if, at_ok}
+use Rattle.script.proofs.Inversions.{allowed_if}
 use Rattle.script.proofs.KeptSections.{header_ok, program_ok}
 
 -- each may follow the one before, and the last is `run`

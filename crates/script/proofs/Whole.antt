@@ -1,9 +1,10 @@
 -- A script that is read keeps all limits.
 use Rattle.std.proofs.Common.{◌≡◌, ℕ, ◌*◌, ◌%◌, ◌<◌, ◌≤◌, Bool, true, false, ◌&&◌, List, [], ◌∷◌, length, Option, Some, None, Ok, Err, cond, ltb, leb, eqb, refl, ap, subst, ◌∙◌, arith, eq-eqb}
+use Rattle.nv_base.proofs.ForCallers.{at_ok, bind_ok}
 use Rattle.std.specs.Int.{is_in_range}
 use Rattle.std.specs.Str.Lines.{lines}
 use Rattle.std.specs.List.{AllByRecursion, list_all}
-use Rattle.std.proofs.lemmas.Bool.{le-leb, lt-ltb}
+use Rattle.std.proofs.lemmas.Bool.{le-leb, lt-ltb, and_from}
 use Rattle.kernel_model.specs.Effects.{Spawn}
 use Rattle.nv_base.specs.declared.limits.TheConstants.{MAX_FORMAT}
 use Rattle.set_model.specs.Limits.{IsWithin, max_objects, max_records}
@@ -12,49 +13,44 @@ use Rattle.task_set.specs.FirstBroken.{first_broken, format_holds, cores_hold, m
 use Rattle.script.specs.declared.keyword.Stage.{Stage}
 use Rattle.script.specs.declared.keyword.Stage.TheVariants.{Nvk, Cores, Memory, Records, Object, Program, Task, Schedule, Run}
 use Rattle.script.specs.declared.refusals.ScriptCause.TheVariants.{Long}
-use Rattle.script.specs.Results.{◌>>=◌}
+use Rattle.nv_base.specs.Results.{◌>>=◌}
 use Rattle.script.specs.Parts.{Parts, Script, Timeline, nothing, script_of}
 use Rattle.script.specs.Sections.{Section, sections}
 use Rattle.script.specs.Reading.{ended, is_whole, read, sections_after}
 use Rattle.script.specs.Laws.{IsLaidOut, IsWithinLimits, stages_of}
-use Rattle.script.specs.Blocks.{at}
-use Rattle.script.proofs.Inversions.{bind_ok, at_ok}
+use Rattle.nv_base.specs.Refusals.{at}
 use Rattle.script.proofs.Order.{laid_out, taken_in_order}
 use Rattle.script.proofs.Kept.{rank, Kept, IsSized, IsFitting, kept_nothing}
 use Rattle.script.proofs.KeptSections.{IsShort, sections_kept}
 
-both : (a b : Bool) → a ≡ true → b ≡ true → (a && b) ≡ true
-both true b e f = f
-both false b e f = absurd cc
-
 in_range : (low high n : ℕ) → IsWithin low high n → is_in_range low high n ≡ true
-in_range low high n w = both (leb low n) (leb n high) (le-leb low n w.0) (le-leb n high w.1)
+in_range low high n w = and_from (leb low n) (leb n high) (le-leb low n w.0) (le-leb n high w.1)
 
 sizes : (xs : List ObjPart) → AllByRecursion IsSized xs → list_all (λ o. is_in_range 1 64 o.size) xs ≡ true
 sizes [] h = refl
-sizes (x ∷ xs) h = both (is_in_range 1 64 x.size) (list_all (λ (o : ObjPart). is_in_range 1 64 o.size) xs) (in_range 1 64 x.size h.0.0) (sizes xs h.1)
+sizes (x ∷ xs) h = and_from (is_in_range 1 64 x.size) (list_all (λ (o : ObjPart). is_in_range 1 64 o.size) xs) (in_range 1 64 x.size h.0.0) (sizes xs h.1)
 
 slots : (xs : List ObjPart) → AllByRecursion IsSized xs → list_all (λ o. is_in_range 2 8 o.slots) xs ≡ true
 slots [] h = refl
-slots (x ∷ xs) h = both (is_in_range 2 8 x.slots) (list_all (λ (o : ObjPart). is_in_range 2 8 o.slots) xs) (in_range 2 8 x.slots h.0.1) (slots xs h.1)
+slots (x ∷ xs) h = and_from (is_in_range 2 8 x.slots) (list_all (λ (o : ObjPart). is_in_range 2 8 o.slots) xs) (in_range 2 8 x.slots h.0.1) (slots xs h.1)
 
 firsts : (xs : List ObjPart) → AllByRecursion IsSized xs → list_all (λ o. eqb (length o.first) o.size) xs ≡ true
 firsts [] h = refl
-firsts (x ∷ xs) h = both (eqb (length x.first) x.size) (list_all (λ (o : ObjPart). eqb (length o.first) o.size) xs) (eq-eqb (length x.first) x.size h.0.2) (firsts xs h.1)
+firsts (x ∷ xs) h = and_from (eqb (length x.first) x.size) (list_all (λ (o : ObjPart). eqb (length o.first) o.size) xs) (eq-eqb (length x.first) x.size h.0.2) (firsts xs h.1)
 
 fuels : (m : ℕ) (xs : List ProgPart) → AllByRecursion (IsFitting m) xs → list_all (λ p. is_in_range 1 1000000 p.fuel) xs ≡ true
 fuels m [] h = refl
-fuels m (x ∷ xs) h = both (is_in_range 1 1000000 x.fuel) (list_all (λ (p : ProgPart). is_in_range 1 1000000 p.fuel) xs) (in_range 1 1000000 x.fuel h.0.0) (fuels m xs h.1)
+fuels m (x ∷ xs) h = and_from (is_in_range 1 1000000 x.fuel) (list_all (λ (p : ProgPart). is_in_range 1 1000000 p.fuel) xs) (in_range 1 1000000 x.fuel h.0.0) (fuels m xs h.1)
 
 codes : (m : ℕ) (xs : List ProgPart) → AllByRecursion (IsFitting m) xs → list_all (λ p. leb (length p.code) 1024 && leb (4 * length p.code) m) xs ≡ true
 codes m [] h = refl
 codes m (x ∷ xs) h =
-    both (leb (length x.code) 1024 && leb (4 * length x.code) m) (list_all (λ (p : ProgPart). leb (length p.code) 1024 && leb (4 * length p.code) m) xs)
-    (both (leb (length x.code) 1024) (leb (4 * length x.code) m) (le-leb (length x.code) 1024 h.0.1) (le-leb (4 * length x.code) m h.0.2)) (codes m xs h.1)
+    and_from (leb (length x.code) 1024 && leb (4 * length x.code) m) (list_all (λ (p : ProgPart). leb (length p.code) 1024 && leb (4 * length p.code) m) xs)
+    (and_from (leb (length x.code) 1024) (leb (4 * length x.code) m) (le-leb (length x.code) 1024 h.0.1) (le-leb (4 * length x.code) m h.0.2)) (codes m xs h.1)
 
 programs_known : (n : ℕ) (xs : List Spawn) → AllByRecursion (λ t. t.program < n) xs → list_all (λ t. ltb t.program n) xs ≡ true
 programs_known n [] h = refl
-programs_known n (x ∷ xs) h = both (ltb x.program n) (list_all (λ (t : Spawn). ltb t.program n) xs) (lt-ltb x.program n h.0) (programs_known n xs h.1)
+programs_known n (x ∷ xs) h = and_from (ltb x.program n) (list_all (λ (t : Spawn). ltb t.program n) xs) (lt-ltb x.program n h.0) (programs_known n xs h.1)
 
 none_if : (set : TaskSet) → format_holds set ≡ true → cores_hold set ≡ true → memory_holds set ≡ true → records_hold set ≡ true → objects_hold set ≡ true → sizes_hold set ≡ true → slots_hold set ≡ true
     → firsts_hold set ≡ true → programs_hold set ≡ true → fuels_hold set ≡ true → codes_hold set ≡ true → tasks_hold set ≡ true → task_programs_hold set ≡ true → first_broken set ≡ None
@@ -70,7 +66,7 @@ none_broken set t k =
     none_if set
     (in_range 1 MAX_FORMAT set.format (k.format (omega arith)))
     (in_range 1 8 set.cores (k.cores (omega arith)))
-    (both (is_in_range 1024 65536 set.memory) (eqb (set.memory % 4) 0) (in_range 1024 65536 set.memory m.0) (eq-eqb (set.memory % 4) 0 m.1))
+    (and_from (is_in_range 1024 65536 set.memory) (eqb (set.memory % 4) 0) (in_range 1024 65536 set.memory m.0) (eq-eqb (set.memory % 4) 0 m.1))
     (in_range 1 (max_records set.format) set.records (k.records (omega arith)))
     (in_range 1 (max_objects set.format) (length set.objects) (some, k.few_objects))
     (sizes set.objects k.each_object)

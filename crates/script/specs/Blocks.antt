@@ -2,23 +2,21 @@
 use Rattle.std.specs.Prelude.{ℕ, ◌+◌, ◌*◌, ◌==◌, nat_lt, Bool, not, is_some, List, [], ◌∷◌, ◌++◌, length, map, position, Option, Some, None, Result, Ok, Err, if◌then◌else◌}
 use Rattle.nv_base.specs.declared.limits.TheConstants.{MAX_CODE, MAX_FUEL, MAX_PROGRAMS}
 use Rattle.plain_text.specs.Words.{is_plain, line_words}
+use Rattle.plain_text.specs.BadLines.{is_bad}
 use Rattle.plain_text.specs.Numbers.{value_in}
 use Rattle.rv_asm.specs.Assembly.{assembled}
-use Rattle.rv_asm.specs.declared.cause.AsmError.{AsmError}
+use Rattle.rv_asm.specs.Causes.{AsmError}
 use Rattle.script.specs.declared.refusals.ScriptCause.{ScriptCause}
 use Rattle.script.specs.declared.refusals.ScriptCause.TheVariants.{Byte, Word, Count, Number, Code, Many, End}
-use Rattle.script.specs.declared.refusals.ScriptError.{ScriptError}
+use Rattle.script.specs.Causes.{ScriptError}
 use Rattle.script.specs.declared.keyword.BlockKind.{BlockKind}
 use Rattle.script.specs.declared.keyword.BlockKind.TheVariants as blocks
 use Rattle.script.specs.declared.keyword.Stage.TheVariants as stages
-use Rattle.script.specs.Results.{◌>>=◌, each}
+use Rattle.nv_base.specs.Results.{◌>>=◌}
+use Rattle.script.specs.Results.{each}
+use Rattle.nv_base.specs.Refusals.{at}
 use Rattle.script.specs.Words.{number, two, new_name, allowed}
 use Rattle.script.specs.Parts.{Parts}
-
--- a cause, at its line
-abbrev pub at : {A : Type 0} → ℕ → Result A ScriptCause → Result A ScriptError
-at n (Ok x) = Ok x
-at n (Err cause) = Err (record { line = n; cause = cause })
 
 pub record Header : Type 0 where
   pub name : List ℕ
@@ -72,9 +70,6 @@ code_lines_after n code (line ∷ lines) = do
 -- a line with a byte that is not allowed is empty for the assembler
 abbrev pub or_empty : List ℕ → List ℕ
 or_empty line = if is_plain line then line else []
-
-abbrev pub is_bad : List ℕ → Bool
-is_bad line = not (is_plain line)
 
 abbrev pub fault_at : ℕ → AsmError → ScriptError
 fault_at n e = record { line = n + e.line; cause = Code e.cause }

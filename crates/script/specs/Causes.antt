@@ -1,5 +1,6 @@
--- The numbers of the causes. This project's own.
+-- The numbers of the causes, and a cause at its line. This project's own.
 use Rattle.std.specs.Prelude.{ℕ}
+use Rattle.nv_base.specs.declared.refusals.LineError.{LineError}
 use Rattle.script.specs.declared.refusals.ScriptCause.{ScriptCause}
 use Rattle.script.specs.declared.refusals.ScriptCause.TheVariants.{Long, Byte, Word, Count, Name, Twice, Unknown, Number, Range, Code, Many, End}
 
@@ -16,3 +17,7 @@ cause_number Range = 9
 cause_number (Code cause) = 10
 cause_number Many = 11
 cause_number End = 12
+
+-- the first line that is refused, and its first cause
+abbrev pub ScriptError : Type 0
+ScriptError = LineError ScriptCause

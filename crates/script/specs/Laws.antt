@@ -5,7 +5,7 @@ use Rattle.plain_text.specs.Words.{line_words}
 use Rattle.set_model.specs.Names.{IsNamed}
 use Rattle.schedule_model.specs.Limits.{IsSchedule}
 use Rattle.task_set.specs.FirstBroken.{first_broken}
-use Rattle.script.specs.declared.refusals.ScriptError.{ScriptError}
+use Rattle.script.specs.Causes.{ScriptError}
 use Rattle.script.specs.declared.keyword.Stage.{Stage}
 use Rattle.script.specs.declared.keyword.Stage.TheVariants.{Nvk, Cores, Memory, Records, Object, Program, Task, Schedule, Run}
 use Rattle.script.specs.Keywords.{keyword_of, stage_of}

@@ -9,10 +9,8 @@ pub mod Lines
 pub mod Sections
 pub mod Blocks
 pub mod Reading
-pub mod ScriptText
 pub mod Laws
 -- How the code meets them.
 pub mod Causes
-pub mod Answers
 pub mod Views
 pub mod Exits

@@ -6,7 +6,7 @@ use Rattle.script.specs.declared.refusals.ScriptCause.TheVariants.{Byte, Word, C
 use Rattle.script.specs.declared.keyword.Keyword.{Keyword}
 use Rattle.script.specs.declared.keyword.Keyword.TheVariants.{Nvk, Cores, Memory, Records, Object, Task, Power, Steps, Mix, Run}
 use Rattle.set_model.specs.Sets.{TaskSet}
-use Rattle.script.specs.Results.{◌>>=◌}
+use Rattle.nv_base.specs.Results.{◌>>=◌}
 use Rattle.script.specs.Keywords.{keyword_of, stage_of}
 use Rattle.script.specs.Words.{allowed}
 use Rattle.script.specs.Parts.{Parts, Timeline}

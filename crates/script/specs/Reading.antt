@@ -4,14 +4,15 @@ use Rattle.std.specs.Str.Lines.{lines}
 use Rattle.nv_base.specs.declared.limits.TheConstants.{MAX_INPUT}
 use Rattle.script.specs.declared.refusals.ScriptCause.{ScriptCause}
 use Rattle.script.specs.declared.refusals.ScriptCause.TheVariants.{Long, End}
-use Rattle.script.specs.declared.refusals.ScriptError.{ScriptError}
+use Rattle.script.specs.Causes.{ScriptError}
 use Rattle.script.specs.declared.keyword.Stage.{Stage}
 use Rattle.script.specs.declared.keyword.Stage.TheVariants.{Run}
-use Rattle.script.specs.Results.{◌>>=◌}
+use Rattle.nv_base.specs.Results.{◌>>=◌}
 use Rattle.script.specs.Parts.{Parts, Script, nothing, script_of}
 use Rattle.script.specs.Lines.{line_after}
 use Rattle.script.specs.Sections.{Section, Single, Block, sections, line_count}
-use Rattle.script.specs.Blocks.{at, block_after}
+use Rattle.nv_base.specs.Refusals.{at}
+use Rattle.script.specs.Blocks.{block_after}
 
 -- what a section gives whose first line is n
 abbrev pub section_after : ℕ → Parts → Section → Result Parts ScriptError

@@ -8,7 +8,8 @@ use Rattle.schedule_model.specs.Limits.{steps_together}
 use Rattle.script.specs.declared.refusals.ScriptCause.{ScriptCause}
 use Rattle.script.specs.declared.refusals.ScriptCause.TheVariants.{Count, Number, Range, Many}
 use Rattle.script.specs.declared.items.OnTimes.{OnTimes}
-use Rattle.script.specs.Results.{◌>>=◌, each}
+use Rattle.nv_base.specs.Results.{◌>>=◌}
+use Rattle.script.specs.Results.{each}
 use Rattle.script.specs.Words.{number, two}
 use Rattle.script.specs.Parts.{Timeline, event_count}
 

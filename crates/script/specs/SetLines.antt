@@ -5,7 +5,8 @@ use Rattle.set_model.specs.Limits.{max_objects, max_records}
 use Rattle.set_model.specs.Sets.{TaskSet}
 use Rattle.script.specs.declared.refusals.ScriptCause.{ScriptCause}
 use Rattle.script.specs.declared.refusals.ScriptCause.TheVariants.{Count, Range, Many}
-use Rattle.script.specs.Results.{◌>>=◌, each}
+use Rattle.nv_base.specs.Results.{◌>>=◌}
+use Rattle.script.specs.Results.{each}
 use Rattle.script.specs.Words.{number, value, one, two, three, new_name, known_name}
 
 -- `nvk F`

@@ -2,7 +2,7 @@
 
 ghost use Rattle.std.specs.Prelude.{◌≡◌, ◌≢◌, ◌≤◌, ◌<◌, ◌+◌, ◌^◌, [], map, length, option_map, OnOk};
 ghost use Rattle.plain_text.specs.Left.{words_left};
-ghost use Rattle.script.specs.Answers.{Gives, Leaves, Reads, Takes};
+ghost use Rattle.nv_base.specs.Refusals.{Gives, Leaves};
 ghost use Rattle.script.specs.Blocks.{block_after, code_after, code_line_after, code_lines_after, code_of as code_words_of, code_word as code_word_of, header_of as words_header, hex_word as hex, is_ended, program_after, with_words};
 ghost use Rattle.script.specs.Views.{header_of};
 
@@ -47,7 +47,7 @@ fn code_word(word: &[u8]) -> Result<u32, LineRefusal>
 {
     match hex_word(word) {
         Some(value) => Ok(value),
-        None => Err(LineRefusal::Fault(ScriptCause::Number)),
+        None => Err(LineRefusal::At(ScriptCause::Number)),
     }
 }
 
@@ -67,7 +67,7 @@ fn take_code_line(code: &mut WordList, line: &[u8]) -> Result<(), LineRefusal>
     ensures { Leaves code.new result (code_line_after code.old line.now) }
 {
     if !is_plain(line) {
-        return Err(LineRefusal::Fault(ScriptCause::Byte));
+        return Err(LineRefusal::At(ScriptCause::Byte));
     }
     let words = Words::new(line);
     let mut others = words;
@@ -75,11 +75,11 @@ fn take_code_line(code: &mut WordList, line: &[u8]) -> Result<(), LineRefusal>
         return Ok(());
     };
     if hex_word(first).is_none() {
-        return Err(LineRefusal::Fault(ScriptCause::Word));
+        return Err(LineRefusal::At(ScriptCause::Word));
     }
     push_words(code, words)?;
     if MOST_WORDS < code.as_slice().len() {
-        return Err(LineRefusal::Fault(ScriptCause::Many));
+        return Err(LineRefusal::At(ScriptCause::Many));
     }
     Ok(())
 }
@@ -88,7 +88,7 @@ fn take_code_line(code: &mut WordList, line: &[u8]) -> Result<(), LineRefusal>
 #[tactic(auto, unfolding(crate::specs::Blocks::code_lines_after), using(crate::proofs::BodyLines::lines_next, crate::proofs::BodyLines::lines_over))]
 fn code_lines(alloc: Global, n: u32, body: &[&[u8]]) -> Result<WordList, ScriptRefusal>
     requires { n + length body.now < 2 ^ 32 }
-    ensures { Reads (λ code. code) result (code_lines_after n [] (map (λ line. line.now) body.now)) }
+    ensures { Gives (λ code. code) result (code_lines_after n [] (map (λ line. line.now) body.now)) }
 {
     let mut code = WordList::new(alloc);
     let mut number = n;
@@ -110,7 +110,7 @@ fn code_of(
 ) -> Result<WordList, ScriptRefusal>
     requires few { length body.now ≤ MAX_INPUT }
     requires numbers { n + length body.now + 1 < 2 ^ 32 }
-    ensures { Reads (λ code. code) result (code_words_of kind n (map (λ line. line.now) body.now)) }
+    ensures { Gives (λ code. code) result (code_words_of kind n (map (λ line. line.now) body.now)) }
 {
     match kind {
         BlockKind::Program => program_code(alloc, n, body),
@@ -123,13 +123,13 @@ fn end_line(end: Option<&[u8]>) -> Result<&[u8], LineRefusal>
     ensures { Gives (λ line. line.now) result (is_ended (option_map (λ line. line.now) end.entry)) }
 {
     let Some(line) = end else {
-        return Err(LineRefusal::Fault(ScriptCause::End));
+        return Err(LineRefusal::At(ScriptCause::End));
     };
     if !is_plain(line) {
-        return Err(LineRefusal::Fault(ScriptCause::Byte));
+        return Err(LineRefusal::At(ScriptCause::Byte));
     }
     if Words::new(line).word_count() != 1 {
-        return Err(LineRefusal::Fault(ScriptCause::Count));
+        return Err(LineRefusal::At(ScriptCause::Count));
     }
     Ok(line)
 }
@@ -146,7 +146,7 @@ impl Draft {
         let name = new_program_name(self.set.programs.as_slice(), name_word)?;
         let fuel = number(1, MAX_FUEL, fuel_word)?;
         if self.set.programs.as_slice().len() == usize::from(MAX_PROGRAMS) {
-            return Err(LineRefusal::Fault(ScriptCause::Many));
+            return Err(LineRefusal::At(ScriptCause::Many));
         }
         Ok(Header { name, fuel })
     }
@@ -165,7 +165,7 @@ impl Draft {
     {
         let _line = end_line(end)?;
         if (self.set.memory as usize) < 4 * code.as_slice().len() {
-            return Err(LineRefusal::Fault(ScriptCause::Many));
+            return Err(LineRefusal::At(ScriptCause::Many));
         }
         self.set.programs.push(ProgPart {
             name: Name::from_slice(alloc, header.name)?,
@@ -186,7 +186,7 @@ impl Draft {
     ) -> Result<(), ScriptRefusal>
         requires few { length block.body.items ≤ MAX_INPUT }
         requires numbers { n + length block.body.items + 1 < 2 ^ 32 }
-        ensures { Takes self.new result (block_after n self.old block.entry.kind (words_left block.entry.words) (map (λ line. line.now) block.entry.body.items) (option_map (λ line. line.now) block.entry.end)) }
+        ensures { Leaves self.new result (block_after n self.old block.entry.kind (words_left block.entry.words) (map (λ line. line.now) block.entry.body.items) (option_map (λ line. line.now) block.entry.end)) }
     {
         let header = match self.header(block.words) {
             Ok(header) => header,

@@ -2,7 +2,7 @@
 
 ghost use Rattle.std.specs.Prelude.{◌≡◌, ◌≤◌, length};
 ghost use Rattle.plain_text.specs.Left.{words_left};
-ghost use Rattle.script.specs.Answers.{Gives, Leaves};
+ghost use Rattle.nv_base.specs.Refusals.{Gives, Leaves};
 ghost use Rattle.script.specs.Lines.{found, keyword_after, line_after};
 ghost use Rattle.script.specs.Keywords.{keyword_of as keyword};
 ghost use Rattle.script.specs.declared.keyword.Keyword.TheVariants.{Run};
@@ -61,7 +61,7 @@ fn keyword_in(word: &[u8]) -> Result<Keyword, LineRefusal>
 {
     match keyword_of(word) {
         Some(keyword) => Ok(keyword),
-        None => Err(LineRefusal::Fault(ScriptCause::Word)),
+        None => Err(LineRefusal::At(ScriptCause::Word)),
     }
 }
 
@@ -82,7 +82,7 @@ impl Draft {
         ensures { Leaves self.now result (keyword_after Run 0 self.now (words_left words.entry)) }
     {
         if words.next().is_some() {
-            return Err(LineRefusal::Fault(ScriptCause::Count));
+            return Err(LineRefusal::At(ScriptCause::Count));
         }
         Ok(())
     }
@@ -125,7 +125,7 @@ impl Draft {
         ensures { Leaves self.new result (line_after n self.old line.now) }
     {
         if !is_plain(line) {
-            return Err(LineRefusal::Fault(ScriptCause::Byte));
+            return Err(LineRefusal::At(ScriptCause::Byte));
         }
         let mut words = Words::new(line);
         let Some(first) = words.next() else {

@@ -5,7 +5,7 @@ ghost use Rattle.std.specs.List.{list_all};
 ghost use Rattle.plain_text.specs.Left.{words_left};
 ghost use Rattle.power_trace.specs.Items.{item_of};
 ghost use Rattle.schedule_model.specs.Limits.{step_count as steps_of_item, steps_together};
-ghost use Rattle.script.specs.Answers.{Gives};
+ghost use Rattle.nv_base.specs.Refusals.{Gives};
 ghost use Rattle.script.specs.Results.{each};
 ghost use Rattle.script.specs.ScheduleLines.{are_times as are, is_star, on_times as on_times_word, on_times_within as times_within, steps as steps_word, steps_within as within, times_together};
 
@@ -38,10 +38,10 @@ fn on_times_within(time: Option<u64>, times: Option<u64>) -> Result<OnTimes, Lin
     ensures { Gives (λ on. on) result (times_within time times) }
 {
     let (Some(time), Some(times)) = (time, times) else {
-        return Err(LineRefusal::Fault(ScriptCause::Number));
+        return Err(LineRefusal::At(ScriptCause::Number));
     };
     if !(time <= u64::from(MAX_EVENTS) && are_times(times)) {
-        return Err(LineRefusal::Fault(ScriptCause::Range));
+        return Err(LineRefusal::At(ScriptCause::Range));
     }
     Ok(OnTimes {
         time: time as u32,
@@ -98,13 +98,13 @@ fn steps_within(
     ensures { Gives item_of result (within cores digits.now times) }
 {
     let Some(times) = times else {
-        return Err(LineRefusal::Fault(ScriptCause::Number));
+        return Err(LineRefusal::At(ScriptCause::Number));
     };
     if !is_numeral(10, 32, digits) {
-        return Err(LineRefusal::Fault(ScriptCause::Number));
+        return Err(LineRefusal::At(ScriptCause::Number));
     }
     if !(are_cores(cores, digits) && are_times(times)) {
-        return Err(LineRefusal::Fault(ScriptCause::Range));
+        return Err(LineRefusal::At(ScriptCause::Range));
     }
     Ok(StepItem::Steps {
         cores: core_list(alloc, digits)?,

@@ -2,7 +2,7 @@
 
 ghost use Rattle.std.specs.Prelude.{◌≡◌, ℕ, List, Ok, Err};
 ghost use Rattle.std.specs.Str.Lines.{lines};
-ghost use Rattle.script.specs.declared.refusals.ScriptError.{ScriptError};
+ghost use Rattle.script.specs.Causes.{ScriptError};
 ghost use Rattle.script.specs.Laws.{IsFirstRefused, IsLaidOut, IsWithinLimits, stages_of};
 ghost use Rattle.script.specs.Parts.{Script, nothing};
 ghost use Rattle.script.specs.Reading.{read, sections_after};

@@ -11,20 +11,14 @@ mod reading;
 mod refusals;
 mod section;
 mod set_lines;
-mod set_text;
 mod status;
-mod text_laws;
 mod timeline;
 mod words;
 
 pub use keyword::{BlockKind, Keyword, Stage};
 pub use reading::{Script, read_script};
 pub use refusals::{ScriptCause, ScriptError, ScriptRefusal};
-pub use set_text::script_text;
 pub use status::{ImageFault, Status};
-pub use text_laws::script_text_is_read_back;
 
 #[cfg(test)]
 mod tests;
-#[cfg(test)]
-mod text_tests;

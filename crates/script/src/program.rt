@@ -1,32 +1,17 @@
 //! The lines of a `program` block, as the assembler reads them.
 
-ghost use Rattle.std.specs.Prelude.{◌≡◌, ◌+◌, ◌<◌, ◌≤◌, ◌^◌, map, length, position, IfOk, IfSome, Some, None};
+ghost use Rattle.std.specs.Prelude.{◌≡◌, ◌+◌, ◌<◌, ◌≤◌, ◌^◌, map, length, IfOk, Some, None};
 ghost use Rattle.rv_asm.specs.Assembly.{assembled};
-ghost use Rattle.script.specs.declared.refusals.ScriptRefusal.TheVariants.{At};
-ghost use Rattle.script.specs.Answers.{Reads, Refuses};
-ghost use Rattle.script.specs.Blocks.{earlier, fault_at, is_bad, or_empty, program_code as program_words};
+ghost use Rattle.nv_base.specs.declared.refusals.Refusal.TheVariants.{At};
+ghost use Rattle.nv_base.specs.Refusals.{Gives, Refuses};
+ghost use Rattle.script.specs.Blocks.{earlier, fault_at, or_empty, program_code as program_words};
 
 use crate::refusals::{ScriptCause, ScriptError, ScriptRefusal};
 use nv_base::limits::MAX_INPUT;
-use plain_text::is_plain;
+use plain_text::{first_bad, is_plain};
 use rv_asm::{AsmError, AsmRefusal, assemble_lines};
 use std::alloc::{AllocError, Global};
 use task_set::Words as WordList;
-
-fn bad_place(body: &[&[u8]]) -> Option<usize>
-    ensures first { result ≡ position (λ line. is_bad line.now) body.now }
-    ensures within { IfSome result (λ place. place < length body.now) }
-{
-    body.iter().position(|line| !is_plain(line))
-}
-
-/// The place of the first line that has a byte that is not allowed.
-fn first_bad(body: &[&[u8]]) -> Option<usize>
-    ensures first { result ≡ position is_bad (map (λ line. line.now) body.now) }
-    ensures within { IfSome result (λ place. place < length body.now) }
-{
-    bad_place(body)
-}
 
 /// The lines, empty where they have a byte that is not allowed.
 fn or_empties<'a>(alloc: Global, body: &[&'a [u8]]) -> Result<Vec<&'a [u8]>, AllocError>
@@ -56,7 +41,7 @@ fn fault(n: u32, error: AsmError) -> ScriptRefusal
 fn plain_code(alloc: Global, n: u32, lines: &[&[u8]]) -> Result<WordList, ScriptRefusal>
     requires few { length lines.now ≤ MAX_INPUT }
     requires numbers { n + length lines.now + 1 < 2 ^ 32 }
-    ensures { Reads (λ code. code) result (earlier n None (assembled (map (λ line. line.now) lines.now))) }
+    ensures { Gives (λ code. code) result (earlier n None (assembled (map (λ line. line.now) lines.now))) }
 {
     match assemble_lines(alloc, lines) {
         Ok(words) => Ok(WordList::from_slice(alloc, &words)?),
@@ -88,7 +73,7 @@ fn bad_code(alloc: Global, n: u32, place: usize, lines: &[&[u8]]) -> ScriptRefus
 pub(crate) fn program_code(alloc: Global, n: u32, body: &[&[u8]]) -> Result<WordList, ScriptRefusal>
     requires few { length body.now ≤ MAX_INPUT }
     requires numbers { n + length body.now + 1 < 2 ^ 32 }
-    ensures { Reads (λ code. code) result (program_words n (map (λ line. line.now) body.now)) }
+    ensures { Gives (λ code. code) result (program_words n (map (λ line. line.now) body.now)) }
 {
     match first_bad(body) {
         None => plain_code(alloc, n, body),

@@ -2,9 +2,9 @@
 
 ghost use Rattle.std.specs.Prelude.{◌≡◌, ◌≤◌, ◌<◌, ◌+◌, ◌^◌, ◌⊎◌, length, Err, Some, Ok};
 ghost use Rattle.std.specs.Str.Lines.{lines};
-ghost use Rattle.script.specs.Answers.{Reads, Takes};
+ghost use Rattle.nv_base.specs.Refusals.{Gives, Leaves};
 ghost use Rattle.script.specs.declared.keyword.Stage.TheVariants.{Run};
-ghost use Rattle.script.specs.declared.refusals.ScriptRefusal.TheVariants.{At};
+ghost use Rattle.nv_base.specs.declared.refusals.Refusal.TheVariants.{At};
 ghost use Rattle.script.specs.Laws.{IsWithinLimits};
 ghost use Rattle.script.specs.Parts.{nothing, script_of};
 ghost use Rattle.script.specs.Reading.{ended, read, section_after, sections_after};
@@ -20,7 +20,7 @@ use plain_text::Lines;
 use power_trace::Schedule;
 use rv_asm::words_are_few;
 use std::alloc::Global;
-use task_set::{SetRefusal, TaskSet};
+use task_set::TaskSet;
 
 /// The most bytes that a script may have.
 const LONGEST: usize = MAX_INPUT as usize;
@@ -55,9 +55,9 @@ impl Draft {
         n: u32,
         section: Section<'_>,
     ) -> Result<(), ScriptRefusal>
-        requires few { line_count (section_of section) ≤ 1048578 }
+        requires few { line_count (section_of section) ≤ MAX_INPUT + 2 }
         requires numbers { n + line_count (section_of section) < 2 ^ 32 }
-        ensures { Takes self.new result (section_after n self.old (section_of section.entry)) }
+        ensures { Leaves self.new result (section_after n self.old (section_of section.entry)) }
     {
         match section {
             Section::Line(line) => match self.take_line(alloc, n, line) {
@@ -73,7 +73,7 @@ impl Draft {
 #[tactic(auto, unfolding(crate::specs::Reading::sections_after))]
 fn read_sections(alloc: Global, bytes: &[u8]) -> Result<(Draft, u32), ScriptRefusal>
     requires { length bytes.now ≤ MAX_INPUT }
-    ensures { Reads (λ r. (r.1, r.0)) result (sections_after 1 nothing (sections (lines bytes.now))) }
+    ensures { Gives (λ r. (r.1, r.0)) result (sections_after 1 nothing (sections (lines bytes.now))) }
 {
     let mut draft = Draft::new(alloc);
     let mut lines = Lines::new(bytes);
@@ -91,7 +91,7 @@ fn read_sections(alloc: Global, bytes: &[u8]) -> Result<(Draft, u32), ScriptRefu
 /// The script that whole lines give.
 fn whole(alloc: Global, draft: Draft) -> Result<Script, ScriptRefusal>
     requires { IsWithinLimits (script_of draft) }
-    ensures { Reads script result (Ok (script_of draft)) }
+    ensures { Gives script result (Ok (script_of draft)) }
 {
     let Draft {
         cores_line,
@@ -100,15 +100,11 @@ fn whole(alloc: Global, draft: Draft) -> Result<Script, ScriptRefusal>
         ..
     } = draft;
     let schedule = timeline.schedule(alloc, set.cores)?;
-    match TaskSet::build(alloc, set) {
-        Ok(set) => Ok(Script {
-            set,
-            schedule,
-            cores_line,
-        }),
-        Err(SetRefusal::NoMemory) => Err(ScriptRefusal::NoMemory),
-        Err(SetRefusal::Limit(_) | SetRefusal::Name) => unreachable!(),
-    }
+    Ok(Script {
+        set: TaskSet::of(set),
+        schedule,
+        cores_line,
+    })
 }
 
 fn refused(line: u32, cause: ScriptCause) -> ScriptRefusal
@@ -120,7 +116,7 @@ fn refused(line: u32, cause: ScriptCause) -> ScriptRefusal
 /// The script, where its last line is `run`. Line `n` is behind the last one.
 fn finish(alloc: Global, draft: Draft, n: u32) -> Result<Script, ScriptRefusal>
     requires { draft.last ≡ Some Run → IsWithinLimits (script_of draft) }
-    ensures reads { Reads script result (ended (n, draft)) }
+    ensures reads { Gives script result (ended (n, draft)) }
     ensures no_run { (draft.last ≡ Some Run) ⊎ (result ≡ Err (At (record { line = n; cause = ScriptCause.End }))) }
 {
     match draft.last {
@@ -133,7 +129,7 @@ fn finish(alloc: Global, draft: Draft, n: u32) -> Result<Script, ScriptRefusal>
 /// first line that is refused and its first cause, `NoMemory` where there was not memory enough.
 #[tactic(auto, unfolding(crate::specs::Reading::read))]
 pub fn read_script(alloc: Global, bytes: &[u8]) -> Result<Script, ScriptRefusal>
-    ensures reads { Reads script result (read bytes.now) }
+    ensures reads { Gives script result (read bytes.now) }
     ensures long { MAX_INPUT < length bytes.now → result ≡ Err (At (record { line = 0; cause = ScriptCause.Long })) }
 {
     if LONGEST < bytes.len() {

@@ -1,14 +1,11 @@
 //! Why a script is refused.
 
 ghost use Rattle.std.specs.Prelude.{◌≡◌};
-ghost use Rattle.script.specs.declared.refusals.LineRefusal.TheVariants.{Memory, Fault};
-ghost use Rattle.script.specs.declared.refusals.ScriptRefusal.TheVariants.{NoMemory as ScriptNoMemory};
-ghost use Rattle.script.specs.Words.{cause_of};
+ghost use Rattle.script.specs.Words.{cause_of as cause_of_fault};
 
-use nv_base::NoMemory;
+use nv_base::{LineError, Refusal};
 use plain_text::NumberFault;
 use rv_asm::AsmCause;
-use std::alloc::{AllocError, AllocFailed};
 
 /// What is wrong with a line. This project's own, in the order of their numbers, from 1.
 #[derive(Clone, Copy, PartialEq, Eq, Debug)]
@@ -64,91 +61,20 @@ impl ScriptCause {
 }
 
 /// The first line that is refused, from 1, and its first cause.
-#[derive(Clone, Copy, PartialEq, Eq, Debug)]
-pub struct ScriptError {
-    /// The number of the line.
-    pub line: u32,
-    /// What is wrong with it.
-    pub cause: ScriptCause,
-}
+pub type ScriptError = LineError<ScriptCause>;
 
-/// Why a script was not read.
-#[derive(Clone, Copy, PartialEq, Eq, Debug)]
-pub enum ScriptRefusal {
-    /// A line is refused: no line before it is.
-    At(ScriptError),
-    /// There was not memory enough.
-    NoMemory,
-}
+/// Why a script was not read: `At` with the line that is refused, before which none is, or `NoMemory`.
+pub type ScriptRefusal = Refusal<ScriptError>;
 
 /// Why a line was not taken.
-#[derive(Clone, Copy, PartialEq, Eq, Debug)]
-pub(crate) enum LineRefusal {
-    Fault(ScriptCause),
-    Memory,
-}
+pub(crate) type LineRefusal = Refusal<ScriptCause>;
 
-impl LineRefusal {
-    ghost use Rattle.script.specs.Answers.{refusal_at};
-
-    /// The refusal of line `n`.
-    pub(crate) fn at(self, n: u32) -> ScriptRefusal
-        ensures { result ≡ refusal_at n self }
-    {
-        match self {
-            LineRefusal::Fault(cause) => ScriptRefusal::At(ScriptError { line: n, cause }),
-            LineRefusal::Memory => ScriptRefusal::NoMemory,
-        }
-    }
-}
-
-impl From<NumberFault> for LineRefusal {
-    ghost from_gives = { λ f e. e ≡ Fault (cause_of f) };
-
-    fn from(fault: NumberFault) -> LineRefusal {
-        LineRefusal::Fault(match fault {
-            NumberFault::Number => ScriptCause::Number,
-            NumberFault::Range => ScriptCause::Range,
-        })
-    }
-}
-
-impl From<AllocError> for LineRefusal {
-    ghost from_gives = { λ _ e. e ≡ Memory };
-
-    fn from(_error: AllocError) -> LineRefusal {
-        LineRefusal::Memory
-    }
-}
-
-impl<T: Drop> From<AllocFailed<T>> for LineRefusal {
-    ghost from_gives = { λ _ e. e ≡ Memory };
-
-    fn from(_error: AllocFailed<T>) -> LineRefusal {
-        LineRefusal::Memory
-    }
-}
-
-impl From<NoMemory> for LineRefusal {
-    ghost from_gives = { λ _ e. e ≡ Memory };
-
-    fn from(_error: NoMemory) -> LineRefusal {
-        LineRefusal::Memory
-    }
-}
-
-impl From<AllocError> for ScriptRefusal {
-    ghost from_gives = { λ _ e. e ≡ ScriptNoMemory };
-
-    fn from(_error: AllocError) -> ScriptRefusal {
-        ScriptRefusal::NoMemory
-    }
-}
-
-impl From<NoMemory> for ScriptRefusal {
-    ghost from_gives = { λ _ e. e ≡ ScriptNoMemory };
-
-    fn from(_error: NoMemory) -> ScriptRefusal {
-        ScriptRefusal::NoMemory
+/// The cause of a number that is refused.
+pub(crate) fn cause_of(fault: NumberFault) -> ScriptCause
+    ensures { result ≡ cause_of_fault fault }
+{
+    match fault {
+        NumberFault::Number => ScriptCause::Number,
+        NumberFault::Range => ScriptCause::Range,
     }
 }

@@ -3,7 +3,7 @@
 ghost use Rattle.std.specs.Prelude.{◌≡◌, ◌<◌, ◌≤◌, length, nat_eq, replicate, IfOk, IfSome};
 ghost use Rattle.std.specs.Cmp.Lexicographic.{pointwise};
 ghost use Rattle.plain_text.specs.Left.{words_left};
-ghost use Rattle.script.specs.Answers.{Gives, Leaves};
+ghost use Rattle.nv_base.specs.Refusals.{Gives, Leaves};
 ghost use Rattle.script.specs.Results.{each};
 ghost use Rattle.script.specs.SetLines.{cores_after, format_after, first_values as first_words, memory_after, object_after, records_after, task_after};
 ghost use Rattle.script.specs.Words.{known_name, new_name, place_of, value as value_word};
@@ -75,7 +75,7 @@ pub(crate) fn take_memory(set: &mut SetParts, words: Words<'_>) -> Result<(), Li
 {
     let memory = number(MIN_MEMORY, MAX_MEMORY, one(words)?)?;
     if memory % 4 != 0 {
-        return Err(LineRefusal::Fault(ScriptCause::Range));
+        return Err(LineRefusal::At(ScriptCause::Range));
     }
     set.memory = memory;
     Ok(())
@@ -97,10 +97,10 @@ fn new_object_name<'a>(objects: &[ObjPart], word: &'a [u8]) -> Result<&'a [u8], 
     ensures { Gives (λ w. w.now) result (new_name (λ o. o.name) objects.now word.entry.now) }
 {
     if !is_name(word) {
-        return Err(LineRefusal::Fault(ScriptCause::Name));
+        return Err(LineRefusal::At(ScriptCause::Name));
     }
     if object_place(objects, word).is_some() {
-        return Err(LineRefusal::Fault(ScriptCause::Twice));
+        return Err(LineRefusal::At(ScriptCause::Twice));
     }
     Ok(word)
 }
@@ -113,10 +113,10 @@ pub(crate) fn new_program_name<'a>(
     ensures { Gives (λ w. w.now) result (new_name (λ p. p.name) programs.now word.entry.now) }
 {
     if !is_name(word) {
-        return Err(LineRefusal::Fault(ScriptCause::Name));
+        return Err(LineRefusal::At(ScriptCause::Name));
     }
     if program_place(programs, word).is_some() {
-        return Err(LineRefusal::Fault(ScriptCause::Twice));
+        return Err(LineRefusal::At(ScriptCause::Twice));
     }
     Ok(word)
 }
@@ -127,11 +127,11 @@ fn known_program(programs: &[ProgPart], word: &[u8]) -> Result<usize, LineRefusa
     ensures within { IfOk result (λ place. place < length programs.now) }
 {
     if !is_name(word) {
-        return Err(LineRefusal::Fault(ScriptCause::Name));
+        return Err(LineRefusal::At(ScriptCause::Name));
     }
     match program_place(programs, word) {
         Some(place) => Ok(place),
-        None => Err(LineRefusal::Fault(ScriptCause::Unknown)),
+        None => Err(LineRefusal::At(ScriptCause::Unknown)),
     }
 }
 
@@ -164,7 +164,7 @@ fn first_values(alloc: Global, size: u32, words: Words<'_>) -> Result<WordList, 
         return Ok(zeros(alloc, size)?);
     }
     if count != size as usize {
-        return Err(LineRefusal::Fault(ScriptCause::Count));
+        return Err(LineRefusal::At(ScriptCause::Count));
     }
     values(alloc, words)
 }
@@ -185,7 +185,7 @@ pub(crate) fn take_object(
     let slots = number(u32::from(MIN_SLOTS), u32::from(MAX_SLOTS), slots)?;
     let first = first_values(alloc, size, words)?;
     if set.objects.as_slice().len() == usize::from(max_objects(set.format)) {
-        return Err(LineRefusal::Fault(ScriptCause::Many));
+        return Err(LineRefusal::At(ScriptCause::Many));
     }
     set.objects.push(ObjPart {
         name: Name::from_slice(alloc, name)?,
@@ -207,7 +207,7 @@ pub(crate) fn take_task(set: &mut SetParts, words: Words<'_>) -> Result<(), Line
     let place = known_program(set.programs.as_slice(), name)?;
     let arg = value(arg)?;
     if set.tasks.as_slice().len() == usize::from(set.records) {
-        return Err(LineRefusal::Fault(ScriptCause::Many));
+        return Err(LineRefusal::At(ScriptCause::Many));
     }
     let program = ProgId(place as u8);
     set.tasks.push(Spawn { program, arg })?;

@@ -4,7 +4,7 @@ ghost use Rattle.std.specs.Prelude.{◌≡◌, ◌++◌, replicate, IfOk, OnOk};
 ghost use Rattle.std.specs.List.{flat_map};
 ghost use Rattle.plain_text.specs.Left.{words_left};
 ghost use Rattle.schedule_model.specs.Limits.{IsSchedule};
-ghost use Rattle.script.specs.Answers.{Leaves};
+ghost use Rattle.nv_base.specs.Refusals.{Leaves};
 ghost use Rattle.script.specs.Parts.{no_events};
 ghost use Rattle.script.specs.ScheduleLines.{mix_after, power_after, steps_after};
 
@@ -81,12 +81,12 @@ impl Timeline {
         ensures { Leaves self.new result (power_after self.old (words_left words.entry)) }
     {
         if words.word_count() == 0 {
-            return Err(LineRefusal::Fault(ScriptCause::Count));
+            return Err(LineRefusal::At(ScriptCause::Count));
         }
         let all = all_on_times(alloc, words)?;
         let count = on_time_total(self.count, &all);
         if MOST_EVENTS < count {
-            return Err(LineRefusal::Fault(ScriptCause::Many));
+            return Err(LineRefusal::At(ScriptCause::Many));
         }
         let mut on_times = one_by_one(alloc, &all)?;
         self.on_times.append(&mut on_times)?;
@@ -105,12 +105,12 @@ impl Timeline {
         ensures { Leaves self.new result (steps_after cores self.old (words_left words.entry)) }
     {
         if words.word_count() == 0 {
-            return Err(LineRefusal::Fault(ScriptCause::Count));
+            return Err(LineRefusal::At(ScriptCause::Count));
         }
         let mut items = all_steps(alloc, cores, words)?;
         let count = step_total(self.count, &items);
         if MOST_EVENTS < count {
-            return Err(LineRefusal::Fault(ScriptCause::Many));
+            return Err(LineRefusal::At(ScriptCause::Many));
         }
         self.items.append(&mut items)?;
         self.count = count as u32;
@@ -127,7 +127,7 @@ impl Timeline {
         let count = number(1, MAX_EVENTS, count_word)?;
         let total = self.count + count;
         if MOST_EVENTS < u64::from(total) {
-            return Err(LineRefusal::Fault(ScriptCause::Many));
+            return Err(LineRefusal::At(ScriptCause::Many));
         }
         self.items.push(StepItem::Mix { seed, count })?;
         self.count = total;
@@ -135,10 +135,10 @@ impl Timeline {
     }
 
     /// The schedule on so many cores. `NoMemory` where it could not be kept.
-    pub(crate) fn schedule(&self, alloc: Global, cores: u8) -> Result<Schedule, NoMemory>
-        requires { IsSchedule (record { cores = cores; items = self.now.items; on_times = self.now.on_times }) }
-        ensures { IfOk result (λ s. s ≡ record { cores = cores; items = self.now.items; on_times = self.now.on_times }) }
+    pub(crate) fn schedule(self, alloc: Global, cores: u8) -> Result<Schedule, NoMemory>
+        requires { IsSchedule (record { cores = cores; items = self.items; on_times = self.on_times }) }
+        ensures { IfOk result (λ s. s ≡ record { cores = cores; items = self.items; on_times = self.on_times }) }
     {
-        Schedule::of(alloc, cores, &self.items, &self.on_times)
+        Schedule::of_lists(alloc, cores, self.items, self.on_times)
     }
 }

@@ -2,12 +2,12 @@
 
 ghost use Rattle.std.specs.Prelude.{◌≡◌, ◌≤◌, IfOk};
 ghost use Rattle.plain_text.specs.Left.{words_left};
-ghost use Rattle.script.specs.Answers.{Gives};
+ghost use Rattle.nv_base.specs.Refusals.{Gives};
 ghost use Rattle.script.specs.Results.{each};
 ghost use Rattle.script.specs.Words.{allowed as allowed_stage, number as number_word, one as one_word, three as three_words, two as two_words, value as value_word};
 
 use crate::keyword::{Stage, may_follow};
-use crate::refusals::{LineRefusal, ScriptCause};
+use crate::refusals::{LineRefusal, ScriptCause, cause_of};
 use plain_text::{Words, number_in, word_value};
 
 /// A number within its limits.
@@ -15,14 +15,20 @@ pub(crate) fn number(low: u32, high: u32, word: &[u8]) -> Result<u32, LineRefusa
     ensures exact { Gives (λ n. n) result (number_word low high word.now) }
     ensures within { IfOk result (λ n. (low ≤ n) × (n ≤ high)) }
 {
-    Ok(number_in(low, high, word)?)
+    match number_in(low, high, word) {
+        Ok(number) => Ok(number),
+        Err(fault) => Err(LineRefusal::At(cause_of(fault))),
+    }
 }
 
 /// A word value.
 pub(crate) fn value(word: &[u8]) -> Result<u32, LineRefusal>
     ensures { Gives (λ n. n) result (value_word word.now) }
 {
-    Ok(word_value(word)?)
+    match word_value(word) {
+        Ok(value) => Ok(value),
+        Err(fault) => Err(LineRefusal::At(cause_of(fault))),
+    }
 }
 
 /// The one word there is.
@@ -31,7 +37,7 @@ pub(crate) fn one(mut words: Words<'_>) -> Result<&[u8], LineRefusal>
 {
     match (words.next(), words.next()) {
         (Some(word), None) => Ok(word),
-        _ => Err(LineRefusal::Fault(ScriptCause::Count)),
+        _ => Err(LineRefusal::At(ScriptCause::Count)),
     }
 }
 
@@ -41,7 +47,7 @@ pub(crate) fn two(mut words: Words<'_>) -> Result<(&[u8], &[u8]), LineRefusal>
 {
     match (words.next(), words.next(), words.next()) {
         (Some(first), Some(second), None) => Ok((first, second)),
-        _ => Err(LineRefusal::Fault(ScriptCause::Count)),
+        _ => Err(LineRefusal::At(ScriptCause::Count)),
     }
 }
 
@@ -51,7 +57,7 @@ pub(crate) fn three(mut words: Words<'_>) -> Result<(&[u8], &[u8], &[u8], Words<
 {
     match (words.next(), words.next(), words.next()) {
         (Some(first), Some(second), Some(third)) => Ok((first, second, third, words)),
-        _ => Err(LineRefusal::Fault(ScriptCause::Count)),
+        _ => Err(LineRefusal::At(ScriptCause::Count)),
     }
 }
 
@@ -60,7 +66,7 @@ pub(crate) fn allowed(last: Option<Stage>, stage: Stage) -> Result<Stage, LineRe
     ensures { Gives (λ s. s) result (allowed_stage last stage) }
 {
     if !may_follow(last, stage) {
-        return Err(LineRefusal::Fault(ScriptCause::Word));
+        return Err(LineRefusal::At(ScriptCause::Word));
     }
     Ok(stage)
 }

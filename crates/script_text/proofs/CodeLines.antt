@@ -32,8 +32,8 @@ use Rattle.rv_isa.specs.declared.instruction.RegOp.TheVariants.{Add, Sub, Sll, S
 use Rattle.rv_isa.specs.declared.instruction.Instr.{Instr}
 use Rattle.rv_isa.specs.declared.instruction.Instr.TheVariants.{Lui, Auipc, Jal, Jalr, Branch, Load, Store, OpImm, Op, Fence, Ecall, Ebreak}
 use Rattle.script.specs.Sections.{ends}
-use Rattle.script.proofs.WrittenLines.{is_line_byte, is_word_byte, IsWritten, IsLine, word_line, spaced_words, before_comment, no_blanks}
-use Rattle.script.proofs.WrittenWords.{decimal_written}
+use Rattle.script_text.proofs.WrittenLines.{is_line_byte, is_word_byte, IsWritten, IsLine, word_line, spaced_words, before_comment, no_blanks}
+use Rattle.script_text.proofs.WrittenWords.{decimal_written}
 
 -- bytes of a line, and at most so many
 record IsPiece (most : ℕ) (l : List ℕ) : Type 0 where

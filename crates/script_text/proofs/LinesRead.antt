@@ -16,9 +16,9 @@ use Rattle.script.specs.SetLines.{first_values, object_after, task_after}
 use Rattle.script.specs.Blocks.{header_of, program_after}
 use Rattle.script.specs.Parts.{Parts, no_events}
 use Rattle.script.specs.Lines.{words_after, line_after}
-use Rattle.script.proofs.WrittenLines.{IsWritten, spaced, spaced_line, spaced_words, line_is_plain}
-use Rattle.script.proofs.WrittenWords.{number_back, value_back, values_back}
-use Rattle.script.proofs.NamesRead.{is_new}
+use Rattle.script_text.proofs.WrittenLines.{IsWritten, spaced, spaced_line, spaced_words, line_is_plain}
+use Rattle.script_text.proofs.WrittenWords.{number_back, value_back, values_back}
+use Rattle.script_text.proofs.NamesRead.{is_new}
 
 -- ---- the set so far
 

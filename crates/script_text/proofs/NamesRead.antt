@@ -5,7 +5,7 @@ use Rattle.std.specs.Cmp.Lexicographic.{pointwise, same_text, other_text}
 use Rattle.std.proofs.lemmas.Bool.{cases_Bool, lt-ltb, le-ltb}
 use Rattle.set_model.specs.Names.{IsName, AreDistinct}
 use Rattle.script.specs.Words.{new_name, known_name}
-use Rattle.script.proofs.WrittenWords.{name_is_name}
+use Rattle.plain_text.proofs.ForCallers.{name_told}
 
 differ : (a b : List ℕ) → a ≢ b → pointwise nat_eq a b ≡ false
 differ a b ne = elim (cases_Bool (pointwise nat_eq a b)) [
@@ -39,7 +39,7 @@ module _ {X : Type 0} (name_of : X → List ℕ) where
   pub is_new : (things : List X) (name : List ℕ) (others : List (List ℕ)) → IsName name → AreDistinct (map name_of things ++ name ∷ others) → new_name name_of things name ≡ Ok name
   is_new things name others h once =
       let none : ltb (length things) (length things) ≡ false = le-ltb _ _ (omega arith) in
-      rw (name_is_name name h, none_before things name others once, none) refl
+      rw (name_told name h, none_before things name others once, none) refl
 
   -- a thing is found at its own place
   found_at : (things : List X) (i : ℕ) (none : X) → AreDistinct (map name_of things) → i < length things → position_or_len (λ thing. pointwise nat_eq (name_of thing) (name_of (get_or things i none))) things ≡ i
@@ -52,4 +52,4 @@ module _ {X : Type 0} (name_of : X → List ℕ) where
   pub is_known : (things : List X) (i : ℕ) (none : X) → IsName (name_of (get_or things i none)) → AreDistinct (map name_of things) → i < length things → known_name name_of things (name_of (get_or things i none)) ≡ Ok i
   is_known things i none h once lt =
       let within : ltb i (length things) ≡ true = lt-ltb _ _ lt in
-      rw (name_is_name (name_of (get_or things i none)) h, found_at things i none once lt, within) refl
+      rw (name_told (name_of (get_or things i none)) h, found_at things i none once lt, within) refl

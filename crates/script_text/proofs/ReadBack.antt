@@ -16,15 +16,15 @@ use Rattle.set_model.specs.Sets.{ObjPart, ProgPart, TaskSet, program_at}
 use Rattle.set_model.specs.Limits.{IsObject, IsProgram, IsTask, IsTaskSet}
 use Rattle.set_model.specs.Names.{IsName, IsNamed}
 use Rattle.script.specs.Reading.{read}
-use Rattle.script.specs.ScriptText.{script_text, unscheduled}
-use Rattle.script.proofs.CodeLines.{AreWithin, words_code}
-use Rattle.script.proofs.LinesRead.{object_words, task_words}
-use Rattle.script.proofs.ScriptLines.{script_lines, text_joined, code_joined}
-use Rattle.script.proofs.ScriptSections.{IsWrittenProgram, IsWrittenSet, code_lines_are, script_lines_are, script_cut}
-use Rattle.script.proofs.SetRead.{AreAssembled, task_name, sections_read}
-use Rattle.script.proofs.TextLength.{text_is_short}
-use Rattle.script.proofs.WrittenLines.{IsWritten, joined_lines}
-use Rattle.script.proofs.WrittenWords.{decimal_written, decimals_written, name_written}
+use Rattle.script_text.specs.ScriptText.{script_text, unscheduled}
+use Rattle.script_text.proofs.CodeLines.{AreWithin, words_code}
+use Rattle.script_text.proofs.LinesRead.{object_words, task_words}
+use Rattle.script_text.proofs.ScriptLines.{script_lines, text_joined, code_joined}
+use Rattle.script_text.proofs.ScriptSections.{IsWrittenProgram, IsWrittenSet, code_lines_are, script_lines_are, script_cut}
+use Rattle.script_text.proofs.SetRead.{AreAssembled, task_name, sections_read}
+use Rattle.script_text.proofs.TextLength.{text_is_short}
+use Rattle.script_text.proofs.WrittenLines.{IsWritten, joined_lines}
+use Rattle.script_text.proofs.WrittenWords.{decimal_written, decimals_written, name_written}
 
 -- ---- the words of a set are written as words
 

@@ -7,9 +7,9 @@ use Rattle.std.proofs.lemmas.List.{append-nil}
 use Rattle.kernel_model.specs.Effects.{Spawn}
 use Rattle.rv_isa.specs.Texts.{text_of}
 use Rattle.set_model.specs.Sets.{ObjPart, ProgPart, TaskSet, program_at}
-use Rattle.script.specs.ScriptText.{field, number_text, object_text, code_text, program_text, task_text, script_text}
-use Rattle.script.proofs.LinesRead.{object_words, program_words, task_words}
-use Rattle.script.proofs.WrittenLines.{spaced, joined}
+use Rattle.script_text.specs.ScriptText.{field, number_text, object_text, code_text, program_text, task_text, script_text}
+use Rattle.script_text.proofs.LinesRead.{object_words, program_words, task_words}
+use Rattle.script_text.proofs.WrittenLines.{spaced, joined}
 
 -- ---- lines
 

@@ -10,10 +10,10 @@ use Rattle.script.specs.declared.keyword.BlockKind.{BlockKind}
 use Rattle.script.specs.declared.keyword.BlockKind.TheVariants as blocks
 use Rattle.script.specs.Keywords.{block_kind_of}
 use Rattle.script.specs.Sections.{Section, Single, Block, Open, open_of, opened, ends, sections_from, sections}
-use Rattle.script.proofs.CodeLines.{IsCode}
-use Rattle.script.proofs.LinesRead.{object_words, program_words, task_words}
-use Rattle.script.proofs.ScriptLines.{number_line, object_line, program_line, program_lines, task_line, script_lines}
-use Rattle.script.proofs.WrittenLines.{IsWritten, literal, IsLine, spaced, spaced_line, spaced_words, line_is_plain}
+use Rattle.script_text.proofs.CodeLines.{IsCode}
+use Rattle.script_text.proofs.LinesRead.{object_words, program_words, task_words}
+use Rattle.script_text.proofs.ScriptLines.{number_line, object_line, program_line, program_lines, task_line, script_lines}
+use Rattle.script_text.proofs.WrittenLines.{IsWritten, literal, IsLine, spaced, spaced_line, spaced_words, line_is_plain}
 
 -- ---- what is known of the words of a set
 

@@ -12,24 +12,26 @@ use Rattle.set_model.proofs.LimitFacts.{most_records}
 use Rattle.set_model.specs.Sets.{ObjPart, ProgPart, TaskSet, program_at}
 use Rattle.set_model.specs.Limits.{IsObject, IsProgram, IsTask, IsTaskSet, max_objects, max_records}
 use Rattle.set_model.specs.Names.{IsName, IsNamed, AreDistinct}
+use Rattle.plain_text.specs.BadLines.{is_bad}
 use Rattle.script.specs.declared.keyword.BlockKind.TheVariants as blocks
 use Rattle.script.specs.declared.keyword.Stage.{Stage}
 use Rattle.script.specs.declared.keyword.Stage.TheVariants as stages
 use Rattle.script.specs.Keywords.{may_follow}
 use Rattle.script.specs.SetLines.{format_after, cores_after, memory_after, records_after}
 use Rattle.script.specs.Words.{known_name}
-use Rattle.script.specs.Blocks.{at, or_empty, is_bad, program_code, block_after}
+use Rattle.nv_base.specs.Refusals.{at}
+use Rattle.script.specs.Blocks.{or_empty, program_code, block_after}
 use Rattle.script.specs.Parts.{Parts, nothing, no_set, no_events}
 use Rattle.script.specs.Lines.{words_after, line_after}
 use Rattle.script.specs.Sections.{Section, Single, line_count}
 use Rattle.script.specs.Reading.{section_after, sections_after}
-use Rattle.script.proofs.WrittenLines.{IsWritten, literal, line_is_plain}
-use Rattle.script.proofs.WrittenWords.{number_back}
-use Rattle.script.proofs.CodeLines.{IsCode}
-use Rattle.script.proofs.NamesRead.{is_known}
-use Rattle.script.proofs.LinesRead.{after, line_is, object_words, object_is, task_words, task_is, program_words, header_is, program_is}
-use Rattle.script.proofs.ScriptLines.{number_line, object_line, task_line}
-use Rattle.script.proofs.ScriptSections.{IsWrittenProgram, IsWrittenSet, object_section, program_section, task_section, script_sections}
+use Rattle.script_text.proofs.WrittenLines.{IsWritten, literal, line_is_plain}
+use Rattle.script_text.proofs.WrittenWords.{number_back}
+use Rattle.script_text.proofs.CodeLines.{IsCode}
+use Rattle.script_text.proofs.NamesRead.{is_known}
+use Rattle.script_text.proofs.LinesRead.{after, line_is, object_words, object_is, task_words, task_is, program_words, header_is, program_is}
+use Rattle.script_text.proofs.ScriptLines.{number_line, object_line, task_line}
+use Rattle.script_text.proofs.ScriptSections.{IsWrittenProgram, IsWrittenSet, object_section, program_section, task_section, script_sections}
 
 -- ---- one section
 

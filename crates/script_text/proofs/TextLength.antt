@@ -8,10 +8,10 @@ use Rattle.set_model.proofs.LimitFacts.{few_objects, few_records}
 use Rattle.set_model.specs.Sets.{ObjPart, ProgPart, TaskSet, program_at}
 use Rattle.set_model.specs.Limits.{IsObject, IsProgram, IsTask, IsTaskSet}
 use Rattle.set_model.specs.Names.{IsName, IsNamed}
-use Rattle.script.specs.ScriptText.{field, number_text, object_text, code_text, program_text, task_text, script_text}
-use Rattle.script.proofs.CodeLines.{AreWithin, word_code}
-use Rattle.script.proofs.SetRead.{task_name}
-use Rattle.script.proofs.WrittenWords.{decimal_is}
+use Rattle.script_text.specs.ScriptText.{field, number_text, object_text, code_text, program_text, task_text, script_text}
+use Rattle.script_text.proofs.CodeLines.{AreWithin, word_code}
+use Rattle.script_text.proofs.SetRead.{task_name}
+use Rattle.script_text.proofs.WrittenWords.{decimal_is}
 
 -- at most so many bytes for each
 flat_few : {X : Type 0} (f : X → List ℕ) (most : ℕ) (xs : List X) → AllByRecursion (λ x. length (f x) ≤ most) xs → length (flat_map f xs) ≤ most * length xs

@@ -1,13 +1,14 @@
 -- Lines that were written, word by word, are cut into the same lines and words.
 use Rattle.std.proofs.Common.{◌≡◌, ℕ, zero, suc, ◌-◌, ◌<◌, ◌&&◌, Bool, true, false, not, List, [], ◌∷◌, ◌++◌, length, filter, get_or, refl, ap, ◌∙◌, ltb, leb, eqb, arith, All, append_assoc, length-append}
 use Rattle.std.specs.List.{list_all, slice_split, before_first, flat_map, position_or_len, AllByRecursion}
-use Rattle.std.specs.Str.Lines.{lines, lines_of_parts, strip_carriage_return}
+use Rattle.std.specs.Str.Lines.{lines}
 use Rattle.std.proofs.lemmas.Bool.{ltb-true, lt-ltb, ne_eqb, le-leb, and_parts, and_from, not-true}
 use Rattle.std.proofs.lemmas.List.{take_all, append-nil}
 use Rattle.std.proofs.lemmas.List.Elements.{All-from_recursion}
 use Rattle.std.proofs.lemmas.List.Folds.{list_all-append}
-use Rattle.std.proofs.lemmas.List.Splits.{slice_split_at, slice_split_none, length-slice_split}
+use Rattle.std.proofs.lemmas.List.Splits.{slice_split_at, slice_split_none}
 use Rattle.plain_text.specs.Words.{is_blank, is_plain, words_in, line_words}
+use Rattle.plain_text.proofs.ForCallers.{line_first}
 
 -- ---- bytes
 
@@ -161,19 +162,14 @@ at_index [] i e lt = absurd (omega arith)
 at_index (b ∷ l) zero e lt = (line_byte b (and_parts (is_line_byte b) (list_all is_line_byte l) e).0).low
 at_index (b ∷ l) (suc i) e lt = at_index l i (and_parts (is_line_byte b) (list_all is_line_byte l) e).1 (omega arith)
 
-parts-cons : (x : List ℕ) (parts : List (List ℕ)) → 0 < length parts → lines_of_parts (x ∷ parts) ≡ strip_carriage_return x ∷ lines_of_parts parts
-parts-cons x [] h = absurd (omega arith)
-parts-cons x (y ∷ more) h = refl
-
-line_first : (l rest : List ℕ) → IsLine l → lines (l ++ 10 ∷ rest) ≡ l ∷ lines rest
-line_first l rest h =
-    let split : slice_split (λ b. eqb b 10) (l ++ 10 ∷ rest) ≡ l ∷ slice_split (λ b. eqb b 10) rest = slice_split_at (λ b. eqb b 10) l 10 rest (All-from_recursion (λ b. eqb b 10 ≡ false) l (no_feed l h.bytes)) refl in
+written_first : (l rest : List ℕ) → IsLine l → lines (l ++ 10 ∷ rest) ≡ l ∷ lines rest
+written_first l rest h =
     let last : eqb (get_or l (length l - 1) 0) 13 ≡ false = let some = h.some in let above = at_index l (length l - 1) h.bytes (omega arith) in ne_eqb _ _ (omega arith) in
-    rw (split, parts-cons l (slice_split (λ b. eqb b 10) rest) (omega (arith, length-slice_split (λ b. eqb b 10) rest)), last) refl
+    line_first l rest (no_feed l h.bytes) last
 
 pub joined_lines : (ls : List (List ℕ)) → AllByRecursion IsLine ls → lines (joined ls) ≡ ls
 joined_lines [] all = refl
 joined_lines (l ∷ ls) all =
     ap lines (append_assoc l (10 ∷ []) (joined ls))
-    ∙ line_first l (joined ls) all.0
+    ∙ written_first l (joined ls) all.0
     ∙ ap (λ (more : List (List ℕ)). l ∷ more) (joined_lines ls all.1)

@@ -10,11 +10,10 @@ use Rattle.std.proofs.lemmas.Fmt.{decimal_is_IsNumeral, length-decimal-le}
 use Rattle.std.proofs.lemmas.List.Sums.{list_all-from_AllPass}
 use Rattle.std.proofs.lemmas.Str.Parse.{digit_from_value}
 use Rattle.plain_text.specs.Numbers.{value_in}
-use Rattle.plain_text.specs.Names.{is_name}
 use Rattle.set_model.specs.Names.{IsName, is_name_byte}
 use Rattle.script.specs.Results.{each}
 use Rattle.script.specs.Words.{number, value}
-use Rattle.script.proofs.WrittenLines.{is_word_byte, word_byte_from, IsWritten}
+use Rattle.script_text.proofs.WrittenLines.{is_word_byte, word_byte_from, IsWritten}
 
 -- ---- decimal numbers
 
@@ -100,9 +99,3 @@ name_written name h = record {
   bytes = name_bytes name (list_all-from_AllPass is_name_byte name h.bytes);
   some = let size = h.size.0 in omega arith;
 }
-
-pub name_is_name : (name : List ℕ) → IsName name → is_name name ≡ true
-name_is_name name h =
-    let low : leb 1 (length name) ≡ true = le-leb _ _ h.size.0 in
-    let high : leb (length name) 16 ≡ true = le-leb _ _ h.size.1 in
-    rw (low, high, h.first, list_all-from_AllPass is_name_byte name h.bytes) refl

@@ -5,7 +5,7 @@ ghost use Rattle.set_model.specs.Limits.{IsTaskSet};
 ghost use Rattle.set_model.specs.Names.{IsNamed};
 ghost use Rattle.set_model.specs.Sets.{TaskSet};
 ghost use Rattle.script.specs.Reading.{read};
-ghost use Rattle.script.specs.ScriptText.{script_text, unscheduled};
+ghost use Rattle.script_text.specs.ScriptText.{script_text, unscheduled};
 
 /// The text of a set within all limits, whose names are names, is read as this set with an empty schedule: no such
 /// set has a text that is too long.

@@ -2,10 +2,10 @@
 
 ghost use Rattle.std.specs.Prelude.{◌≡◌, ◌<◌, ◌++◌, IfOk, OnOk, length, codes, string_bytes, map};
 ghost use Rattle.std.specs.List.{flat_map};
-ghost use Rattle.std.specs.Str.{IsUtf8};
+ghost use Rattle.set_model.specs.Names.{IsName};
 ghost use Rattle.set_model.specs.Sets.{object_at, program_at};
 ghost use Rattle.set_model.specs.Views.{spawn_of};
-ghost use Rattle.script.specs.ScriptText.{code_text, field, number_text, object_text, program_text, script_text as text_of_set, task_text};
+ghost use Rattle.script_text.specs.ScriptText.{code_text, field, number_text, object_text, program_text, script_text as text_of_set, task_text};
 
 use nv_base::{NoMemory, ObjId, ProgId, Spawn};
 use rv_isa::push_text;
@@ -13,34 +13,15 @@ use std::alloc::{AllocError, Global};
 use task_set::TaskSet;
 
 /// A name as text.
+#[tactic(auto, using(crate::proofs::NamesAsText::name_is_text))]
 fn as_text(name: &[u8]) -> &str
-    requires { IsUtf8 name.now }
+    requires { IsName name.now }
     ensures { result.now ≡ name.now }
 {
     match str::from_utf8(name) {
         Ok(text) => text,
         Err(_) => unreachable!(),
     }
-}
-
-/// The name of an object.
-fn object_name(set: &TaskSet, o: ObjId) -> &str
-    requires { o.0 < length set.now.objects }
-    ensures { result.now ≡ (object_at set.now o.0).name }
-{
-    // for its clauses: the set's names are names
-    let _ = set.cores();
-    as_text(set.object_name(o))
-}
-
-/// The name of a program.
-fn program_name(set: &TaskSet, p: ProgId) -> &str
-    requires { p.0 < length set.now.programs }
-    ensures { result.now ≡ (program_at set.now p.0).name }
-{
-    // for its clauses: the set's names are names
-    let _ = set.cores();
-    as_text(set.program_name(p))
 }
 
 /// A number behind what stands before it.
@@ -76,7 +57,7 @@ fn push_object(out: &mut String, set: &TaskSet, o: ObjId) -> Result<(), AllocErr
     ensures { OnOk result (string_bytes out.new ≡ string_bytes out.old ++ object_text (object_at set.now o.0)) }
 {
     out.push_str("object ")?;
-    out.push_str(object_name(set, o))?;
+    out.push_str(as_text(set.object_name(o)))?;
     push_field(out, " ", u32::from(set.size(o)))?;
     push_field(out, " ", u32::from(set.slots(o)))?;
     push_words(out, set.first(o))?;
@@ -100,7 +81,7 @@ fn push_program(out: &mut String, set: &TaskSet, p: ProgId) -> Result<(), NoMemo
     ensures { OnOk result (string_bytes out.new ≡ string_bytes out.old ++ program_text (program_at set.now p.0)) }
 {
     out.push_str("program ")?;
-    out.push_str(program_name(set, p))?;
+    out.push_str(as_text(set.program_name(p)))?;
     push_field(out, " ", set.fuel(p))?;
     out.push_str("\n")?;
     push_code(out, set.code(p))?;
@@ -114,7 +95,7 @@ fn push_task(out: &mut String, set: &TaskSet, task: Spawn) -> Result<(), AllocEr
     ensures { OnOk result (string_bytes out.new ≡ string_bytes out.old ++ task_text set.now (spawn_of task)) }
 {
     out.push_str("task ")?;
-    out.push_str(program_name(set, task.program))?;
+    out.push_str(as_text(set.program_name(task.program)))?;
     push_field(out, " ", task.arg)?;
     out.push_str("\n")
 }
@@ -143,8 +124,6 @@ fn push_programs(out: &mut String, set: &TaskSet) -> Result<(), NoMemory>
 fn push_tasks(out: &mut String, set: &TaskSet) -> Result<(), AllocError>
     ensures { OnOk result (string_bytes out.new ≡ string_bytes out.old ++ flat_map (task_text set.now) set.now.tasks) }
 {
-    // for its clauses: each task's program is one of the set
-    let _ = set.cores();
     for task in set.tasks() {
         push_task(out, set, *task)?;
     }

@@ -4,6 +4,8 @@ ghost use Rattle.std.specs.Prelude.{◌≤◌, length};
 
 use super::*;
 use nv_base::{NoMemory, ProgId, Spawn};
+use script::read_script;
+use std::alloc::Global;
 use std::test::Fail;
 use task_set::{
     Name, ObjPart, ObjectParts, ProgPart, ProgramParts, SetParts, TaskSet, Tasks, Words,
@@ -141,5 +143,30 @@ fn several_objects_and_programs(rt: HostRuntime) -> Result<(), Fail> {
         tasks,
     };
     assert_eq!(rt; text_of(&rt, parts)?.as_str(), LIMITS_TEXT);
+    Ok(())
+}
+
+// a set of format 2 with 65 objects, whose names are two letters
+fn many_objects(alloc: Global) -> Result<Vec<u8>, Fail> {
+    let mut text = Vec::from_slice(alloc, b"nvk 2\ncores 1\nmemory 1024\nrecords 1024\n")?;
+    for i in 0..65u8 {
+        text.extend_from_slice(b"object ")?;
+        text.push(b'a' + i / 16)?;
+        text.push(b'a' + i % 16)?;
+        text.extend_from_slice(b" 1 2 0\n")?;
+    }
+    text.extend_from_slice(b"program p 1\nend\nrun\n")?;
+    Ok(text)
+}
+
+#[test]
+fn a_set_of_format_2_is_written_as_it_was_read(rt: HostRuntime) -> Result<(), Fail> {
+    let text = many_objects(rt.alloc())?;
+    let Ok(script) = read_script(rt.alloc(), &text) else {
+        return Err("refused")?;
+    };
+    assert_eq!(rt; script.set.format(), 2);
+    let written = script_text(rt.alloc(), &script.set)?;
+    assert!(rt; written.as_str().as_bytes() == text.as_slice());
     Ok(())
 }

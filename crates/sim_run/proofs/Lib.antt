@@ -3,7 +3,6 @@ pub mod ReadBack
 pub mod Runs
 pub mod OneWord
 pub mod Answering
-pub mod BadLines
 pub mod SameCores
 pub mod Promising
 pub mod Inputs

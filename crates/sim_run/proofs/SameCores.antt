@@ -4,10 +4,10 @@ use Rattle.std.specs.Str.Lines.{lines}
 use Rattle.script.specs.declared.keyword.Stage.{Stage}
 use Rattle.script.specs.declared.keyword.Stage.TheVariants.{Nvk, Cores, Memory, Records, Object, Program, Task, Schedule, Run}
 use Rattle.script.specs.declared.refusals.ScriptCause.TheVariants.{Long}
-use Rattle.script.specs.declared.refusals.ScriptError.{ScriptError}
-use Rattle.script.specs.Results.{◌>>=◌}
+use Rattle.script.specs.Causes.{ScriptError}
+use Rattle.nv_base.specs.Results.{◌>>=◌}
 use Rattle.script.specs.Parts.{Parts, Script, nothing, script_of}
-use Rattle.script.specs.Blocks.{at}
+use Rattle.nv_base.specs.Refusals.{at}
 use Rattle.script.specs.Reading.{read, ended, is_whole, sections_after}
 use Rattle.script.specs.Sections.{sections}
 

@@ -1,12 +1,12 @@
 -- What each command replies to an input, where nothing fails and memory is found. This project's own.
-use Rattle.std.specs.Prelude.{ℕ, ◌+◌, ◌==◌, ◌&&◌, nat_lt, Bool, List, [], ◌∷◌, ◌++◌, length, Option, Some, None, Result, Ok, Err, if◌then◌else◌}
+use Rattle.std.specs.Prelude.{ℕ, ◌+◌, ◌==◌, ◌&&◌, nat_lt, Bool, List, [], ◌∷◌, ◌++◌, length, position, Option, Some, None, Result, Ok, Err, if◌then◌else◌}
 use Rattle.std.specs.List.{flat_map}
 use Rattle.std.specs.Str.Lines.{lines}
-use Rattle.plain_text.specs.Words.{is_plain}
+use Rattle.plain_text.specs.BadLines.{is_bad}
 use Rattle.nv_base.specs.declared.limits.TheConstants.{MAX_INPUT}
 use Rattle.rv_isa.specs.Texts.{hexadecimal}
 use Rattle.rv_asm.specs.Assembly.{assembled}
-use Rattle.rv_asm.specs.declared.cause.AsmError.{AsmError}
+use Rattle.rv_asm.specs.Causes.{AsmError}
 use Rattle.set_model.specs.Sets.{TaskSet}
 use Rattle.schedule_model.specs.Failures.{events_of}
 use Rattle.schedule_model.specs.Parts.{failure_count}
@@ -15,9 +15,9 @@ use Rattle.task_image.specs.Packed.{packed}
 use Rattle.task_image.specs.Unpacked.{unpacked}
 use Rattle.script.specs.Parts as scripts
 use Rattle.script.specs.Reading.{read}
-use Rattle.script.specs.ScriptText.{script_text}
+use Rattle.script_text.specs.ScriptText.{script_text}
 use Rattle.script.specs.declared.refusals.ScriptCause.TheVariants.{Long, Byte, Code}
-use Rattle.script.specs.declared.refusals.ScriptError.{ScriptError}
+use Rattle.script.specs.Causes.{ScriptError}
 use Rattle.script.specs.declared.status.Status.{Status}
 use Rattle.script.specs.declared.status.Status.TheVariants.{Done, Script, Packed, NotBuilt}
 use Rattle.sim_run.specs.declared.command.Command.{Command}
@@ -55,22 +55,17 @@ run_reply (Ok s) = if is_built s then Puts (report_text s.set (events_of s.sched
 abbrev pub words_text : List ℕ → List ℕ
 words_text words = flat_map (λ word. hexadecimal 8 word ++ 10 ∷ []) words
 
--- the first line, from line n on, with a byte that is not allowed
-abbrev pub bad_line : ℕ → List (List ℕ) → Option ℕ
-bad_line n [] = None
-bad_line n (line ∷ others) = if is_plain line then bad_line (n + 1) others else Some n
-
 abbrev pub assembly_reply : Result (List ℕ) AsmError → Reply
 assembly_reply (Ok words) = Puts (words_text words)
 assembly_reply (Err e) = Refuses (Script (record { line = e.line; cause = Code e.cause }))
 
--- a bad byte is told before each other fault
+-- the first line with a byte that is not allowed is told before each other fault
 abbrev pub asm_reply_by : Option ℕ → List (List ℕ) → Reply
-asm_reply_by (Some n) text = Refuses (Script (record { line = n; cause = Byte }))
+asm_reply_by (Some place) text = Refuses (Script (record { line = place + 1; cause = Byte }))
 asm_reply_by None text = assembly_reply (assembled text)
 
 abbrev pub asm_reply : List (List ℕ) → Reply
-asm_reply text = asm_reply_by (bad_line 1 text) text
+asm_reply text = asm_reply_by (position is_bad text) text
 
 -- ---- `dis`: a packed set as a script
 

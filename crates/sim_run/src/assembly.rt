@@ -5,40 +5,17 @@ ghost use Rattle.std.specs.Str.Lines.{lines};
 ghost use Rattle.nv_base.specs.Streams.{FaultCounted};
 ghost use Rattle.rv_asm.specs.Assembly.{assembled};
 ghost use Rattle.sim_run.specs.Carried.{Replied};
-ghost use Rattle.sim_run.specs.Replies.{Puts, asm_reply, assembly_reply, bad_line, words_text};
+ghost use Rattle.sim_run.specs.Replies.{Puts, asm_reply, assembly_reply, words_text};
 
 use crate::refusals;
 use crate::texts::put_text;
 use nv_base::limits::MAX_INPUT;
 use nv_base::{NoMemory, Sink};
-use plain_text::{Lines, is_plain};
+use plain_text::{first_bad, lines_of};
 use rv_asm::assemble_lines;
 use rv_isa::push_hexadecimal;
 use script::{ScriptCause, ScriptError, Status};
-use std::alloc::{AllocError, Global};
-
-/// The lines of an input.
-fn lines_of(alloc: Global, input: &[u8]) -> Result<Vec<&[u8]>, AllocError>
-    ensures exact { IfOk result (λ ls. map (λ line. line.now) ls.items ≡ lines input.entry.now) }
-    ensures few { IfOk result (λ ls. length ls.items ≤ length input.entry.now) }
-{
-    Lines::new(input).collect(alloc)
-}
-
-/// The number of the first line, from 1, with a byte that is not allowed.
-fn first_bad(lines: &[&[u8]]) -> Option<u32>
-    requires { length lines.now ≤ MAX_INPUT }
-    ensures { result ≡ bad_line 1 (map (λ line. line.now) lines.now) }
-{
-    let mut number = 1;
-    for line in lines {
-        if !is_plain(line) {
-            return Some(number);
-        }
-        number += 1;
-    }
-    None
-}
+use std::alloc::Global;
 
 /// Words as text: each a line of 8 hexadecimal digits.
 fn text_of(alloc: Global, words: &[u32]) -> Result<String, NoMemory>
@@ -86,8 +63,8 @@ pub(crate) fn asm<K: Sink>(alloc: Global, input: &[u8], out: &mut K) -> Status
         return Status::NoMemory;
     };
     match first_bad(lines.as_slice()) {
-        Some(line) => Status::Script(ScriptError {
-            line,
+        Some(place) => Status::Script(ScriptError {
+            line: place as u32 + 1,
             cause: ScriptCause::Byte,
         }),
         None => assemble(alloc, lines.as_slice(), out),

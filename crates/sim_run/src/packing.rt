@@ -3,7 +3,7 @@
 ghost use Rattle.std.specs.Prelude.{◌≤◌};
 ghost use Rattle.nv_base.specs.Streams.{FaultCounted};
 ghost use Rattle.script.specs.Reading.{read};
-ghost use Rattle.script.specs.ScriptText.{script_text as text_of_set};
+ghost use Rattle.script_text.specs.ScriptText.{script_text as text_of_set};
 ghost use Rattle.task_image.specs.Packed.{packed};
 ghost use Rattle.task_image.specs.Unpacked.{unpacked};
 ghost use Rattle.sim_run.specs.Carried.{Replied};
@@ -12,7 +12,8 @@ ghost use Rattle.sim_run.specs.Replies.{Puts, dis_reply, pack_reply};
 use crate::refusals;
 use crate::texts::put_text;
 use nv_base::Sink;
-use script::{Status, read_script, script_text};
+use script::{Status, read_script};
+use script_text::script_text;
 use std::alloc::Global;
 use task_image::{read_set, write_set};
 use task_set::TaskSet;

@@ -1,8 +1,8 @@
 use Rattle.std.proofs.Common.{◌≡◌, ◌++◌, take}
 use Rattle.std.specs.List.{flat_map}
 use Rattle.std.specs.String.{string_bytes}
-use Rattle.script.specs.ScriptText.{object_text}
-use Rattle.script.proofs.set_text.push_objects.Given as goal
+use Rattle.script_text.specs.ScriptText.{object_text}
+use Rattle.script_text.proofs.set_text.push_objects.Given as goal
 
 -- the objects so far are written
 abbrev pub invariant-loop-o : goal.invariant-loop-o

@@ -1,0 +1,11 @@
+pub mod NamesAsText
+pub mod WrittenLines
+pub mod WrittenWords
+pub mod CodeLines
+pub mod NamesRead
+pub mod LinesRead
+pub mod ScriptLines
+pub mod ScriptSections
+pub mod SetRead
+pub mod TextLength
+pub mod ReadBack
