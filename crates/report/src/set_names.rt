@@ -8,7 +8,7 @@ use nv_base::{ObjId, ProgId};
 use task_set::TaskSet;
 
 /// The name of an object, which has at most 16 bytes, while the object has at most 64 words.
-#[tactic(auto, using(crate::proofs::SetFacts::object_name_fits, crate::proofs::SetFacts::object_size_fits))]
+#[tactic(auto, using(set_model::proofs::NameFacts::object_name_is_short, set_model::proofs::NameFacts::object_is_small))]
 pub(crate) fn object_name(set: &TaskSet, o: ObjId) -> &[u8]
     requires { o.0 < length set.now.objects }
     ensures exact { result.now ≡ (object_at set.now o.0).name }
@@ -21,7 +21,7 @@ pub(crate) fn object_name(set: &TaskSet, o: ObjId) -> &[u8]
 }
 
 /// The name of a program, which has at most 16 bytes.
-#[tactic(auto, using(crate::proofs::SetFacts::program_name_fits))]
+#[tactic(auto, using(set_model::proofs::NameFacts::program_name_is_short))]
 pub(crate) fn program_name(set: &TaskSet, p: ProgId) -> &[u8]
     requires { p.0 < length set.now.programs }
     ensures exact { result.now ≡ (program_at set.now p.0).name }

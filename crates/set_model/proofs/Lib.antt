@@ -1,3 +1,4 @@
 pub mod AtFacts
 pub mod FormattedFacts
 pub mod LimitFacts
+pub mod NameFacts
