@@ -10,7 +10,8 @@ use Rattle.kernel_model.specs.Report.{EachOnce, IsFresh, told}
 use Rattle.set_model.specs.Sets.{TaskSet}
 use Rattle.set_model.specs.Formatted.{formatted}
 use Rattle.task_model.specs.TaskSteps.{task_steps}
-pub use Rattle.headline.specs.Run.{after, all_lines, event_lines, report_text, state_read}
+use Rattle.task_model.specs.SetRun.{after, all_lines, event_lines, state_read}
+use Rattle.headline.specs.Report.{report_text}
 
 pub record Headline (set : TaskSet) (events : List Event) (text : List ℕ) : Type 0 where
   -- the bytes are the event machine's report

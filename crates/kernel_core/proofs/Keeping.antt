@@ -24,6 +24,7 @@ use Rattle.set_model.specs.Numbers.{sizes_of}
 use Rattle.set_model.specs.Formatted.{formatted}
 use Rattle.set_model.specs.Views.{spawn_of, task_of}
 use Rattle.set_model.proofs.AtFacts.{all_at}
+use Rattle.set_model.proofs.FormattedFacts.{formatted_is_base}
 use Rattle.set_model.proofs.LimitFacts.{few_records}
 use Rattle.task_model.specs.Shape.{HasShape}
 use Rattle.task_model.proofs.MachineFacts.{length-words_at}
@@ -37,7 +38,7 @@ use Rattle.kernel_core.specs.declared.kernel.Kernel.{Kernel}
 use Rattle.kernel_core.specs.declared.kernel.Phase.{Phase}
 use Rattle.kernel_core.specs.declared.kernel.Phase.TheVariants as phase
 use Rattle.kernel_core.specs.declared.part.Want.{Want}
-use Rattle.kernel_core.proofs.Tables.{first_at, none_written}
+use Rattle.kernel_core.proofs.Tables.{none_written}
 use Rattle.kernel_core.proofs.Wanting.{new_size}
 use Rattle.kernel_core.proofs.Tasks.{all-append, all-filter, all-spawns, length-others}
 
@@ -224,16 +225,9 @@ taken k e s h committing after = subst (λ x. IsValid (record k { state = x; pha
           phase = tt;
         }
 
--- the tasks and the words of a set's first state
-all_from : {A : Type 0} → (P Q : A → Type 0) → ((x : A) → P x → Q x) → (xs : List A) → AllByRecursion P xs → AllByRecursion Q xs
-all_from P Q f [] h = tt
-all_from P Q f (x ∷ xs) h = (f x h.0, all_from P Q f xs h.1)
-
+-- the words of a set's first state
 pub first_shape : (set : TaskSet) → IsTaskSet set → HasShape set (map (λ o. o.first) set.objects)
-first_shape set h = record {
-  number = length-map set.objects (λ o. o.first);
-  sizes = λ o l. ap length (first_at set.objects o) ∙ (all_at IsObject set.objects _ o h.each_object (let n : length (map (λ (p : ObjPart). p.first) set.objects) ≡ length set.objects = length-map set.objects (λ p. p.first) in omega (arith, l, n))).first;
-}
+first_shape set h = let b = formatted_is_base set h in record { number = b.objects; sizes = λ o l. b.words o (omega (arith, l, b.objects)) }
 
 -- the kernel of a set's first state
 pub opened : (k : Kernel) → IsTaskSet k.set → k.phase ≡ phase.Idle → length k.machine.memory ≡ k.set.memory → k.state ≡ formatted k.set → k.attempt.words ≡ map (λ o. o.first) k.set.objects → k.attempt.written ≡ [] → k.attempt.spawns ≡ [] → IsValid k
@@ -242,8 +236,8 @@ opened k h idle memory state words written spawns = record {
   memory = memory;
   objects = subst (λ s. HasShape k.set s.objects) (sym state) (first_shape k.set h);
   words = subst (HasShape k.set) (sym words) (first_shape k.set h);
-  programs = subst (λ s. AllByRecursion (λ t. t.program < length k.set.programs) s.tasks) (sym state) (children_programs (length k.set.programs) 1 k.set.tasks (all_from (λ t. IsTask (length k.set.programs) t) (λ t. t.program < length k.set.programs) (λ t i. i.program) k.set.tasks h.each_task));
-  records = let n : length k.state.tasks ≡ length k.set.tasks = ap (λ (s : DeviceState). length s.tasks) state ∙ length-children 1 k.set.tasks in omega (arith, n, h.tasks);
+  programs = subst (λ s. AllByRecursion (λ t. t.program < length k.set.programs) s.tasks) (sym state) (formatted_is_base k.set h).programs;
+  records = subst (λ s. length s.tasks ≤ k.set.records) (sym state) (formatted_is_base k.set h).records;
   written = subst (AreBelow (length k.set.objects)) (sym written) tt;
   increasing = subst IsIncreasing (sym written) tt;
   children = subst (AllByRecursion (λ s. s.program.0 < length k.set.programs)) (sym spawns) tt;

@@ -1,5 +1,5 @@
 -- The turns of a kernel that is known by equations.
-use Rattle.std.proofs.Common.{◌≡◌, ℕ, suc, ◌+◌, ◌-◌, ◌<◌, ◌≤◌, Bool, true, false, cond, List, [], ◌∷◌, ◌++◌, length, map, set, Some, None, refl, sym, ap, subst, ◌∙◌, arith}
+use Rattle.std.proofs.Common.{◌≡◌, ℕ, suc, ◌+◌, ◌-◌, ◌<◌, ◌≤◌, Bool, true, false, cond, List, [], ◌∷◌, ◌++◌, length, map, set, Option, Some, None, refl, sym, ap, subst, ◌∙◌, arith}
 use Rattle.std.specs.Prelude.{sum_by}
 use Rattle.object_sets.specs.ObjectSets.{IsIncreasing, is_among, with_object}
 use Rattle.rv_core.specs.State.{MachineState, Next, Calls, Traps}
@@ -21,14 +21,16 @@ use Rattle.kernel_model.specs.Replay.{DeviceState}
 use Rattle.set_model.specs.Sets.{object_at, program_at}
 use Rattle.set_model.specs.Numbers.{index_words}
 use Rattle.set_model.specs.Views.{spawn_of, task_of}
-use Rattle.task_model.specs.TaskSteps.{given_index, part_refusal, past, refusal, unless}
+use Rattle.task_model.specs.TaskSteps.{given_index, part_refusal, part_step, past, refusal, served, unless}
+use Rattle.task_model.specs.declared.part.Part.{Part}
 use Rattle.kernel_core.specs.Shapes.{AreWritten, behind, state_after}
-use Rattle.kernel_core.specs.Wants.{Awaits, received, received_with}
+use Rattle.kernel_core.specs.Wants.{Awaits, part_in, part_service, received, received_with}
 use Rattle.kernel_core.specs.Invariant.{IsValid, IsValidIn, IsWaiting}
 use Rattle.kernel_core.specs.Simulation.{SimulatesService, SimulatesTurn, attempt_left, entry_in}
 use Rattle.kernel_core.specs.declared.kernel.Kernel.{Kernel}
 use Rattle.kernel_core.specs.declared.kernel.Phase.TheVariants as phase
 use Rattle.kernel_core.specs.declared.part.Want.{Want}
+use Rattle.kernel_core.specs.declared.part.Want.TheVariants as want
 use Rattle.kernel_core.proofs.Attempts as attempts
 use Rattle.kernel_core.proofs.Waiting as waiting
 use Rattle.kernel_core.proofs.Waiting.{WaitsFor}
@@ -101,24 +103,27 @@ spawns_task k m s spawns p l few e f =
 of_object : (k n : Kernel) (asked : ℕ → Service) (o object : ℕ) → o ≡ object → SimulatesService k (asked o) n → SimulatesService k (asked object) n
 of_object k n asked o object e h = subst (λ x. SimulatesService k (asked x) n) e h
 
--- the part that a call asks for is refused
-pub traps_read_part : (k n : Kernel) (o at first count : ℕ) (c : TrapCause) → k.phase ≡ phase.Running → Some c ≡ part_refusal k.set k.machine o at first count → n ≡ record k { attempt = attempt_left k.attempt (outcome.Trap c); phase = phase.Ready (outcome.Trap c) }
-    → SimulatesService k (service.ReadPart o at first count) n
-traps_read_part k n o at first count c p e same = placed k n _ _ p same (attempts.traps k (service.ReadPart o at first count) c (ap (λ f. unless f (Reads k.machine o)) (sym e)))
+-- READPART and WRITEPART have the same tests
+part_served : (k : Kernel) (o : ℕ) (w : Want) → served k.set (Calls k.machine (part_service o w)) ≡ part_step k.set k.machine o (part_in w).at (part_in w).first (part_in w).count
+part_served k o (want.Give p) = refl
+part_served k o (want.Take p) = refl
 
-pub traps_write_part : (k n : Kernel) (o at first count : ℕ) (c : TrapCause) → k.phase ≡ phase.Running → Some c ≡ part_refusal k.set k.machine o at first count → n ≡ record k { attempt = attempt_left k.attempt (outcome.Trap c); phase = phase.Ready (outcome.Trap c) }
-    → SimulatesService k (service.WritePart o at first count) n
-traps_write_part k n o at first count c p e same = placed k n _ _ p same (attempts.traps k (service.WritePart o at first count) c (ap (λ f. unless f (Reads k.machine o)) (sym e)))
+-- their tests come to this, where the code has the part as p
+part_tested : (k : Kernel) (o : ℕ) (w : Want) (p : Part) (failed : Option TrapCause) → p ≡ part_in w → failed ≡ part_refusal k.set k.machine o p.at p.first p.count
+    → served k.set (Calls k.machine (part_service o w)) ≡ unless failed (Reads k.machine o)
+part_tested k o w p failed q e = part_served k o w ∙ ap (λ f. unless f (Reads k.machine o)) (sym (e ∙ ap (λ (x : Part). part_refusal k.set k.machine o x.at x.first x.count) q))
+
+-- the part that a call asks for is refused
+pub traps_part : (k n : Kernel) (o : ℕ) (w : Want) (p : Part) (c : TrapCause) → k.phase ≡ phase.Running → p ≡ part_in w → Some c ≡ part_refusal k.set k.machine o p.at p.first p.count
+    → n ≡ record k { attempt = attempt_left k.attempt (outcome.Trap c); phase = phase.Ready (outcome.Trap c) } → SimulatesService k (part_service o w) n
+traps_part k n o w p c r q e same = placed k n _ _ r same (attempts.traps k (part_service o w) c (part_tested k o w p (Some c) q e))
 
 -- where no test fails, the call waits for the object's words. Its number is that of the object that was tested
 pub read_waits : (k : Kernel) (o x at : ℕ) → x ≡ o → None ≡ refusal k.set k.machine o at → WaitsFor k (service.Read o at) x
 read_waits k o x at e fine = ap (λ f. unless f (Reads k.machine o)) (sym fine) ∙ ap (Reads k.machine) (sym e)
 
-pub read_part_waits : (k : Kernel) (o x at first count : ℕ) → x ≡ o → None ≡ part_refusal k.set k.machine o at first count → WaitsFor k (service.ReadPart o at first count) x
-read_part_waits k o x at first count e fine = ap (λ f. unless f (Reads k.machine o)) (sym fine) ∙ ap (Reads k.machine) (sym e)
-
-pub write_part_waits : (k : Kernel) (o x at first count : ℕ) → x ≡ o → None ≡ part_refusal k.set k.machine o at first count → WaitsFor k (service.WritePart o at first count) x
-write_part_waits k o x at first count e fine = ap (λ f. unless f (Reads k.machine o)) (sym fine) ∙ ap (Reads k.machine) (sym e)
+pub part_waits : (k : Kernel) (o x : ℕ) (w : Want) (p : Part) → x ≡ o → p ≡ part_in w → None ≡ part_refusal k.set k.machine o p.at p.first p.count → WaitsFor k (part_service o w) x
+part_waits k o x w p e q fine = part_tested k o w p None q fine ∙ ap (Reads k.machine) (sym e)
 
 -- the kernel behind a service that has the words that the attempt sees
 seen_so : (k n : Kernel) (o : ℕ) (w : Want) (b : Bool) → b ≡ is_among o k.attempt.written → n ≡ received k o w → n ≡ received_with k o w (cond b (object_words k.attempt.words o) (object_words k.state.objects o))

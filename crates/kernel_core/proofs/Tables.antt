@@ -1,13 +1,12 @@
 -- Tables of words, and the writes that they stand for.
-use Rattle.std.proofs.Common.{◌≡◌, ℕ, zero, suc, ◌+◌, ◌++◌, take, ◌<◌, ◌≤◌, Bool, true, false, cond, eqb, ◌||◌, List, [], ◌∷◌, length, get_or, set, map, Option, Some, None, unwrap_or, refl, sym, ap, subst, ◌∙◌, arith, below_more, get_or-set_same, get_or-set_other}
+use Rattle.std.proofs.Common.{◌≡◌, ℕ, ◌+◌, ◌<◌, ◌≤◌, Bool, true, false, cond, eqb, ◌||◌, List, [], ◌∷◌, length, set, map, Option, Some, None, unwrap_or, refl, sym, ap, subst, ◌∙◌, arith, below_more, get_or-set_same, get_or-set_other}
 use Rattle.std.specs.Prelude.{is_some}
-use Rattle.std.proofs.lemmas.List.{ext_get_or, length-map, length-set, take_more}
+use Rattle.std.proofs.lemmas.List.{ext_get_or, length-set}
 use Rattle.std.proofs.lemmas.Bool.{eqb-true, eqb-false}
 use Rattle.object_sets.specs.ObjectSets.{is_among, with_object, IsIncreasing}
 use Rattle.kernel_model.specs.Effects.{Objects, Write, put, with_write, object_words, written}
 use Rattle.kernel_model.proofs.ForCallers.{length-put_from, put-seen, written-with_write}
 use Rattle.task_model.proofs.WriteFacts.{objects_in-with_write}
-use Rattle.set_model.specs.Sets.{ObjPart, TaskSet, object_at}
 use Rattle.kernel_core.specs.Shapes.{AreWritten}
 
 -- an object is written where it is among those written
@@ -95,17 +94,3 @@ written_more ws objects table o words w increasing inside = record {
 -- no writes
 pub none_written : (table : Objects) → AreWritten [] [] table
 none_written table = record { objects_are = refl; words_are = λ o words e. absurd (cc e) }
-
-pub first_at : (parts : List ObjPart) (n : ℕ) → (let none : ObjPart = record { name = []; size = 0; slots = 0; first = [] } in object_words (map (λ p. p.first) parts) n ≡ (get_or parts n none).first)
-first_at [] n = refl
-first_at (p ∷ parts) zero = refl
-first_at (p ∷ parts) (suc n) = first_at parts n
-
--- the first words of one object more
-pub first_one_more : (set : TaskSet) (o : ℕ) (words : List ℕ) (old new : Objects) → o < length set.objects → old ≡ take o (map (λ p. p.first) set.objects) → words ≡ (object_at set o).first → new ≡ old ++ words ∷ []
-    → new ≡ take (o + 1) (map (λ p. p.first) set.objects)
-first_one_more set o words old new l e w pushed =
-    let firsts : Objects = map (λ p. p.first) set.objects in
-    let inside : o < length firsts = let n : length firsts ≡ length set.objects = length-map set.objects (λ p. p.first) in omega (arith, l, n) in
-    let at : object_words firsts o ≡ words = first_at set.objects o ∙ sym w in
-    pushed ∙ ap (λ xs. xs ++ words ∷ []) e ∙ ap (λ x. take o firsts ++ x ∷ []) (sym at) ∙ sym (take_more firsts o [] inside)

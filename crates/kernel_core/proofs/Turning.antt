@@ -26,7 +26,7 @@ use Rattle.set_model.specs.Sets.{TaskSet, object_at, program_at}
 use Rattle.set_model.specs.Formatted.{formatted}
 use Rattle.set_model.specs.Views.{entry_if, line_of, outcome_of, task_of}
 use Rattle.task_model.specs.TaskSteps.{given_words, rewritten_words, served, task_steps, world_of}
-use Rattle.headline.specs.Run.{first_state as first_of}
+use Rattle.task_model.specs.SetRun.{first_state as first_of}
 use Rattle.kernel_core.specs.Shapes.{behind}
 use Rattle.kernel_core.specs.Represents.{AgreesIn, HasDone, GhostState, Simulates, Leaves, Represents, core_in, left_in, state_in}
 use Rattle.kernel_core.specs.Simulation.{SimulatesService, SimulatesTurn, attempt_left, untold_in}

@@ -1,22 +1,19 @@
 -- What a service that waits makes of the words that it is given, by what it wants of them.
-use Rattle.std.proofs.Common.{◌≡◌, ℕ, ◌+◌, ◌<◌, ◌≤◌, List, [], ◌∷◌, length, take, Option, Some, None, refl, ap, ap₂, ◌∙◌, subst, sym, arith}
+use Rattle.std.proofs.Common.{◌≡◌, ℕ, ◌+◌, ◌<◌, ◌≤◌, List, length, Option, Some, None, ap, ap₂, ◌∙◌, sym, arith}
 use Rattle.object_sets.specs.ObjectSets.{IsIncreasing}
 use Rattle.rv_core.specs.State.{MachineState}
-use Rattle.rv_core.specs.Machine.{IsPlace, put_words, service_of, words_at}
-use Rattle.rv_core.specs.declared.services.Service.{Service}
-use Rattle.rv_core.specs.declared.services.Service.TheVariants as service
+use Rattle.rv_core.specs.Machine.{words_at}
 use Rattle.kernel_model.specs.Effects.{Objects, also_written}
 use Rattle.kernel_model.specs.Items.{FinishRecord}
 use Rattle.kernel_model.specs.Cores.{Attempt, Running}
 use Rattle.kernel_model.specs.Turns.{Turn, quiet}
 use Rattle.set_model.specs.Sets.{TaskSet}
-use Rattle.task_model.specs.TaskSteps.{given_words, memory_given, part_of, past, rewritten_by, rewritten_words, with_part}
+use Rattle.task_model.specs.TaskSteps.{given_words, past, rewritten_words, with_part}
 use Rattle.task_model.proofs.MachineFacts.{length-with_part, length-words_at}
 use Rattle.kernel_core.specs.Represents.{HasDone, GhostState}
 use Rattle.kernel_core.specs.Wants.{Awaits, memory_wanted, part_in, rewritten_wanted, with_rewritten}
 use Rattle.kernel_core.specs.declared.attempt.Attempt as own
 use Rattle.kernel_core.specs.declared.kernel.Kernel.{Kernel}
-use Rattle.kernel_core.specs.declared.part.Part.{Part}
 use Rattle.kernel_core.specs.declared.part.Want.{Want}
 use Rattle.kernel_core.specs.declared.part.Want.TheVariants as want
 use Rattle.kernel_core.proofs.Tables.{written_more}
@@ -46,47 +43,3 @@ new_size (want.Give p) memory words size r l new e = absurd (cc e)
 new_size (want.Take p) memory words size r l new e =
     let same : with_part p.first (words_at memory p.at p.count) words ≡ new = cc e in
     ap length (sym same) ∙ length-with_part p.first (words_at memory p.at p.count) words (omega (arith, r, l, length-words_at memory p.at p.count)) ∙ l
-
-take_all : (words : List ℕ) (n : ℕ) → length words ≡ n → take n words ≡ words
-take_all [] n e = subst (λ k. take k (let none : List ℕ = [] in none) ≡ []) e refl
-take_all (x ∷ words) n e = subst (λ k. take k (x ∷ words) ≡ x ∷ words) e (ap (λ xs. x ∷ xs) (take_all words (length words) refl))
-
--- READ wants all words at the address, READPART a part of them, and WRITEPART a part from there
-module _ (m : MachineState) (o at first count size : ℕ) where
-  abbrev part : Part
-  part = record { at = at; first = first; count = count }
-
-  as_named : (s : Service) (words : List ℕ) → service_of m ≡ Some s → given_words m words ≡ past (record m { memory = memory_given (Some s) m.memory words })
-  as_named s words e = ap (λ x. past (record m { memory = memory_given x m.memory words })) e
-
-  rewrites_as_named : (s : Service) (words : List ℕ) → service_of m ≡ Some s → rewritten_words m words ≡ rewritten_by (Some s) m.memory words
-  rewrites_as_named s words e = ap (λ x. rewritten_by x m.memory words) e
-
-  pub awaits_part : service_of m ≡ Some (service.ReadPart o at first count) → first + count ≤ size → IsPlace m at count → m.pc + 4 ≤ length m.memory → Awaits m size (want.Give part)
-  awaits_part e r p w = record {
-    inside = r;
-    place = p;
-    waits = w;
-    given = λ words l. as_named (service.ReadPart o at first count) words e;
-    rewritten = λ words l. rewrites_as_named (service.ReadPart o at first count) words e;
-  }
-
-  pub awaits_to_write : service_of m ≡ Some (service.WritePart o at first count) → first + count ≤ size → IsPlace m at count → m.pc + 4 ≤ length m.memory → Awaits m size (want.Take part)
-  awaits_to_write e r p w = record {
-    inside = r;
-    place = p;
-    waits = w;
-    given = λ words l. as_named (service.WritePart o at first count) words e;
-    rewritten = λ words l. rewrites_as_named (service.WritePart o at first count) words e;
-  }
-
-  pub awaits_all : service_of m ≡ Some (service.Read o at) → first ≡ 0 → count ≡ size → IsPlace m at size → m.pc + 4 ≤ length m.memory → Awaits m size (want.Give part)
-  awaits_all e z c p w = record {
-    inside = omega (arith, z, c);
-    place = subst (IsPlace m at) (sym c) p;
-    waits = w;
-    given = λ words l.
-        as_named (service.Read o at) words e
-        ∙ ap (λ x. past (record m { memory = put_words m.memory at x })) (sym (ap₂ (λ n f. part_of f n words) c z ∙ take_all words size l));
-    rewritten = λ words l. rewrites_as_named (service.Read o at) words e;
-  }

@@ -3,11 +3,13 @@ use Rattle.std.specs.Prelude.{◌≡◌, ℕ, ◌+◌, ◌≤◌, List, length, 
 use Rattle.object_sets.specs.ObjectSets.{is_among, with_object}
 use Rattle.rv_core.specs.State.{MachineState}
 use Rattle.rv_core.specs.Machine.{IsPlace, put_words, words_at}
+use Rattle.rv_core.specs.declared.services.Service.{Service}
+use Rattle.rv_core.specs.declared.services.Service.TheVariants.{ReadPart, WritePart}
 use Rattle.kernel_model.specs.Effects.{Objects, object_words}
 use Rattle.task_model.specs.TaskSteps.{given_words, part_of, past, rewritten_words, with_part}
 use Rattle.kernel_core.specs.declared.attempt.Attempt as own
 use Rattle.kernel_core.specs.declared.kernel.Kernel.{Kernel}
-use Rattle.kernel_core.specs.declared.part.Part.{Part}
+use Rattle.task_model.specs.declared.part.Part.{Part}
 use Rattle.kernel_core.specs.declared.part.Want.{Want}
 use Rattle.kernel_core.specs.declared.part.Want.TheVariants as want
 
@@ -15,6 +17,11 @@ use Rattle.kernel_core.specs.declared.part.Want.TheVariants as want
 abbrev pub part_in : Want → Part
 part_in (want.Give p) = p
 part_in (want.Take p) = p
+
+-- the service that asks for it
+abbrev pub part_service : ℕ → Want → Service
+part_service o (want.Give p) = ReadPart o p.at p.first p.count
+part_service o (want.Take p) = WritePart o p.at p.first p.count
 
 -- the memory behind it, where the attempt sees these words
 abbrev pub memory_wanted : Want → (memory words : List ℕ) → List ℕ

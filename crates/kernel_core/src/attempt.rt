@@ -7,13 +7,11 @@ ghost use Rattle.kernel_model.specs.Effects.{object_words};
 ghost use Rattle.kernel_core.specs.declared.part.Want.TheVariants.{Take};
 ghost use Rattle.kernel_core.specs.Wants.{rewritten_wanted, with_rewritten};
 
-use crate::objects::Objects;
-use crate::part::Part;
-use crate::spawns::Spawns;
 use nv_base::limits::MAX_OBJECTS;
 use nv_base::{NoMemory, ObjId, ObjSet};
 use rv_core::Machine;
 use std::alloc::Global;
+use task_model::{Objects, Part, Spawns, first_objects};
 use task_set::TaskSet;
 
 /// What the attempt has done. No finish joins while it lasts, so that the versions that it read are the newest ones,
@@ -40,7 +38,7 @@ impl Attempt {
         Ok(Attempt {
             reads: ObjSet::empty(),
             written: ObjSet::empty(),
-            words: Objects::of_set(alloc, set)?,
+            words: first_objects(alloc, set)?,
             spawns: Spawns::with_room(alloc)?,
         })
     }
@@ -61,7 +59,10 @@ impl Attempt {
         requires size { length durable.now ≡ length (object_words self.old.words o.0) }
         requires place { IsPlace machine.now part.at part.count }
         requires range { part.first + part.count ≤ length durable.now }
-        ensures { self.new ≡ with_rewritten self.old o.0 (rewritten_wanted (Take part) machine.now.memory (if is_among o.0 self.old.written then object_words self.old.words o.0 else durable.now)) }
+        ensures { let own = is_among o.0 self.old.written in
+            let seen = if own then object_words self.old.words o.0 else durable.now in
+            self.new
+            ≡ with_rewritten self.old o.0 (rewritten_wanted (Take part) machine.now.memory seen) }
     {
         let own = self.written.has(o);
         self.written.add(o);

@@ -1,6 +1,6 @@
 //! The event machine of one core, turn by turn.
 
-ghost use Rattle.std.specs.Prelude.{◌≡◌, ◌≤◌, ◌<◌, ◌+◌, ◌^◌, IfOk, [], if◌then◌else◌, length, map, sum_by};
+ghost use Rattle.std.specs.Prelude.{◌≡◌, ◌≤◌, ◌<◌, ◌+◌, ◌^◌, ℕ, IfOk, [], if◌then◌else◌, length, map, sum_by};
 ghost use Rattle.std.specs.List.{AllByRecursion};
 ghost use Rattle.object_sets.specs.ObjectSets.{is_among};
 ghost use Rattle.rv_core.specs.State.{MachineState};
@@ -12,18 +12,19 @@ ghost use Rattle.kernel_model.specs.Report.{unprinted};
 ghost use Rattle.set_model.specs.Sets.{object_at, program_at};
 ghost use Rattle.set_model.specs.Numbers.{index_words};
 ghost use Rattle.set_model.specs.Views.{entry_if, line_of, task_of};
-ghost use Rattle.headline.specs.Run.{first_state as opened_state};
+ghost use Rattle.task_model.specs.SetRun.{first_state as opened_state};
 ghost use Rattle.kernel_core.specs.Represents.{Represents, Simulates, durable_of};
 ghost use Rattle.kernel_core.specs.Invariant.{IsValid, finishes};
 ghost use Rattle.kernel_core.specs.Simulation.{SimulatesTurn, attempt_left, entry_in, untold_in};
 
 use crate::attempt::Attempt;
-use crate::part::{Part, Want};
+use crate::part::Want;
 use crate::state::Durable;
 use nv_base::limits::{MAX_EVENTS, MAX_OBJECTS, MAX_SIZE};
 use nv_base::{CoreId, Entry, Line, NoMemory, ObjId, ObjSet, Outcome, Point, Seq, TaskId, TaskRec};
 use rv_core::{Machine, Service, Step};
 use std::alloc::Global;
+use task_model::Part;
 use task_set::TaskSet;
 
 // What the core does.
@@ -131,12 +132,13 @@ impl Kernel {
     fn load(&mut self, task: TaskRec)
         requires program { task.program.0 < length self.old.set.programs }
         requires memory { length self.old.machine.memory ≡ self.old.set.memory }
-        ensures exact { self.new ≡ record self.old {
-          machine = first_state (program_at self.old.set task.program.0).code task.arg (program_at self.old.set task.program.0).fuel self.old.set.memory;
-          attempt = record self.old.attempt { reads = []; written = []; spawns = [] };
-          task = task.id;
-          phase = Phase.Running;
-        } }
+        ensures exact { let program = program_at self.old.set task.program.0 in
+            self.new ≡ record self.old {
+              machine = first_state program.code task.arg program.fuel self.old.set.memory;
+              attempt = record self.old.attempt { reads = []; written = []; spawns = [] };
+              task = task.id;
+              phase = Phase.Running;
+            } }
         ensures room { length self.new.machine.memory ≡ self.old.set.memory }
     {
         self.machine.load(
@@ -173,7 +175,7 @@ impl Kernel {
                     first,
                     count,
                 },
-            ) => self.read_part(object, Part { at, first, count }),
+            ) => self.read_or_write_part(object, Want::Give(Part { at, first, count })),
             Step::Call(
                 Service::WritePart {
                     object,
@@ -181,14 +183,15 @@ impl Kernel {
                     first,
                     count,
                 },
-            ) => self.write_part(object, Part { at, first, count }),
+            ) => self.read_or_write_part(object, Want::Take(Part { at, first, count })),
         }
         Line::Nothing
     }
 
     /// The attempt ends. A trap keeps no writes and no spawns.
     pub(crate) fn end(&mut self, outcome: Outcome)
-        ensures { self.new ≡ record self.old { attempt = attempt_left self.old.attempt outcome; phase = Phase.Ready outcome } }
+        ensures { let left = attempt_left self.old.attempt outcome in
+            self.new ≡ record self.old { attempt = left; phase = Phase.Ready outcome } }
     {
         if let Outcome::Trap(_) = outcome {
             self.attempt.drop_effects();
@@ -246,7 +249,8 @@ impl Kernel {
     /// The writes of a commit: the words of the written objects, the index, and the root.
     fn commit_writes(&self) -> u32
         requires kept { IsValid self.now }
-        ensures exact { result ≡ sum_by (λ o. (object_at self.now.set o).size) self.now.attempt.written + index_words self.now.set + 1 }
+        ensures exact { let size = λ (o : ℕ). (object_at self.now.set o).size in
+            result ≡ sum_by size self.now.attempt.written + index_words self.now.set + 1 }
         ensures some { 0 < result }
     {
         let mut words = 10 + u32::from(self.set.objects()) + 3 * u32::from(self.set.records());
@@ -260,7 +264,8 @@ impl Kernel {
     fn words_written(&self, o: ObjId) -> u32
         requires inside { o.0 < length self.now.set.objects }
         requires few { o.0 < MAX_OBJECTS }
-        ensures exact { result ≡ (if is_among o.0 self.now.attempt.written then (object_at self.now.set o.0).size else 0) }
+        ensures exact { let is_written = is_among o.0 self.now.attempt.written in
+            result ≡ (if is_written then (object_at self.now.set o.0).size else 0) }
         ensures few { result ≤ MAX_SIZE }
     {
         if self.attempt.written.has(o) {
@@ -372,7 +377,8 @@ impl Kernel {
     pub fn open_tasks(&self) -> &[TaskRec]
         requires { IsValid self.now }
         ensures exact { map task_of result.now ≡ (durable_of self.now).tasks }
-        ensures programs { AllByRecursion (λ t. t.program.0 < length self.now.set.programs) result.now }
+        ensures programs { let programs = length self.now.set.programs in
+            AllByRecursion (λ t. t.program.0 < programs) result.now }
     {
         self.state.open()
     }

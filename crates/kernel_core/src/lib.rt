@@ -4,11 +4,9 @@
 mod attempt;
 mod kernel;
 pub mod laws;
-mod objects;
 mod part;
 mod queue;
 mod services;
-mod spawns;
 mod state;
 
 pub use kernel::Kernel;

@@ -5,7 +5,7 @@ ghost use Rattle.std.specs.Result.{result_err};
 ghost use Rattle.rv_core.specs.State.{Calls};
 ghost use Rattle.rv_core.specs.Machine.{IsPlace, service_of};
 ghost use Rattle.rv_core.specs.declared.services.Service.{Service};
-ghost use Rattle.rv_core.specs.declared.services.Service.TheVariants.{Read, ReadPart, Write, WritePart, Spawn as AsksFor};
+ghost use Rattle.rv_core.specs.declared.services.Service.TheVariants.{Read, Write, Spawn as AsksFor};
 ghost use Rattle.kernel_model.specs.Runs.{Reads};
 ghost use Rattle.set_model.specs.Sets.{object_at};
 ghost use Rattle.set_model.specs.Views.{line_of};
@@ -13,15 +13,15 @@ ghost use Rattle.task_model.specs.TaskSteps.{part_refusal, refusal, served};
 ghost use Rattle.kernel_model.specs.Alone.{IsUnmet};
 ghost use Rattle.kernel_core.specs.Invariant.{IsValid};
 ghost use Rattle.kernel_core.specs.Simulation.{SimulatesService, SimulatesTurn};
-ghost use Rattle.kernel_core.specs.Wants.{Awaits, received, seen_in};
+ghost use Rattle.kernel_core.specs.Wants.{Awaits, part_service, received, seen_in};
 
 use crate::attempt::Attempt;
 use crate::kernel::{Kernel, Phase};
-use crate::part::{Part, Want, give};
-use crate::spawns::MAX_SPAWNS;
+use crate::part::Want;
 use crate::state::Durable;
 use nv_base::limits::MAX_OBJECTS;
 use nv_base::{Line, ObjId, Outcome, ProgId, Spawn, TrapCause};
+use task_model::{MAX_SPAWNS, Part, give};
 
 /// The words that an attempt sees of an object: its own last write, else those that are durable.
 fn seen<'a>(attempt: &'a Attempt, state: &'a Durable, o: ObjId) -> &'a [u32]
@@ -44,7 +44,8 @@ impl Kernel {
         ensures object { IfOk result (λ o. o.0 ≡ object) }
         ensures inside { OnOk result (object < length self.now.set.objects) }
         ensures few { OnOk result (object < MAX_OBJECTS) }
-        ensures place { OnOk result (IsPlace self.now.machine at (object_at self.now.set object).size) }
+        ensures place { let size = (object_at self.now.set object).size in
+            OnOk result (IsPlace self.now.machine at size) }
     {
         if object >= u32::from(self.set.objects()) {
             return Err(TrapCause::Object);
@@ -56,11 +57,13 @@ impl Kernel {
 
     /// The tests of a READPART or a WRITEPART, in order: Object, CallRange, CallAlign, CallRange.
     fn place_part(&self, object: u32, part: Part) -> Result<ObjId, TrapCause>
-        ensures refusal { result_err result ≡ part_refusal self.now.set self.now.machine object part.at part.first part.count }
+        ensures refusal { result_err result
+            ≡ part_refusal self.now.set self.now.machine object part.at part.first part.count }
         ensures object { IfOk result (λ o. o.0 ≡ object) }
         ensures inside { OnOk result (object < length self.now.set.objects) }
         ensures few { OnOk result (object < MAX_OBJECTS) }
-        ensures range { OnOk result (part.first + part.count ≤ (object_at self.now.set object).size) }
+        ensures range { let size = (object_at self.now.set object).size in
+            OnOk result (part.first + part.count ≤ size) }
         ensures place { OnOk result (IsPlace self.now.machine part.at part.count) }
     {
         if u32::from(self.set.objects()) <= object {
@@ -95,40 +98,22 @@ impl Kernel {
         self.want(o, Want::Give(Part { at, first, count }));
     }
 
-    /// The same, of a part of them.
-    pub(crate) fn read_part(&mut self, object: u32, part: Part)
+    /// The same of a READPART or a WRITEPART: a write of a part begins with the same words as a read.
+    pub(crate) fn read_or_write_part(&mut self, object: u32, want: Want)
         requires kept { IsValid self.old }
         requires running { self.old.phase ≡ Phase.Running }
-        requires called { service_of self.old.machine ≡ Some (ReadPart object part.at part.first part.count) }
+        requires called { service_of self.old.machine ≡ Some (part_service object want) }
         requires waits { self.old.machine.pc + 4 ≤ length self.old.machine.memory }
         ensures kept { IsValid self.new }
-        ensures serves { SimulatesService self.old (ReadPart object part.at part.first part.count) self.new }
+        ensures serves { SimulatesService self.old (part_service object want) self.new }
         ensures set { self.new.set ≡ self.old.set }
         ensures state { self.new.state ≡ self.old.state }
     {
-        let o = match self.place_part(object, part) {
+        let o = match self.place_part(object, want.part()) {
             Ok(o) => o,
             Err(cause) => return self.end(Outcome::Trap(cause)),
         };
-        self.want(o, Want::Give(part));
-    }
-
-    /// The words at the address become a part of the attempt's write. It begins with the same words as a read.
-    pub(crate) fn write_part(&mut self, object: u32, part: Part)
-        requires kept { IsValid self.old }
-        requires running { self.old.phase ≡ Phase.Running }
-        requires called { service_of self.old.machine ≡ Some (WritePart object part.at part.first part.count) }
-        requires waits { self.old.machine.pc + 4 ≤ length self.old.machine.memory }
-        ensures kept { IsValid self.new }
-        ensures serves { SimulatesService self.old (WritePart object part.at part.first part.count) self.new }
-        ensures set { self.new.set ≡ self.old.set }
-        ensures state { self.new.state ≡ self.old.state }
-    {
-        let o = match self.place_part(object, part) {
-            Ok(o) => o,
-            Err(cause) => return self.end(Outcome::Trap(cause)),
-        };
-        self.want(o, Want::Take(part));
+        self.want(o, want);
     }
 
     /// A service that wants an object's words has them at once where the attempt wrote or read the object. Else they
@@ -140,7 +125,9 @@ impl Kernel {
         requires inside { o.0 < length self.old.set.objects }
         requires awaits { Awaits self.old.machine (object_at self.old.set o.0).size want }
         ensures kept { IsValid self.new }
-        ensures serves { (service : Service) → served self.old.set (Calls self.old.machine service) ≡ Reads self.old.machine o.0 → SimulatesService self.old service self.new }
+        ensures serves { (service : Service)
+            → served self.old.set (Calls self.old.machine service) ≡ Reads self.old.machine o.0
+            → SimulatesService self.old service self.new }
         ensures set { self.new.set ≡ self.old.set }
         ensures state { self.new.state ≡ self.old.state }
     {

@@ -1,18 +1,18 @@
 //! The durable state of a kernel: objects, open tasks, clock, number and next id.
 
 ghost use Rattle.std.specs.Prelude.{◌≡◌, ◌+◌, ◌^◌, ◌<◌, ◌≤◌, ℕ, IfOk, List, MatchOption, [], ◌∷◌, length, map};
-ghost use Rattle.kernel_model.specs.Effects.{Write, object_words};
+ghost use Rattle.kernel_model.specs.Effects.{Write, put, object_words};
 ghost use Rattle.kernel_model.specs.OpenTasks.{others_than};
 ghost use Rattle.set_model.specs.Formatted.{formatted};
 ghost use Rattle.set_model.specs.Views.{spawn_of, task_of};
 ghost use Rattle.kernel_core.specs.Shapes.{AreWritten, behind, state_after};
 
-use crate::objects::Objects;
 use crate::queue::Queue;
 use nv_base::limits::{MAX_OBJECTS, MAX_RECORDS};
 use nv_base::{Entry, NoMemory, ObjId, ObjSet, Spawn, TaskRec};
 use std::alloc::Global;
 use std::marker::Model;
+use task_model::{Objects, first_objects};
 use task_set::TaskSet;
 
 /// What is durable: the words of the objects, the open tasks, the clock, the number of the last finish, and the next
@@ -31,7 +31,29 @@ impl Model for Durable {
 
     ghost Value = { DeviceState };
 
-    ghost view = { λ d. record { objects = d.objects; tasks = d.tasks; clock = d.clock; number = d.number; next = d.next } };
+    ghost view = { λ d. record {
+      objects = d.objects;
+      tasks = d.tasks;
+      clock = d.clock;
+      number = d.number;
+      next = d.next;
+    } };
+}
+
+/// Puts the words of the written objects in.
+fn put_written(objects: &mut Objects, written: ObjSet, words: &Objects)
+    requires same { length words.now ≡ length objects.old }
+    requires sizes { (o : ℕ) → o < length objects.old
+        → length (object_words words.now o) ≡ length (object_words objects.old o) }
+    ensures { (ws : List Write) → AreWritten ws written words.now
+        → objects.new ≡ put ws objects.old }
+{
+    for o in 0..objects.len() as u8 {
+        let o = ObjId(o);
+        if written.has(o) {
+            objects.set(o, words.get(o));
+        }
+    }
 }
 
 impl Durable {
@@ -44,7 +66,7 @@ impl Durable {
         few_tasks(set);
         tasks.add(1, first);
         Ok(Durable {
-            objects: Objects::of_set(alloc, set)?,
+            objects: first_objects(alloc, set)?,
             tasks,
             clock: 0,
             number: 0,
@@ -97,7 +119,8 @@ impl Durable {
 
     /// The least open task: None where there is none.
     pub(crate) fn first(&self) -> Option<TaskRec>
-        ensures { MatchOption result (self.now.tasks ≡ []) (λ t. self.now.tasks ≡ task_of t ∷ behind self.now.tasks) }
+        ensures { let tasks = self.now.tasks in
+            MatchOption result (tasks ≡ []) (λ t. tasks ≡ task_of t ∷ behind tasks) }
     {
         self.tasks.first()
     }
@@ -112,14 +135,17 @@ impl Durable {
     )
         requires few { length self.old.objects ≤ MAX_OBJECTS }
         requires same { length words.now ≡ length self.old.objects }
-        requires sizes { (o : ℕ) → o < length self.old.objects → length (object_words words.now o) ≡ length (object_words self.old.objects o) }
-        requires room { length (others_than entry.task.0 self.old.tasks) + length spawns.now ≤ MAX_RECORDS }
+        requires sizes { (o : ℕ) → o < length self.old.objects
+            → length (object_words words.now o) ≡ length (object_words self.old.objects o) }
+        requires room { let others = others_than entry.task.0 self.old.tasks in
+            length others + length spawns.now ≤ MAX_RECORDS }
         requires number { self.old.number + 1 < 2 ^ 32 }
         requires ids { self.old.next + length spawns.now < 2 ^ 32 }
         requires first { entry.first.0 ≡ self.old.next }
-        ensures { (ws : List Write) → AreWritten ws written words.now → self.new ≡ state_after entry ws (map spawn_of spawns.now) self.old }
+        ensures { (ws : List Write) → AreWritten ws written words.now
+            → self.new ≡ state_after entry ws (map spawn_of spawns.now) self.old }
     {
-        self.objects.put(written, words);
+        put_written(&mut self.objects, written, words);
         self.tasks.remove(entry.task);
         self.tasks.add(entry.first.0, spawns);
         self.clock = entry.point.0;

@@ -14,7 +14,9 @@ impl LineBuf {
     /// The line of a core that begins a task.
     pub(crate) fn append_start(&mut self, core: CoreId, task: TaskId, at: Point)
         requires { length self.old ≤ 128 }
-        ensures { self.new ≡ self.old ++ field (codes "start core ") core.0 ++ field (codes " task ") task.0 ++ field (codes " at ") at.0 ++ line_feed }
+        ensures { let started = self.old ++ field (codes "start core ") core.0 in
+            let named = started ++ field (codes " task ") task.0 in
+            self.new ≡ named ++ field (codes " at ") at.0 ++ line_feed }
     {
         self.append_field(b"start core ", u32::from(core.0));
         self.append_field(b" task ", task.0);
@@ -25,7 +27,8 @@ impl LineBuf {
     /// The end of a line that tells of an attempt: its core and its task.
     pub(crate) fn append_attempt(&mut self, core: CoreId, task: TaskId)
         requires { length self.old ≤ 128 }
-        ensures { self.new ≡ self.old ++ field (codes " core ") core.0 ++ field (codes " task ") task.0 ++ line_feed }
+        ensures { let on_core = self.old ++ field (codes " core ") core.0 in
+            self.new ≡ on_core ++ field (codes " task ") task.0 ++ line_feed }
     {
         self.append_field(b" core ", u32::from(core.0));
         self.append_field(b" task ", task.0);
@@ -85,7 +88,8 @@ impl LineBuf {
     /// The lines of a boot: the finish that it found, if it found one, and the count of boots.
     pub(crate) fn append_boot(&mut self, found: Option<Entry>, boots: u32)
         requires { length self.old ≤ 128 }
-        ensures { self.new ≡ self.old ++ found_text (entry_if found) ++ field (codes "boot ") boots ++ line_feed }
+        ensures { let boot = field (codes "boot ") boots ++ line_feed in
+            self.new ≡ self.old ++ found_text (entry_if found) ++ boot }
     {
         self.append_found(found);
         self.append_field(b"boot ", boots);

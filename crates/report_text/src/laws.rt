@@ -16,13 +16,15 @@ use nv_base::TrapCause;
 /// The trap of a run has a word, that of the cause with its number; 0, which is no cause's number, has none.
 pub fn trap_has_word()
     ensures own { (cause : TrapCause) → numbered_cause_word (cause_number cause) ≡ cause_word cause }
-    ensures each { (n : ℕ) → IsOutcome (Trap n) → (cause : TrapCause) × (cause_number cause ≡ n) × (numbered_cause_word n ≡ cause_word cause) }
+    ensures each { (n : ℕ) → IsOutcome (Trap n)
+        → (cause : TrapCause) × (cause_number cause ≡ n) × (numbered_cause_word n ≡ cause_word cause) }
     ensures zero { numbered_cause_word 0 ≡ [] }
 {}
 
 /// In the report of a state that a device may hold each object of the set has its line, with its words, at its place.
 pub fn object_has_line()
-    ensures { (set : TaskSet) (state : DeviceState) (o : ℕ) → IsBase (sizes_of set) state → o < length set.objects
+    ensures { (set : TaskSet) (state : DeviceState) (o : ℕ) → IsBase (sizes_of set) state
+        → o < length set.objects
         → objects_text set.objects state.objects
         ≡ objects_text (take o set.objects) (take o state.objects)
         ++ object_text (object_at set o).name (object_words state.objects o)

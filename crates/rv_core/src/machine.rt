@@ -42,7 +42,13 @@ impl Model for Machine {
 
     ghost Value = { MachineState };
 
-    ghost view = { λ m. record { registers = m.registers; pc = m.pc; memory = m.memory.items; count = m.count; fuel = m.fuel } };
+    ghost view = { λ m. record {
+      registers = m.registers;
+      pc = m.pc;
+      memory = m.memory.items;
+      count = m.count;
+      fuel = m.fuel;
+    } };
 
     ghost use Rattle.rv_core.specs.Bytes.{IsZeroFrom};
 

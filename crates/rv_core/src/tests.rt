@@ -5,8 +5,8 @@ use nv_base::TrapCause;
 
 // The words of the worked example, which exits by its argument and 21.
 const CODE: [u32; 12] = [
-    5243539, 7340819, 6456243, 544219171, 536880131, 8651955, 4292117651, 4270927395, 4290850307,
-    11404595, 4196499, 115,
+    0x00500293, 0x00700313, 0x006283b3, 0x20702023, 0x20002403, 0x008404b3, 0xffd48493, 0xfe912e23,
+    0xffc12e03, 0x00ae0533, 0x00400893, 0x00000073,
 ];
 
 #[test]

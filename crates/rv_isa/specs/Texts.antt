@@ -67,13 +67,17 @@ number_of (Store op rs1 rs2 imm) = imm
 number_of (OpImm op rd rs1 imm) = imm
 number_of _ = pos 0
 
+-- an offset, and the base register in parentheses
+abbrev pub address_text : ℤ → Reg → List ℕ
+address_text offset base = signed_decimal offset ++ codes "(" ++ register_name base ++ codes ")"
+
 abbrev pub operand_text : Instr → Operand → List ℕ
 operand_text i Rd = register_name (rd_of i)
 operand_text i Rs1 = register_name (rs1_of i)
 operand_text i Rs2 = register_name (rs2_of i)
 operand_text i Immediate = signed_decimal (number_of i)
 operand_text i Target = signed_decimal (number_of i)
-operand_text i Memory = signed_decimal (number_of i) ++ codes "(" ++ register_name (rs1_of i) ++ codes ")"
+operand_text i Memory = address_text (number_of i) (rs1_of i)
 
 -- the first operand behind a space, each other behind a comma and a space
 abbrev pub operands_text : Instr → List Operand → List ℕ

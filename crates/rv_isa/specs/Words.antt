@@ -112,5 +112,5 @@ instruction_word (Store op rs1 rs2 imm) = s_word 35 (store_funct3 op) rs1.0 rs2.
 instruction_word (OpImm op rd rs1 imm) = i_word 19 rd.0 (imm_funct3 op) rs1.0 (imm_bits op imm)
 instruction_word (Op op rd rs1 rs2) = i_word 51 rd.0 (op_funct3 op) rs1.0 (op_funct7 op * 32 + rs2.0)
 instruction_word (Fence rd rs1 bits) = i_word 15 rd.0 0 rs1.0 bits
-instruction_word Ecall = 115
-instruction_word Ebreak = 1048691
+instruction_word Ecall = 0x00000073
+instruction_word Ebreak = 0x00100073

@@ -13,5 +13,6 @@ pub fn word_is_read_back()
 
 /// What the table reads is within the ranges, and its word is the word that was read.
 pub fn reading_is_written_back()
-    ensures { (word : ℕ) → (i : Instr) → word < 2 ^ 32 → instruction_of word ≡ Some i → (instruction_word i ≡ word) × IsInstr i }
+    ensures { (word : ℕ) → (i : Instr) → word < 2 ^ 32 → instruction_of word ≡ Some i
+        → (instruction_word i ≡ word) × IsInstr i }
 {}

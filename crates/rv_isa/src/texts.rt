@@ -1,10 +1,9 @@
 // Words as lines of assembler text.
 
-ghost use Rattle.std.specs.Prelude.{◌≡◌, ◌≤◌, ◌++◌, IfOk, OnErr, OnOk, codes, string_bytes};
+ghost use Rattle.std.specs.Prelude.{◌≡◌, ◌≤◌, ◌++◌, IfOk, OnErr, OnOk, string_bytes};
 ghost use Rattle.std.specs.Fmt.{signed_decimal};
-ghost use Rattle.rv_isa.specs.Names.{register_name as name_of_register};
 ghost use Rattle.rv_isa.specs.Ranges.{IsInstr, IsReg};
-ghost use Rattle.rv_isa.specs.Texts.{HasFront, hexadecimal, instruction_text, operand_text, raw_text, row_text, text_of};
+ghost use Rattle.rv_isa.specs.Texts.{HasFront, address_text, hexadecimal, instruction_text, operand_text, raw_text, row_text, text_of};
 
 use crate::decoding::decode;
 use crate::instruction::{Instr, Reg};
@@ -18,7 +17,8 @@ const FENCE: u32 = 0x0FF0000F;
 
 fn push_number(out: &mut String, n: i32) -> Result<(), AllocError>
     ensures whole { OnOk result (string_bytes out.new ≡ string_bytes out.old ++ signed_decimal n) }
-    ensures cut_off { OnErr result (HasFront (string_bytes out.old) (signed_decimal n) (string_bytes out.new)) }
+    ensures cut_off { let text = signed_decimal n in
+        OnErr result (HasFront (string_bytes out.old) text (string_bytes out.new)) }
 {
     let mut digits = itoa::Buffer::new();
     out.push_str(digits.format(n))
@@ -26,8 +26,10 @@ fn push_number(out: &mut String, n: i32) -> Result<(), AllocError>
 
 fn push_address(out: &mut String, offset: i32, base: Reg) -> Result<(), AllocError>
     requires { IsReg base }
-    ensures whole { OnOk result (string_bytes out.new ≡ string_bytes out.old ++ (signed_decimal offset ++ codes "(" ++ name_of_register base ++ codes ")")) }
-    ensures cut_off { OnErr result (HasFront (string_bytes out.old) (signed_decimal offset ++ codes "(" ++ name_of_register base ++ codes ")") (string_bytes out.new)) }
+    ensures whole { let text = address_text offset base in
+        OnOk result (string_bytes out.new ≡ string_bytes out.old ++ text) }
+    ensures cut_off { let text = address_text offset base in
+        OnErr result (HasFront (string_bytes out.old) text (string_bytes out.new)) }
 {
     push_number(out, offset)?;
     out.push_str("(")?;
@@ -37,8 +39,10 @@ fn push_address(out: &mut String, offset: i32, base: Reg) -> Result<(), AllocErr
 
 fn push_operand(out: &mut String, i: Instr, operand: Operand) -> Result<(), AllocError>
     requires { IsInstr i }
-    ensures whole { OnOk result (string_bytes out.new ≡ string_bytes out.old ++ operand_text i operand) }
-    ensures cut_off { OnErr result (HasFront (string_bytes out.old) (operand_text i operand) (string_bytes out.new)) }
+    ensures whole { let text = operand_text i operand in
+        OnOk result (string_bytes out.new ≡ string_bytes out.old ++ text) }
+    ensures cut_off { let text = operand_text i operand in
+        OnErr result (HasFront (string_bytes out.old) text (string_bytes out.new)) }
 {
     match operand {
         Operand::Rd => out.push_str(register_name(destination(i))),
@@ -52,7 +56,8 @@ fn push_operand(out: &mut String, i: Instr, operand: Operand) -> Result<(), Allo
 fn push_row(out: &mut String, i: Instr) -> Result<(), AllocError>
     requires { IsInstr i }
     ensures whole { OnOk result (string_bytes out.new ≡ string_bytes out.old ++ row_text i) }
-    ensures cut_off { OnErr result (HasFront (string_bytes out.old) (row_text i) (string_bytes out.new)) }
+    ensures cut_off { let text = row_text i in
+        OnErr result (HasFront (string_bytes out.old) text (string_bytes out.new)) }
 {
     out.push_str(mnemonic(i))?;
     if let [first, others @ ..] = operands(i) {
@@ -71,8 +76,10 @@ fn push_row(out: &mut String, i: Instr) -> Result<(), AllocError>
 #[tactic(auto, unfolding(crate::specs::Texts::hexadecimal))]
 pub fn push_hexadecimal(out: &mut String, digits: u32, n: u32) -> Result<(), AllocError>
     requires { digits ≤ 8 }
-    ensures whole { OnOk result (string_bytes out.new ≡ string_bytes out.old ++ hexadecimal digits n) }
-    ensures cut_off { OnErr result (HasFront (string_bytes out.old) (hexadecimal digits n) (string_bytes out.new)) }
+    ensures whole { let text = hexadecimal digits n in
+        OnOk result (string_bytes out.new ≡ string_bytes out.old ++ text) }
+    ensures cut_off { let text = hexadecimal digits n in
+        OnErr result (HasFront (string_bytes out.old) text (string_bytes out.new)) }
 {
     if digits == 0 {
         return Ok(());
@@ -83,7 +90,8 @@ pub fn push_hexadecimal(out: &mut String, digits: u32, n: u32) -> Result<(), All
 
 fn push_raw(out: &mut String, word: u32) -> Result<(), AllocError>
     ensures whole { OnOk result (string_bytes out.new ≡ string_bytes out.old ++ raw_text word) }
-    ensures cut_off { OnErr result (HasFront (string_bytes out.old) (raw_text word) (string_bytes out.new)) }
+    ensures cut_off { let text = raw_text word in
+        OnErr result (HasFront (string_bytes out.old) text (string_bytes out.new)) }
 {
     out.push_str(".word 0x")?;
     push_hexadecimal(out, 8, word)
@@ -94,7 +102,8 @@ fn push_raw(out: &mut String, word: u32) -> Result<(), AllocError>
 #[tactic(auto, unfolding(crate::specs::Texts::text_of))]
 pub fn push_text(out: &mut String, word: u32) -> Result<(), NoMemory>
     ensures whole { OnOk result (string_bytes out.new ≡ string_bytes out.old ++ text_of word) }
-    ensures cut_off { OnErr result (HasFront (string_bytes out.old) (text_of word) (string_bytes out.new)) }
+    ensures cut_off { let text = text_of word in
+        OnErr result (HasFront (string_bytes out.old) text (string_bytes out.new)) }
 {
     match decode(word) {
         Some(Instr::Fence { .. }) if word != FENCE => push_raw(out, word)?,

@@ -1,7 +1,8 @@
 -- The report that was put is the one of which the headline holds.
 use Rattle.std.proofs.Common.{◌≡◌, ℕ, Bool, true, false, cond, List, length, Option, Some, None, Ok, subst, sym, ap, ◌∙◌, ltb}
 use Rattle.schedule_model.specs.Failures.{events_of}
-use Rattle.headline.specs.Headline.{Headline, report_text}
+use Rattle.headline.specs.Headline.{Headline}
+use Rattle.headline.specs.Report.{report_text}
 use Rattle.script.specs.Parts as scripts
 use Rattle.script.specs.Reading.{read}
 use Rattle.script.specs.declared.status.Status.{Status}

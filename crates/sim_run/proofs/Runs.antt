@@ -19,7 +19,8 @@ use Rattle.set_model.specs.Views.{line_of}
 use Rattle.task_model.specs.TaskSteps.{world_of}
 use Rattle.report_text.specs.Lines.{line_text}
 use Rattle.report_text.specs.Report.{end_part, lines_text}
-use Rattle.headline.specs.Run.{after, event_lines, first_state, report_text, state_read}
+use Rattle.task_model.specs.SetRun.{after, event_lines, first_state, state_read}
+use Rattle.headline.specs.Report.{report_text}
 use Rattle.kernel_core.specs.Invariant.{IsValid, finishes}
 use Rattle.kernel_core.specs.Represents.{Simulates, Represents, durable_of, left_in}
 use Rattle.kernel_core.specs.declared.kernel.Kernel.{Kernel}

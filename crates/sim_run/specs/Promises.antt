@@ -2,7 +2,8 @@
 use Rattle.std.specs.Prelude.{◌≡◌, ℕ, List, Option, Some, Ok}
 use Rattle.nv_base.specs.Streams.{appended}
 use Rattle.schedule_model.specs.Failures.{events_of}
-use Rattle.headline.specs.Headline.{Headline, report_text}
+use Rattle.headline.specs.Headline.{Headline}
+use Rattle.headline.specs.Report.{report_text}
 use Rattle.script.specs.Parts.{Script}
 use Rattle.script.specs.Reading.{read}
 use Rattle.script.specs.declared.status.Status.{Status}

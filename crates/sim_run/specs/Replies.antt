@@ -10,7 +10,7 @@ use Rattle.rv_asm.specs.Causes.{AsmError}
 use Rattle.set_model.specs.Sets.{TaskSet}
 use Rattle.schedule_model.specs.Failures.{events_of}
 use Rattle.schedule_model.specs.Parts.{failure_count}
-use Rattle.headline.specs.Run.{report_text}
+use Rattle.headline.specs.Report.{report_text}
 use Rattle.task_image.specs.Packed.{packed}
 use Rattle.task_image.specs.Unpacked.{unpacked}
 use Rattle.script.specs.Parts as scripts

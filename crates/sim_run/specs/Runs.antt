@@ -9,7 +9,8 @@ use Rattle.kernel_model.specs.Report.{found_lines, unprinted}
 use Rattle.set_model.specs.Sets.{TaskSet, object_at}
 use Rattle.report_text.specs.Lines.{end_text, object_text, open_text}
 use Rattle.report_text.specs.Report.{end_part, lines_text, objects_text}
-use Rattle.headline.specs.Run.{after, event_lines, report_text}
+use Rattle.task_model.specs.SetRun.{after, event_lines}
+use Rattle.headline.specs.Report.{report_text}
 use Rattle.kernel_core.specs.Invariant.{IsValid, finishes}
 use Rattle.kernel_core.specs.Represents.{Represents, durable_of}
 use Rattle.kernel_core.specs.declared.kernel.Kernel.{Kernel}

@@ -6,7 +6,8 @@ use script::{ScriptCause, ScriptError};
 use std::rc::RcStr;
 use std::test::Fail;
 
-const SET_A: &str =
+/// A set of one program, which adds its argument to its one object.
+const ADDING_SET: &str =
     "nvk 1\ncores 1\nmemory 1024\nrecords 1\nobject x 1 2 5\ncode add 100\n00050413 00000513 20000593 00100893\n00000073 20002283 008282b3 20502023\n00200893 00000073 00400893 00000073\nend\n";
 
 /// How a call on this input ends, and what it puts.
@@ -51,7 +52,7 @@ fn smallest_runs_are_done(rt: HostRuntime) -> Result<(), Fail> {
         "steps 0*26\nmix 1 5\n",
         "power 41\nsteps 0*40\n",
     ] {
-        let text = format!(in rt.alloc(); "{SET_A}task add 7\n{steps}run\n")?;
+        let text = format!(in rt.alloc(); "{ADDING_SET}task add 7\n{steps}run\n")?;
         assert!(rt;
             puts(
                 &rt,
@@ -62,7 +63,7 @@ fn smallest_runs_are_done(rt: HostRuntime) -> Result<(), Fail> {
             "{steps}"
         );
     }
-    let text = format!(in rt.alloc(); "{SET_A}task add 7\nsteps 0*30\nrun\n")?;
+    let text = format!(in rt.alloc(); "{ADDING_SET}task add 7\nsteps 0*30\nrun\n")?;
     assert!(rt;
         puts(
             &rt,
@@ -76,7 +77,7 @@ fn smallest_runs_are_done(rt: HostRuntime) -> Result<(), Fail> {
 
 #[test]
 fn an_unfinished_task_stays_open(rt: HostRuntime) -> Result<(), Fail> {
-    let text = format!(in rt.alloc(); "{SET_A}task add 7\nsteps 0*29\nrun\n")?;
+    let text = format!(in rt.alloc(); "{ADDING_SET}task add 7\nsteps 0*29\nrun\n")?;
     let expected =
         b"start core 0 task 1 at 0\nend clock 0 number 0 next 2 boots 0\nobject x 5\nopen 1 add 7\ndone\n";
     assert!(rt; puts(&rt, "run", text.as_str().as_bytes(), expected)?);
@@ -203,7 +204,7 @@ fn refused_scripts_are_named(rt: HostRuntime) -> Result<(), Fail> {
 fn several_cores_and_failures_are_not_built(rt: HostRuntime) -> Result<(), Fail> {
     let two = b"nvk 1\ncores 2\nmemory 1024\nrecords 1\nobject x 1 2\nprogram p 1\nend\nrun\n";
     assert!(rt; refuses(&rt, "run", two, b"error notbuilt\n")?);
-    let failing = format!(in rt.alloc(); "{SET_A}task add 7\npower 40\nsteps 0*40\nrun\n")?;
+    let failing = format!(in rt.alloc(); "{ADDING_SET}task add 7\npower 40\nsteps 0*40\nrun\n")?;
     assert!(rt; refuses(&rt, "run", failing.as_str().as_bytes(), b"error notbuilt\n")?);
     assert!(rt; ends(&rt, &["pack"], two, (&[], &[]))?.0 == Status::Done);
     Ok(())
@@ -221,7 +222,7 @@ fn words_are_assembled(rt: HostRuntime) -> Result<(), Fail> {
 
 #[test]
 fn sets_are_packed_and_unpacked(rt: HostRuntime) -> Result<(), Fail> {
-    let script = format!(in rt.alloc(); "{SET_A}task add 7\nsteps 0*40\nrun\n")?;
+    let script = format!(in rt.alloc(); "{ADDING_SET}task add 7\nsteps 0*40\nrun\n")?;
     let (status, packed) = ends(&rt, &["pack"], script.as_str().as_bytes(), (&[], &[]))?;
     assert!(rt; status == Status::Done && packed.len() == 91);
     let text =
@@ -234,13 +235,14 @@ fn sets_are_packed_and_unpacked(rt: HostRuntime) -> Result<(), Fail> {
     Ok(())
 }
 
-/// Four programs over two objects and two cores.
-const SET_S: &[u8] =
+/// Two objects and two cores, and four programs: one copies an object plus one to the other, one puts its argument into
+/// an object, one reads both, and one writes both.
+const SET_OF_FOUR_PROGRAMS: &[u8] =
     b"nvk 1\ncores 2\nmemory 1024\nrecords 4\nobject x 1 2 5\nobject y 1 2 8\nprogram cp 100\nsrli t1, a0, 4\nandi a0, a0, 15\nli a1, 512\nli a7, 1\necall\nmv a0, t1\nlw t0, 512(zero)\naddi t0, t0, 1\nsw t0, 512(zero)\nli a7, 2\necall\nli a7, 4\necall\nend\nprogram put 100\nsrli t0, a0, 4\nsw t0, 512(zero)\nandi a0, a0, 15\nli a1, 512\nli a7, 2\necall\nli a7, 4\necall\nend\nprogram sum 100\nli a0, 0\nli a1, 512\nli a7, 1\necall\nli a0, 1\nli a1, 516\necall\nlw a0, 512(zero)\nlw t0, 516(zero)\nadd a0, a0, t0\nli a7, 4\necall\nend\nprogram both 100\nsw a0, 512(zero)\nli a0, 0\nli a1, 512\nli a7, 2\necall\nli a0, 1\necall\nli a7, 4\necall\nend\nrun\n";
 
 #[test]
 fn a_set_of_four_programs_is_packed(rt: HostRuntime) -> Result<(), Fail> {
-    let (status, packed) = ends(&rt, &["pack"], SET_S, (&[], &[]))?;
+    let (status, packed) = ends(&rt, &["pack"], SET_OF_FOUR_PROGRAMS, (&[], &[]))?;
     assert!(rt; status == Status::Done);
     // a head of 20, objects of 8 bytes each, programs of 13, 8, 12 and 9 words with their heads and names
     assert_eq!(rt; packed.len(), 20 + 2 * 8 + 4 * 7 + 12 + 4 * 42);
@@ -262,7 +264,7 @@ fn other_words_are_usage(rt: HostRuntime) -> Result<(), Fail> {
 
 #[test]
 fn faults_are_named(rt: HostRuntime) -> Result<(), Fail> {
-    let text = format!(in rt.alloc(); "{SET_A}task add 7\nsteps 0*40\nrun\n")?;
+    let text = format!(in rt.alloc(); "{ADDING_SET}task add 7\nsteps 0*40\nrun\n")?;
     let input = text.as_str().as_bytes();
     let (status, put) = ends(&rt, &["run"], input, (&[1], &[]))?;
     assert!(rt; status == Status::ReadFault);

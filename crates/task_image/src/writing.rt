@@ -49,7 +49,7 @@ fn put_words(out: &mut Vec<u8>, words: &[u32]) -> Result<(), NoMemory>
 }
 
 // The name of an object, which has at most 16 bytes.
-#[tactic(auto, using(crate::proofs::SetFacts::object_name_is_short))]
+#[tactic(auto, using(set_model::proofs::NameFacts::object_name_is_short))]
 fn object_name(set: &TaskSet, o: ObjId) -> &[u8]
     requires { o.0 < length set.now.objects }
     ensures exact { result.now ≡ (object_at set.now o.0).name }
@@ -61,7 +61,7 @@ fn object_name(set: &TaskSet, o: ObjId) -> &[u8]
 }
 
 // The name of a program, which has at most 16 bytes.
-#[tactic(auto, using(crate::proofs::SetFacts::program_name_is_short))]
+#[tactic(auto, using(set_model::proofs::NameFacts::program_name_is_short))]
 fn program_name(set: &TaskSet, p: ProgId) -> &[u8]
     requires { p.0 < length set.now.programs }
     ensures exact { result.now ≡ (program_at set.now p.0).name }

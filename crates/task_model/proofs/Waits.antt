@@ -1,5 +1,5 @@
 -- What the services that wait for an object's words make of a run.
-use Rattle.std.proofs.Common.{◌≡◌, ℕ, suc, ◌+◌, ◌-◌, ◌<◌, ◌≤◌, cond, List, length, take, drop, set, Option, Some, None, sym, ap, ◌∙◌, subst, arith}
+use Rattle.std.proofs.Common.{◌≡◌, ℕ, suc, ◌+◌, ◌<◌, ◌≤◌, cond, List, length, set, Option, Some, None, sym, ap, ◌∙◌, subst, arith}
 use Rattle.object_sets.specs.ObjectSets.{is_among, with_object, IsIncreasing}
 use Rattle.rv_core.specs.State.{MachineState, Next, Calls}
 use Rattle.rv_core.specs.Machine.{put_words, service_of, step_of, words_at}
@@ -105,12 +105,12 @@ reads_object programs p s g m o x at words r q e t l called w gives goes =
     given programs p s m (Read o at) x r q (λ all h. ap (λ f. unless f (Reads s o)) (sym (t all h)) ∙ ap (Reads s) (sym e)) (omega (arith, l, e)) (λ ws. rewritten_as s (Read o at) ws called)
     (next_is (past g) m goes ∙ ap past gives ∙ ap (λ y. past (record s { memory = put_words s.memory at y })) w ∙ sym (given_as s (Read o at) (object_words p.values x) called))
 
-pub reads_part : (programs : ℕ) (p : Progress) (s g m : MachineState) (o x at first count : ℕ) (words r : List ℕ) → r ≡ reads_noted p x → x ≡ o → PartTestsTo p s o at first count None → o < length p.values → service_of s ≡ Some (ReadPart o at first count)
-    → words ≡ object_words p.values x → g ≡ record s { memory = put_words s.memory at (take (first + count - first) (drop first words)) } → Next (past g) ≡ Next m
+pub reads_part : (programs : ℕ) (p : Progress) (s m : MachineState) (o x at first count : ℕ) (words r : List ℕ) → r ≡ reads_noted p x → x ≡ o → PartTestsTo p s o at first count None → o < length p.values → service_of s ≡ Some (ReadPart o at first count)
+    → words ≡ object_words p.values x → m ≡ past (record s { memory = put_words s.memory at (part_of first count words) })
     → Turns programs p (Calls s (ReadPart o at first count)) None m (record p { reads = r })
-reads_part programs p s g m o x at first count words r q e t l called w gives goes =
+reads_part programs p s m o x at first count words r q e t l called w gives =
     given programs p s m (ReadPart o at first count) x r q (λ all h. ap (λ f. unless f (Reads s o)) (sym (t all h)) ∙ ap (Reads s) (sym e)) (omega (arith, l, e)) (λ ws. rewritten_as s (ReadPart o at first count) ws called)
-    (next_is (past g) m goes ∙ ap past gives ∙ ap (λ n. past (record s { memory = put_words s.memory at (take n (drop first words)) })) (let same : first + count - first ≡ count = omega arith in same) ∙ ap (λ y. past (record s { memory = put_words s.memory at (part_of first count y) })) w ∙ sym (given_as s (ReadPart o at first count) (object_words p.values x) called))
+    (gives ∙ ap (λ y. past (record s { memory = put_words s.memory at (part_of first count y) })) w ∙ sym (given_as s (ReadPart o at first count) (object_words p.values x) called))
 
 pub writes_part : (programs : ℕ) (p : Progress) (s m : MachineState) (o x at first count : ℕ) (r : List ℕ) (v : List (List ℕ)) (w : List ℕ) → r ≡ reads_noted p x → x ≡ o → PartTestsTo p s o at first count None → o < length p.values → service_of s ≡ Some (WritePart o at first count)
     → first + count ≤ length (object_words p.values o) → v ≡ set p.values x (with_part first (words_at s.memory at count) (object_words p.values x)) → w ≡ with_object x p.written → IsIncreasing w → Next (past s) ≡ Next m

@@ -2,4 +2,5 @@ pub mod TaskSteps
 pub mod Shape
 pub mod Progress
 pub mod WholeRun
+pub mod SetRun
 pub mod WorkedRuns

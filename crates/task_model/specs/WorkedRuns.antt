@@ -9,55 +9,55 @@ use Rattle.task_model.specs.TaskSteps.{task_steps}
 
 -- mv s0, a0; li a0, 0; li a1, 512; li a7, 1; ecall (READ); lw t0, 512(zero); add t0, t0, s0; sw t0, 512(zero); li a7, 2; ecall (WRITE)
 abbrev pub reads_adds_writes : List ℕ
-reads_adds_writes = 328723 ∷ 1299 ∷ 536872339 ∷ 1050771 ∷ 115 ∷ 536879747 ∷ 8553139 ∷ 542122019 ∷ 2099347 ∷ 115 ∷ []
+reads_adds_writes = 0x00050413 ∷ 0x00000513 ∷ 0x20000593 ∷ 0x00100893 ∷ 0x00000073 ∷ 0x20002283 ∷ 0x008282b3 ∷ 0x20502023 ∷ 0x00200893 ∷ 0x00000073 ∷ []
 
 -- li a0, 1; li a1, 512; li a7, 1; ecall (READ); lw t0, 512(zero); lw t1, 516(zero); add t0, t0, t1; sw t0, 520(zero); li a0, 0; li a1, 520; li a7, 2; ecall (WRITE)
 abbrev pub sums_up : List ℕ
-sums_up = 1049875 ∷ 536872339 ∷ 1050771 ∷ 115 ∷ 536879747 ∷ 541074179 ∷ 6455987 ∷ 542123043 ∷ 1299 ∷ 545260947 ∷ 2099347 ∷ 115 ∷ []
+sums_up = 0x00100513 ∷ 0x20000593 ∷ 0x00100893 ∷ 0x00000073 ∷ 0x20002283 ∷ 0x20402303 ∷ 0x006282b3 ∷ 0x20502423 ∷ 0x00000513 ∷ 0x20800593 ∷ 0x00200893 ∷ 0x00000073 ∷ []
 
 -- li a0, 0; li a1, 9; li a7, 3; ecall (SPAWN); li a0, 1; li a1, 4; ecall (SPAWN)
 abbrev pub spawns_two : List ℕ
-spawns_two = 1299 ∷ 9438611 ∷ 3147923 ∷ 115 ∷ 1049875 ∷ 4195731 ∷ 115 ∷ []
+spawns_two = 0x00000513 ∷ 0x00900593 ∷ 0x00300893 ∷ 0x00000073 ∷ 0x00100513 ∷ 0x00400593 ∷ 0x00000073 ∷ []
 
 -- li a0, 0; li a7, 3; ecall (SPAWN); li a0, 2; ecall (SPAWN)
 abbrev pub asks_for_another : List ℕ
-asks_for_another = 1299 ∷ 3147923 ∷ 115 ∷ 2098451 ∷ 115 ∷ []
+asks_for_another = 0x00000513 ∷ 0x00300893 ∷ 0x00000073 ∷ 0x00200513 ∷ 0x00000073 ∷ []
 
 -- li a7, 3; li a0, 0; ecall (SPAWN); j -8
 abbrev pub spawns_on : List ℕ
-spawns_on = 3147923 ∷ 1299 ∷ 115 ∷ 4288671855 ∷ []
+spawns_on = 0x00300893 ∷ 0x00000513 ∷ 0x00000073 ∷ 0xff9ff06f ∷ []
 
 -- sw a0, 512(zero); li a0, 1; li a1, 512; li a2, 1; li a3, 1; li a7, 6; ecall (WRITEPART)
 abbrev pub writes_part : List ℕ
-writes_part = 547364899 ∷ 1049875 ∷ 536872339 ∷ 1050131 ∷ 1050259 ∷ 6293651 ∷ 115 ∷ []
+writes_part = 0x20a02023 ∷ 0x00100513 ∷ 0x20000593 ∷ 0x00100613 ∷ 0x00100693 ∷ 0x00600893 ∷ 0x00000073 ∷ []
 
 -- li a0, 1; li a1, 512; li a2, 1; li a3, 1; li a7, 5; ecall (READPART); lw a0, 512(zero)
 abbrev pub reads_part : List ℕ
-reads_part = 1049875 ∷ 536872339 ∷ 1050131 ∷ 1050259 ∷ 5245075 ∷ 115 ∷ 536880387 ∷ []
+reads_part = 0x00100513 ∷ 0x20000593 ∷ 0x00100613 ∷ 0x00100693 ∷ 0x00500893 ∷ 0x00000073 ∷ 0x20002503 ∷ []
 
 -- writes_part with li a2, 2
 abbrev pub writes_past_end : List ℕ
-writes_past_end = 547364899 ∷ 1049875 ∷ 536872339 ∷ 2098707 ∷ 1050259 ∷ 6293651 ∷ 115 ∷ []
+writes_past_end = 0x20a02023 ∷ 0x00100513 ∷ 0x20000593 ∷ 0x00200613 ∷ 0x00100693 ∷ 0x00600893 ∷ 0x00000073 ∷ []
 
 -- reads_part with li a2, -1; li a3, 2, which would wrap to one word from 1 on
 abbrev pub reads_around : List ℕ
-reads_around = 1049875 ∷ 536872339 ∷ 4293920275 ∷ 2098835 ∷ 5245075 ∷ 115 ∷ []
+reads_around = 0x00100513 ∷ 0x20000593 ∷ 0xfff00613 ∷ 0x00200693 ∷ 0x00500893 ∷ 0x00000073 ∷ []
 
 -- reads_part with li a2, 0; li a3, 0
 abbrev pub reads_none : List ℕ
-reads_none = 1049875 ∷ 536872339 ∷ 1555 ∷ 1683 ∷ 5245075 ∷ 115 ∷ []
+reads_none = 0x00100513 ∷ 0x20000593 ∷ 0x00000613 ∷ 0x00000693 ∷ 0x00500893 ∷ 0x00000073 ∷ []
 
 -- sw a0, 512(zero); li a0, 1; li a1, 516; li a7, 2; ecall (WRITE); li a0, 1; li a1, 512; li a2, 0; li a3, 1; li a7, 6; ecall (WRITEPART)
 abbrev pub writes_all_then_part : List ℕ
-writes_all_then_part = 547364899 ∷ 1049875 ∷ 541066643 ∷ 2099347 ∷ 115 ∷ 1049875 ∷ 536872339 ∷ 1555 ∷ 1050259 ∷ 6293651 ∷ 115 ∷ []
+writes_all_then_part = 0x20a02023 ∷ 0x00100513 ∷ 0x20400593 ∷ 0x00200893 ∷ 0x00000073 ∷ 0x00100513 ∷ 0x20000593 ∷ 0x00000613 ∷ 0x00100693 ∷ 0x00600893 ∷ 0x00000073 ∷ []
 
 -- li a7, 4; ecall (FINISH)
 abbrev pub finishes : List ℕ
-finishes = 4196499 ∷ 115 ∷ []
+finishes = 0x00400893 ∷ 0x00000073 ∷ []
 
 -- ebreak
 abbrev pub breaks : List ℕ
-breaks = 1048691 ∷ []
+breaks = 0x00100073 ∷ []
 
 -- an object of one word and one of two, and two programs of the same code
 abbrev pub set_of : List ℕ → TaskSet

@@ -34,12 +34,15 @@ pub fn task_set_is_set_up()
     formatted_state_is_fit();
 }
 
-/// While a call waits, the registers name it, with all its arguments: so the machine alone says what it makes of the words that it is given.
+/// While a call waits, the registers name it, with all its arguments: so the machine alone says what it makes of the
+/// words that it is given.
 pub fn registers_name_call()
-    ensures { (m s : MachineState) (service : Service) → step_of m ≡ Calls s service → service_of s ≡ Some service }
+    ensures { (m s : MachineState) (service : Service) → step_of m ≡ Calls s service
+        → service_of s ≡ Some service }
 {}
 
-/// Worked runs: tasks that read, add and write, from one object to another too, that spawn, and that read and write a part of an object. Where one traps, it has written and spawned nothing.
+/// Worked runs: tasks that read, add and write, from one object to another too, that spawn, and that read and write a
+/// part of an object. Where one traps, it has written and spawned nothing.
 pub fn worked()
     ensures adds { AddsToObject }
     ensures traps { TrapsAfterWrite }

@@ -1,4 +1,4 @@
-//! The words of the objects.
+//! The words of the objects, in memory that is taken once.
 
 ghost use Rattle.std.specs.Prelude.{◌≡◌, ◌<◌, ◌≤◌, ◌+◌, ◌++◌, ◌∷◌, [], IfOk, MatchResult, length, slice_set};
 ghost use Rattle.rv_core.specs.Machine.{words_at, IsPlace};
@@ -7,6 +7,7 @@ ghost use Rattle.set_model.specs.Formatted.{formatted};
 ghost use Rattle.task_model.specs.TaskSteps.{with_part};
 ghost use Rattle.task_model.specs.Shape.{AreAlike, HasShape};
 
+use crate::part::Part;
 use nv_base::limits::{MAX_OBJECTS, MAX_SIZE};
 use nv_base::{NoMemory, ObjId};
 use rv_core::Machine;
@@ -57,17 +58,22 @@ impl Words {
         machine.copy_out(at, self.items.as_mut_slice());
     }
 
-    // So many words, in place of those from number first on, from an address of a machine's memory.
-    fn take_part(&mut self, first: usize, count: usize, machine: &Machine, at: u32)
-        requires place { IsPlace machine.now at count }
-        requires inside { first + count ≤ length self.old }
-        ensures { self.new ≡ with_part first (words_at machine.now.memory at count) self.old }
+    // The words of a part, from a machine's memory, in place of those that there are.
+    fn take_part(&mut self, part: Part, machine: &Machine)
+        requires place { IsPlace machine.now part.at part.count }
+        requires inside { part.first + part.count ≤ length self.old }
+        ensures { let taken = words_at machine.now.memory part.at part.count in
+            self.new ≡ with_part part.first taken self.old }
     {
-        machine.copy_out(at, &mut self.items.as_mut_slice()[first..first + count]);
+        let first = part.first as usize;
+        machine.copy_out(
+            part.at,
+            &mut self.items.as_mut_slice()[first..first + part.count as usize],
+        );
     }
 
-    fn take(&mut self, words: &[u32])
-        requires { length self.old ≡ length words.now }
+    fn set(&mut self, words: &[u32])
+        requires { length words.now ≡ length self.old }
         ensures { self.new ≡ words.now }
     {
         self.items.as_mut_slice().copy_from_slice(words);
@@ -111,19 +117,20 @@ impl Objects {
     }
 
     /// The words of an object.
-    pub fn get(&self, object: usize) -> &[u32]
-        requires { object < length self.now }
-        ensures exact { result.now ≡ object_words self.now object }
+    pub fn get(&self, o: ObjId) -> &[u32]
+        requires { o.0 < length self.now }
+        ensures exact { result.now ≡ object_words self.now o.0 }
         ensures small { length result.now ≤ MAX_SIZE }
     {
-        self.items[object].as_slice()
+        self.items[usize::from(o.0)].as_slice()
     }
 
     /// Adds an object behind the others. `NoMemory` leaves the objects as they were.
     pub fn push(&mut self, alloc: Global, words: &[u32]) -> Result<(), NoMemory>
         requires few { length self.old < MAX_OBJECTS }
         requires small { length words.now ≤ MAX_SIZE }
-        ensures { MatchResult result (λ _. self.new ≡ self.old ++ words.now ∷ []) (λ _. self.new ≡ self.old) }
+        ensures { let more = self.old ++ words.now ∷ [] in
+            MatchResult result (λ _. self.new ≡ more) (λ _. self.new ≡ self.old) }
     {
         let words = Words::of(alloc, words)?;
         self.items.push(words)?;
@@ -142,29 +149,47 @@ impl Objects {
     }
 
     /// Takes an object's words from an address of a machine's memory.
-    pub(crate) fn take_from(&mut self, object: usize, machine: &Machine, at: u32)
-        requires inside { object < length self.old }
-        requires place { IsPlace machine.now at (length (object_words self.old object)) }
-        ensures { self.new ≡ slice_set self.old object (words_at machine.now.memory at (length (object_words self.old object))) }
+    pub fn take_from(&mut self, o: ObjId, machine: &Machine, at: u32)
+        requires inside { o.0 < length self.old }
+        requires place { IsPlace machine.now at (length (object_words self.old o.0)) }
+        ensures { let taken = words_at machine.now.memory at (length (object_words self.old o.0)) in
+            self.new ≡ slice_set self.old o.0 taken }
     {
-        self.items[object].take_from(machine, at);
+        self.items[usize::from(o.0)].take_from(machine, at);
     }
 
-    /// Takes so many of an object's words, from number first on, from an address of a machine's memory.
-    pub(crate) fn take_part(
-        &mut self,
-        object: usize,
-        first: usize,
-        count: usize,
-        machine: &Machine,
-        at: u32,
-    )
-        requires inside { object < length self.old }
-        requires place { IsPlace machine.now at count }
-        requires range { first + count ≤ length (object_words self.old object) }
-        ensures { self.new ≡ slice_set self.old object (with_part first (words_at machine.now.memory at count) (object_words self.old object)) }
+    /// Takes a part of an object's words from a machine's memory.
+    pub fn take_part(&mut self, o: ObjId, part: Part, machine: &Machine)
+        requires inside { o.0 < length self.old }
+        requires place { IsPlace machine.now part.at part.count }
+        requires range { part.first + part.count ≤ length (object_words self.old o.0) }
+        ensures { let taken = words_at machine.now.memory part.at part.count in
+            self.new ≡ slice_set self.old o.0 (with_part part.first taken (object_words self.old o.0)) }
     {
-        self.items[object].take_part(first, count, machine, at);
+        self.items[usize::from(o.0)].take_part(part, machine);
+    }
+
+    /// Takes over these words of an object, and then a part of them from a machine's memory.
+    pub fn take_over(&mut self, o: ObjId, words: &[u32], part: Part, machine: &Machine)
+        requires inside { o.0 < length self.old }
+        requires size { length words.now ≡ length (object_words self.old o.0) }
+        requires place { IsPlace machine.now part.at part.count }
+        requires range { part.first + part.count ≤ length words.now }
+        ensures { let taken = words_at machine.now.memory part.at part.count in
+            self.new ≡ slice_set self.old o.0 (with_part part.first taken words.now) }
+    {
+        let there = &mut self.items[usize::from(o.0)];
+        there.set(words);
+        there.take_part(part, machine);
+    }
+
+    /// Takes over the words of an object.
+    pub fn set(&mut self, o: ObjId, words: &[u32])
+        requires inside { o.0 < length self.old }
+        requires size { length words.now ≡ length (object_words self.old o.0) }
+        ensures { self.new ≡ slice_set self.old o.0 words.now }
+    {
+        self.items[usize::from(o.0)].set(words);
     }
 
     /// Takes the words of other objects, as many of each.
@@ -173,7 +198,7 @@ impl Objects {
         ensures { self.new ≡ others.now }
     {
         for object in 0..others.items.len() {
-            self.items[object].take(others.items[object].as_slice());
+            self.items[object].set(others.items[object].as_slice());
         }
     }
 }

@@ -3,7 +3,7 @@
 ghost use Rattle.std.specs.Prelude.{◌≡◌, ◌+◌, ◌*◌, ◌<◌, ◌≤◌, IfOk, OnOk, Some, ℕ, length};
 ghost use Rattle.std.specs.Result.{result_err};
 ghost use Rattle.rv_core.specs.State.{Calls};
-ghost use Rattle.rv_core.specs.Machine.{put_words, service_of, step_of, IsPlace, Keeps};
+ghost use Rattle.rv_core.specs.Machine.{service_of, step_of, IsPlace, Keeps};
 ghost use Rattle.rv_core.specs.declared.services.Service.TheVariants.{Read, ReadPart, Write, WritePart, Spawn as AsksFor};
 ghost use Rattle.kernel_model.specs.Effects.{object_words};
 ghost use Rattle.set_model.specs.Sets.{TaskSet};
@@ -12,6 +12,7 @@ ghost use Rattle.task_model.specs.Shape.{HasShape};
 ghost use Rattle.task_model.specs.Progress.{HasBegun, Turns, reads_noted};
 
 use crate::objects::Objects;
+use crate::part::{Part, give, give_words};
 use crate::spawns::{MAX_SPAWNS, Spawns};
 use nv_base::limits::MAX_OBJECTS;
 use nv_base::{NoMemory, ObjId, ObjSet, Outcome, ProgId, Spawn, TrapCause};
@@ -26,19 +27,6 @@ pub(crate) struct Progress {
     pub(crate) reads: ObjSet,
     pub(crate) written: ObjSet,
     pub(crate) spawns: Spawns,
-}
-
-/// Puts the words of an object into a machine's memory.
-fn give_words(machine: &mut Machine, at: u32, words: &[u32])
-    requires { IsPlace machine.old at (length words.now) }
-    ensures exact { machine.new ≡ record machine.old { memory = put_words machine.old.memory at words.now } }
-    ensures room { length machine.new.memory ≡ length machine.old.memory }
-{
-    let mut place = at;
-    for word in words {
-        machine.copy_in(place, *word);
-        place += 4;
-    }
 }
 
 impl Progress {
@@ -78,7 +66,7 @@ impl Progress {
                     first,
                     count,
                 },
-            ) => self.read_part(machine, object, at, first, count),
+            ) => self.read_part(machine, object, Part { at, first, count }),
             Step::Call(
                 Service::WritePart {
                     object,
@@ -86,51 +74,50 @@ impl Progress {
                     first,
                     count,
                 },
-            ) => self.write_part(machine, object, at, first, count),
+            ) => self.write_part(machine, object, Part { at, first, count }),
         }
     }
 
     /// The tests of a READ or a WRITE, in order: Object, CallAlign, CallRange.
     fn place(&self, machine: &Machine, object: u32, at: u32) -> Result<ObjId, TrapCause>
-        ensures refusal { (set : TaskSet) → HasShape set self.now.values → result_err result ≡ refusal set machine.now object at }
+        ensures refusal { (set : TaskSet) → HasShape set self.now.values
+            → result_err result ≡ refusal set machine.now object at }
         ensures object { IfOk result (λ o. o.0 ≡ object) }
         ensures inside { OnOk result (object < length self.now.values) }
         ensures few { OnOk result (object < MAX_OBJECTS) }
-        ensures place { OnOk result (IsPlace machine.now at (length (object_words self.now.values object))) }
+        ensures place { let size = length (object_words self.now.values object) in
+            OnOk result (IsPlace machine.now at size) }
     {
         if object as usize >= self.values.len() {
             return Err(TrapCause::Object);
         }
-        let words = self.values.get(object as usize);
-        machine.fits(at, words.len() as u32)?;
-        Ok(ObjId(object as u8))
+        let o = ObjId(object as u8);
+        machine.fits(at, self.values.get(o).len() as u32)?;
+        Ok(o)
     }
 
     /// The tests of a READPART or a WRITEPART, in order: Object, CallRange, CallAlign, CallRange.
-    fn place_part(
-        &self,
-        machine: &Machine,
-        object: u32,
-        at: u32,
-        first: u32,
-        count: u32,
-    ) -> Result<ObjId, TrapCause>
-        ensures refusal { (set : TaskSet) → HasShape set self.now.values → result_err result ≡ part_refusal set machine.now object at first count }
+    fn place_part(&self, machine: &Machine, object: u32, part: Part) -> Result<ObjId, TrapCause>
+        ensures refusal { (set : TaskSet) → HasShape set self.now.values
+            → result_err result
+            ≡ part_refusal set machine.now object part.at part.first part.count }
         ensures object { IfOk result (λ o. o.0 ≡ object) }
         ensures inside { OnOk result (object < length self.now.values) }
         ensures few { OnOk result (object < MAX_OBJECTS) }
-        ensures range { OnOk result (first + count ≤ length (object_words self.now.values object)) }
-        ensures place { OnOk result (IsPlace machine.now at count) }
+        ensures range { let size = length (object_words self.now.values object) in
+            OnOk result (part.first + part.count ≤ size) }
+        ensures place { OnOk result (IsPlace machine.now part.at part.count) }
     {
         if self.values.len() <= object as usize {
             return Err(TrapCause::Object);
         }
-        let words = self.values.get(object as usize);
-        if count == 0 || first as u64 + count as u64 > words.len() as u64 {
+        let o = ObjId(object as u8);
+        let end = part.first as u64 + part.count as u64;
+        if part.count == 0 || end > self.values.get(o).len() as u64 {
             return Err(TrapCause::CallRange);
         }
-        machine.fits(at, count)?;
-        Ok(ObjId(object as u8))
+        machine.fits(part.at, part.count)?;
+        Ok(o)
     }
 
     /// The objects read from outside, with this one, unless the task wrote it.
@@ -146,56 +133,41 @@ impl Progress {
     }
 
     /// Gives some of the object's words as the task sees them.
-    fn read_part(
-        &mut self,
-        machine: &mut Machine,
-        object: u32,
-        at: u32,
-        first: u32,
-        count: u32,
-    ) -> Option<Outcome>
-        requires called { service_of machine.old ≡ Some (ReadPart object at first count) }
+    fn read_part(&mut self, machine: &mut Machine, object: u32, part: Part) -> Option<Outcome>
+        requires called { service_of machine.old
+            ≡ Some (ReadPart object part.at part.first part.count) }
         requires waits { machine.old.pc + 4 ≤ length machine.old.memory }
-        ensures turns { (programs : ℕ) → Turns programs self.old (Calls machine.old (ReadPart object at first count)) result machine.new self.new }
+        ensures turns { let service = ReadPart object part.at part.first part.count in
+            let call = Calls machine.old service in
+            (programs : ℕ) → Turns programs self.old call result machine.new self.new }
         ensures kept { Keeps machine.old machine.new }
     {
-        let o = match self.place_part(machine, object, at, first, count) {
+        let o = match self.place_part(machine, object, part) {
             Ok(o) => o,
             Err(cause) => return Some(Outcome::Trap(cause)),
         };
-        let words = self.values.get(o.0 as usize);
-        give_words(
-            machine,
-            at,
-            &words[first as usize..first as usize + count as usize],
-        );
-        machine.resume(None);
+        give(machine, part, self.values.get(o));
         self.reads = self.reads_with(o);
         None
     }
 
     /// The words at the address take the place of some of the object's, as the task sees it.
-    fn write_part(
-        &mut self,
-        machine: &mut Machine,
-        object: u32,
-        at: u32,
-        first: u32,
-        count: u32,
-    ) -> Option<Outcome>
-        requires called { service_of machine.old ≡ Some (WritePart object at first count) }
+    fn write_part(&mut self, machine: &mut Machine, object: u32, part: Part) -> Option<Outcome>
+        requires called { service_of machine.old
+            ≡ Some (WritePart object part.at part.first part.count) }
         requires waits { machine.old.pc + 4 ≤ length machine.old.memory }
-        ensures turns { (programs : ℕ) → Turns programs self.old (Calls machine.old (WritePart object at first count)) result machine.new self.new }
+        ensures turns { let service = WritePart object part.at part.first part.count in
+            let call = Calls machine.old service in
+            (programs : ℕ) → Turns programs self.old call result machine.new self.new }
         ensures kept { Keeps machine.old machine.new }
     {
-        let o = match self.place_part(machine, object, at, first, count) {
+        let o = match self.place_part(machine, object, part) {
             Ok(o) => o,
             Err(cause) => return Some(Outcome::Trap(cause)),
         };
         let reads = self.reads_with(o);
         self.reads = reads;
-        self.values
-            .take_part(o.0 as usize, first as usize, count as usize, machine, at);
+        self.values.take_part(o, part, machine);
         self.written.add(o);
         machine.resume(None);
         None
@@ -205,14 +177,15 @@ impl Progress {
     fn read_object(&mut self, machine: &mut Machine, object: u32, at: u32) -> Option<Outcome>
         requires called { service_of machine.old ≡ Some (Read object at) }
         requires waits { machine.old.pc + 4 ≤ length machine.old.memory }
-        ensures turns { (programs : ℕ) → Turns programs self.old (Calls machine.old (Read object at)) result machine.new self.new }
+        ensures turns { let call = Calls machine.old (Read object at) in
+            (programs : ℕ) → Turns programs self.old call result machine.new self.new }
         ensures kept { Keeps machine.old machine.new }
     {
         let object = match self.place(machine, object, at) {
             Ok(object) => object,
             Err(cause) => return Some(Outcome::Trap(cause)),
         };
-        give_words(machine, at, self.values.get(object.0 as usize));
+        give_words(machine, at, self.values.get(object));
         machine.resume(None);
         self.reads = self.reads_with(object);
         None
@@ -221,14 +194,15 @@ impl Progress {
     /// The words at the address become the object's, as the task sees it.
     fn write_object(&mut self, machine: &mut Machine, object: u32, at: u32) -> Option<Outcome>
         requires { machine.old.pc + 4 ≤ length machine.old.memory }
-        ensures turns { (programs : ℕ) → Turns programs self.old (Calls machine.old (Write object at)) result machine.new self.new }
+        ensures turns { let call = Calls machine.old (Write object at) in
+            (programs : ℕ) → Turns programs self.old call result machine.new self.new }
         ensures kept { Keeps machine.old machine.new }
     {
         let object = match self.place(machine, object, at) {
             Ok(object) => object,
             Err(cause) => return Some(Outcome::Trap(cause)),
         };
-        self.values.take_from(object.0 as usize, machine, at);
+        self.values.take_from(object, machine, at);
         machine.resume(None);
         self.written.add(object);
         None
@@ -243,7 +217,8 @@ impl Progress {
         arg: u32,
     ) -> Option<Outcome>
         requires { machine.old.pc + 4 ≤ length machine.old.memory }
-        ensures turns { Turns programs self.old (Calls machine.old (AsksFor program arg)) result machine.new self.new }
+        ensures turns { let call = Calls machine.old (AsksFor program arg) in
+            Turns programs self.old call result machine.new self.new }
         ensures kept { Keeps machine.old machine.new }
     {
         if program >= programs as u32 {

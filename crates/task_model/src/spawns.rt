@@ -1,4 +1,4 @@
-//! The tasks that a run asks for.
+//! The tasks that a task asks for while it runs.
 
 ghost use Rattle.std.specs.Prelude.{◌≡◌, ◌<◌, ◌≤◌, ◌++◌, ◌∷◌, [], IfOk, length};
 
@@ -6,10 +6,10 @@ use nv_base::{NoMemory, Spawn, limits};
 use std::alloc::Global;
 use std::marker::Model;
 
-/// How many tasks a run may spawn.
+/// How many tasks a task may spawn.
 pub const MAX_SPAWNS: usize = limits::MAX_SPAWNS as usize;
 
-/// The tasks that a run spawned, in order: at most so many, with room for all from the first on.
+/// The tasks that a task spawned, in order: at most so many, with room for all from the first on.
 #[derive(Debug, Drop)]
 pub struct Spawns {
     items: Vec<Spawn>,
@@ -24,7 +24,8 @@ impl Model for Spawns {
 
     ghost view = { λ s. s.items.items };
 
-    ghost invariant = { λ s. (length s.items.items ≤ MAX_SPAWNS) × (MAX_SPAWNS ≤ vec_capacity s.items) };
+    ghost invariant = { λ s. (length s.items.items ≤ MAX_SPAWNS)
+        × (MAX_SPAWNS ≤ vec_capacity s.items) };
 }
 
 impl Spawns {
@@ -47,13 +48,14 @@ impl Spawns {
 
     /// All of them, in order.
     pub fn as_slice(&self) -> &[Spawn]
-        ensures { result.now ≡ self.now }
+        ensures exact { result.now ≡ self.now }
+        ensures few { length result.now ≤ MAX_SPAWNS }
     {
         self.items.as_slice()
     }
 
     /// Adds one, for which there is room.
-    pub(crate) fn push(&mut self, spawn: Spawn)
+    pub fn push(&mut self, spawn: Spawn)
         requires { length self.old < MAX_SPAWNS }
         ensures { self.new ≡ self.old ++ spawn ∷ [] }
     {
@@ -61,7 +63,7 @@ impl Spawns {
     }
 
     /// Drops them.
-    pub(crate) fn clear(&mut self)
+    pub fn clear(&mut self)
         ensures { self.new ≡ [] }
     {
         self.items.clear();

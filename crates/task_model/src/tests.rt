@@ -143,7 +143,9 @@ fn run(rt: &HostRuntime, code: &[u32], fuel: u32) -> Result<Whole, Fail> {
 }
 
 fn has_words(objects: &Objects, x: u32, y: [u32; 2]) -> bool {
-    objects.len() == 2 && objects.get(0) == [x].as_slice() && objects.get(1) == y.as_slice()
+    objects.len() == 2
+        && objects.get(ObjId(0)) == [x].as_slice()
+        && objects.get(ObjId(1)) == y.as_slice()
 }
 
 fn only(object: ObjId) -> ObjSet

@@ -37,7 +37,8 @@ pub struct Whole {
 fn whole_of(progress: Progress, outcome: Outcome, objects: &Objects) -> Whole
     requires { AreAlike progress.values objects.now }
     ensures alike { AreAlike result.values objects.now }
-    ensures exact { (set : Parts) (e : Effects) → Stands set objects.now e progress → IsWholeRun result (ended e (outcome_of outcome)) objects.now }
+    ensures exact { (set : Parts) (e : Effects) → Stands set objects.now e progress
+        → IsWholeRun result (ended e (outcome_of outcome)) objects.now }
 {
     let Progress {
         mut values,
@@ -80,7 +81,8 @@ fn run_in_room(
     requires memory { length machine.old.memory ≡ set.now.memory }
     requires program { program.0 < length set.now.programs }
     requires shape { HasShape set.now objects.now }
-    ensures exact { IsWholeRun result (whole_run (task_steps set.now) program.0 arg objects.now) objects.now }
+    ensures exact { let run = whole_run (task_steps set.now) program.0 arg objects.now in
+        IsWholeRun result run objects.now }
     ensures shape { HasShape set.now result.values }
     ensures room { length machine.new.memory ≡ set.now.memory }
 {
@@ -108,7 +110,8 @@ pub fn run_whole(
     requires memory { length machine.old.memory ≡ set.now.memory }
     requires program { program.0 < length set.now.programs }
     requires shape { HasShape set.now objects.now }
-    ensures exact { IfOk result (λ w. IsWholeRun w (whole_run (task_steps set.now) program.0 arg objects.now) objects.now) }
+    ensures exact { let run = whole_run (task_steps set.now) program.0 arg objects.now in
+        IfOk result (λ w. IsWholeRun w run objects.now) }
     ensures shape { IfOk result (λ w. HasShape set.now w.values) }
     ensures room { length machine.new.memory ≡ set.now.memory }
     ensures kept { OnErr result (machine.new ≡ machine.old) }

@@ -7,11 +7,11 @@ use Rattle.kernel_core.proofs.kernel.Kernel.run.Goals as goal
 pub read_object-requires-clause-called : goal.read_object-requires-clause-called
 read_object-requires-clause-called c = registers_name_call c.args.self.now.machine c.step.new.self _ (rw c.in-Call-Read.field-0-is at c.in-Call-Read.ensures.exact)
 
-pub read_part-requires-clause-called : goal.read_part-requires-clause-called
-read_part-requires-clause-called c = registers_name_call c.args.self.now.machine c.step.new.self _ (rw c.in-Call-ReadPart.field-0-is at c.in-Call-ReadPart.ensures.exact)
+pub read_or_write_part-requires-clause-called : goal.read_or_write_part-requires-clause-called
+read_or_write_part-requires-clause-called c = registers_name_call c.args.self.now.machine c.step.new.self _ (rw c.in-Call-ReadPart.field-0-is at c.in-Call-ReadPart.ensures.exact)
 
-pub write_part-requires-clause-called : goal.write_part-requires-clause-called
-write_part-requires-clause-called c = registers_name_call c.args.self.now.machine c.step.new.self _ (rw c.in-Call-WritePart.field-0-is at c.in-Call-WritePart.ensures.exact)
+pub read_or_write_part-requires-in-Call-WritePart-clause-called : goal.read_or_write_part-requires-in-Call-WritePart-clause-called
+read_or_write_part-requires-in-Call-WritePart-clause-called c = registers_name_call c.args.self.now.machine c.step.new.self _ (rw c.in-Call-WritePart.field-0-is at c.in-Call-WritePart.ensures.exact)
 
 pub returns-in-Went-clause-turns : goal.returns-in-Went-clause-turns
 returns-in-Went-clause-turns c = went_on c.args.self.now c.step.new.self c.requires.running c.in-Went.ensures.exact
@@ -43,7 +43,7 @@ pub returns-in-Call-Spawn-clause-turns : goal.returns-in-Call-Spawn-clause-turns
 returns-in-Call-Spawn-clause-turns c = served_at c.args.self.now c.spawn_task.new.self c.step.new.self _ c.requires.running (rw c.in-Call-Spawn.field-0-is at c.in-Call-Spawn.ensures.exact) c.spawn_task.ensures.serves
 
 pub returns-in-Call-ReadPart-clause-turns : goal.returns-in-Call-ReadPart-clause-turns
-returns-in-Call-ReadPart-clause-turns c = served_at c.args.self.now c.read_part.new.self c.step.new.self _ c.requires.running (rw c.in-Call-ReadPart.field-0-is at c.in-Call-ReadPart.ensures.exact) c.read_part.ensures.serves
+returns-in-Call-ReadPart-clause-turns c = served_at c.args.self.now c.read_or_write_part.new.self c.step.new.self _ c.requires.running (rw c.in-Call-ReadPart.field-0-is at c.in-Call-ReadPart.ensures.exact) c.read_or_write_part.ensures.serves
 
 pub returns-in-Call-WritePart-clause-turns : goal.returns-in-Call-WritePart-clause-turns
-returns-in-Call-WritePart-clause-turns c = served_at c.args.self.now c.write_part.new.self c.step.new.self _ c.requires.running (rw c.in-Call-WritePart.field-0-is at c.in-Call-WritePart.ensures.exact) c.write_part.ensures.serves
+returns-in-Call-WritePart-clause-turns c = served_at c.args.self.now c.read_or_write_part-in-Call-WritePart.new.self c.step.new.self _ c.requires.running (rw c.in-Call-WritePart.field-0-is at c.in-Call-WritePart.ensures.exact) c.read_or_write_part-in-Call-WritePart.ensures.serves

@@ -1,6 +1,6 @@
 use Rattle.std.proofs.Common.{◌≡◌, ◌+◌, ◌*◌, ◌%◌, ◌≤◌, length, drop}
 use Rattle.rv_core.specs.Machine.{put_words}
-use Rattle.kernel_core.proofs.part.give_words.Given as goal
+use Rattle.task_model.proofs.part.give_words.Given as goal
 
 abbrev pub invariant-loop-word : goal.invariant-loop-word
 invariant-loop-word l = record {

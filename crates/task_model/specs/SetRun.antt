@@ -1,5 +1,5 @@
--- The run of a task set's event machine from the formatted state, and its report. This project's own.
-use Rattle.std.specs.Prelude.{ℕ, List, ◌++◌}
+-- The run of a task set's event machine from the formatted state. This project's own.
+use Rattle.std.specs.Prelude.{List}
 use Rattle.rv_core.specs.State.{MachineState}
 use Rattle.kernel_model.specs.Replay.{DeviceState}
 use Rattle.kernel_model.specs.Turns.{Line}
@@ -9,7 +9,6 @@ use Rattle.kernel_model.specs.Report.{report_lines}
 use Rattle.set_model.specs.Sets.{TaskSet}
 use Rattle.set_model.specs.Formatted.{formatted}
 use Rattle.task_model.specs.TaskSteps.{world_of}
-use Rattle.report_text.specs.Report.{end_part, lines_text}
 
 -- all cores idle, and the power on
 abbrev pub first_state : TaskSet → State MachineState
@@ -30,7 +29,3 @@ all_lines set events = report_lines (world_of set) (first_state set) events
 -- the durable state after some events
 abbrev pub state_read : TaskSet → List Event → DeviceState
 state_read set events = state_left (formatted set) (listed (after set events))
-
--- the whole report
-abbrev pub report_text : TaskSet → List Event → List ℕ
-report_text set events = lines_text set (all_lines set events) ++ end_part set (state_read set events) (after set events).boots
