@@ -6,14 +6,11 @@ use Rattle.kernel_model.specs.Effects.{Spawn, object_words}
 use Rattle.kernel_model.specs.Serial.{InIdOrder}
 use Rattle.kernel_model.specs.OpenTasks.{children}
 use Rattle.kernel_model.specs.Fit.{IsBase}
+use Rattle.kernel_model.proofs.ForCallers.{children_order, length-children}
 use Rattle.set_model.specs.Sets.{ObjPart, TaskSet}
 use Rattle.set_model.specs.Limits.{IsObject, IsTask, IsTaskSet}
 use Rattle.set_model.specs.Numbers.{sizes_of}
 use Rattle.set_model.specs.Formatted.{formatted}
-
-length-children : (first : ℕ) (spawns : List Spawn) → length (children first spawns) ≡ length spawns
-length-children first [] = refl
-length-children first (s ∷ spawns) = ap suc (length-children (first + 1) spawns)
 
 above : (low first : ℕ) (spawns : List Spawn) → low < first → AllByRecursion (λ t. low < t.id) (children first spawns)
 above low first [] h = tt
@@ -22,10 +19,6 @@ above low first (s ∷ spawns) h = (h, above low (first + 1) spawns (omega arith
 below : (high first : ℕ) (spawns : List Spawn) → first + length spawns ≤ high → AllByRecursion (λ t. t.id < high) (children first spawns)
 below high first [] h = tt
 below high first (s ∷ spawns) h = (omega arith, below high (first + 1) spawns (omega arith))
-
-in_order : (first : ℕ) (spawns : List Spawn) → InIdOrder (children first spawns)
-in_order first [] = tt
-in_order first (s ∷ spawns) = (above first (first + 1) spawns (omega arith), in_order (first + 1) spawns)
 
 programs : (n first : ℕ) (spawns : List Spawn) → AllByRecursion (IsTask n) spawns → AllByRecursion (λ t. t.program < n) (children first spawns)
 programs n first [] h = tt
@@ -41,7 +34,7 @@ pub formatted_is_base : (set : TaskSet) → IsTaskSet set → IsBase (sizes_of s
 formatted_is_base set h = record {
   objects = length-map _ _;
   words = λ o l. words set.objects _ o h.each_object l;
-  in_order = in_order 1 set.tasks;
+  in_order = children_order 1 set.tasks;
   positive = above 0 1 set.tasks (omega arith);
   old = below (length set.tasks + 1) 1 set.tasks (omega arith);
   programs = programs (length set.programs) 1 set.tasks h.each_task;
