@@ -66,7 +66,8 @@ fn has_things(set: &TaskSet) -> bool {
     let (y, add) = (ObjId(1), ProgId(0));
     let object = set.size(y) == 2 && set.slots(y) == 2 && set.first(y) == [6, 7].as_slice();
     let program = set.fuel(add) == 100 && set.code(add) == [0x0000_006f].as_slice();
-    let names = set.object_name(y) == b"y_2".as_slice() && set.program_name(add) == b"add".as_slice();
+    let names = set.object_name(y) == b"y_2".as_slice()
+        && set.program_name(add) == b"add".as_slice();
     object && program && names
 }
 
