@@ -3,7 +3,7 @@ use Rattle.std.proofs.Common.{◌≡◌, ℕ, zero, suc, ◌*◌, ◌/◌, ◌�
 use Rattle.std.specs.Cmp.Lexicographic.{pointwise}
 use Rattle.std.specs.Int.{is_in_range}
 use Rattle.std.specs.List.{flat_map}
-use Rattle.std.proofs.lemmas.Bool.{leb-true}
+use Rattle.std.proofs.lemmas.Bool.{leb-true, and_parts}
 use Rattle.std.proofs.lemmas.Bool.Decides.{Decides-eqb}
 use Rattle.std.proofs.lemmas.List.{append-nil}
 use Rattle.std.proofs.lemmas.Slice.Eq.{slice_eq-Decides}
@@ -12,11 +12,12 @@ use Rattle.kernel_model.specs.Effects.{Spawn}
 use Rattle.nv_base.specs.declared.limits.TheConstants.{MAX_CODE, MAX_FUEL, MAX_NAME, MAX_SIZE, MAX_SLOTS, MIN_SLOTS}
 use Rattle.set_model.specs.Sets.{ObjPart, ProgPart}
 use Rattle.task_image.specs.Packed.{packed_object, packed_program, packed_task}
-use Rattle.task_image.specs.Reading.{number, literal, new_name, is_name, is_new}
+use Rattle.plain_text.specs.Names.{is_name}
+use Rattle.task_image.specs.Reading.{number, literal, new_name, is_new}
 use Rattle.task_image.specs.Unpacked.{words, object, program, task}
 use Rattle.task_image.proofs.Fields.{Reads}
 use Rattle.task_image.proofs.Composed.{then, nothing_more, reworded}
-use Rattle.task_image.proofs.Numbers.{field_reads, number_reads, IsNumber, both}
+use Rattle.task_image.proofs.Numbers.{field_reads, number_reads, IsNumber}
 use Rattle.task_image.proofs.Lists.{Each, several_read}
 
 pub literal_reads : (text : List ℕ) → length text ≤ 16 → Reads (literal text) (λ _. text) (λ _. Unit {0}) (length text)
@@ -36,7 +37,7 @@ pub name_reads : (taken : List (List ℕ)) (n : ℕ) → n ≤ 16 → Reads (new
 name_reads taken n small =
     let each : Reads (new_name taken n) (λ name. name) (IsNewName taken n) n =
     field_reads n (λ name. is_name name && is_new taken name) (λ name. name) (λ name. name) (IsNewName taken n) small
-    (λ bytes l h e. let t = both (is_name bytes) (is_new taken bytes) e in (refl, record { long = l; form = t.0; fresh = t.1 }))
+    (λ bytes l h e. let t = and_parts (is_name bytes) (is_new taken bytes) e in (refl, record { long = l; form = t.0; fresh = t.1 }))
     (λ x q. (q.long, ap (λ (b : Bool). b && is_new taken x) q.form ∙ q.fresh, refl)) in
     reworded (λ name. name) (IsNewName taken n) 16 each (λ x p. refl) (λ x p. p) (λ x p. p) small
 
@@ -50,7 +51,7 @@ words_read n most small =
     (λ x p. refl) (λ x p. p) (λ x p. p) (omega arith)
 
 pub in_range : (low high n : ℕ) → is_in_range low high n ≡ true → (low ≤ n) × (n ≤ high)
-in_range low high n e = let t = both _ _ e in (leb-true low n t.0, leb-true n high t.1)
+in_range low high n e = let t = and_parts _ _ e in (leb-true low n t.0, leb-true n high t.1)
 
 -- ---- objects
 

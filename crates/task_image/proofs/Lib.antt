@@ -9,4 +9,4 @@ pub mod Sets
 pub mod NameLists
 pub mod Limits
 pub mod Whole
-pub mod SetFacts
+pub mod ByteFacts

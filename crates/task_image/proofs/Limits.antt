@@ -2,7 +2,7 @@
 use Rattle.std.proofs.Common.{◌≡◌, ℕ, zero, suc, ◌*◌, ◌/◌, ◌%◌, ◌^◌, ◌<◌, ◌≤◌, true, nat_lt, min, max, eqb, List, [], ◌∷◌, ◌++◌, length, map, refl, sym, subst, arith}
 use Rattle.std.specs.Int.{is_in_range}
 use Rattle.std.specs.List.{AllByRecursion}
-use Rattle.std.proofs.lemmas.Bool.{eqb-true, ltb-true}
+use Rattle.std.proofs.lemmas.Bool.{eqb-true, ltb-true, and_parts}
 use Rattle.std.proofs.lemmas.Bool.Decides.{nat_tests}
 use Rattle.std.proofs.lemmas.List.{map_push}
 use Rattle.kernel_model.specs.Effects.{Spawn}
@@ -14,8 +14,9 @@ use Rattle.set_model.proofs.LimitFacts.{most_objects, most_records}
 use Rattle.task_image.specs.Unpacked.{is_memory}
 use Rattle.task_image.proofs.Formats.{in_range, each_length, IsNewName, AreWordsOf, IsObjectAfter, IsProgramAfter, IsTaskOf, most_words}
 use Rattle.task_image.proofs.Lists.{Each}
-use Rattle.task_image.proofs.NameLists.{is_name_means, is_name_told, AreNew, new_are_distinct, distinct_are_new}
-use Rattle.task_image.proofs.Numbers.{IsNumber, both}
+use Rattle.plain_text.proofs.ForCallers.{name_means, name_told}
+use Rattle.task_image.proofs.NameLists.{AreNew, new_are_distinct, distinct_are_new}
+use Rattle.task_image.proofs.Numbers.{IsNumber}
 use Rattle.task_image.proofs.Sets.{IsRead}
 
 within_told : (low high n : ℕ) → low ≤ n → n ≤ high → is_in_range low high n ≡ true
@@ -68,13 +69,13 @@ objects_are (suc n) before [] q = (tt, tt, tt)
 objects_are (suc n) before (x ∷ xs) q =
     let t = objects_are n (before ++ x ∷ []) xs q.1 in
     let new = subst (λ (taken : List (List ℕ)). AreNew taken (object_names xs)) (map_push (λ o. o.name) before x) t.2 in
-    ((object_is _ x q.0, t.0), (is_name_means x.name (in_range 1 MAX_NAME (length x.name) q.0.long.kept) q.0.name.form, t.1), (q.0.name.fresh, new))
+    ((object_is _ x q.0, t.0), (name_means x.name q.0.name.form, t.1), (q.0.name.fresh, new))
 
 objects_told : (before xs : List ObjPart) → AllByRecursion IsObject xs → AllByRecursion IsName (object_names xs) → AreNew (object_names before) (object_names xs) → Each Objects (length xs) before xs
 objects_told before [] h n f = tt
 objects_told before (x ∷ xs) h n f =
     let new = subst (λ (taken : List (List ℕ)). AreNew taken (object_names xs)) (sym (map_push (λ o. o.name) before x)) f.1 in
-    (object_told (object_names before) x h.0 n.0 (record { long = refl; form = is_name_told x.name n.0; fresh = f.0 }), objects_told (before ++ x ∷ []) xs h.1 n.1 new)
+    (object_told (object_names before) x h.0 n.0 (record { long = refl; form = name_told x.name n.0; fresh = f.0 }), objects_told (before ++ x ∷ []) xs h.1 n.1 new)
 
 -- ---- programs
 
@@ -111,13 +112,13 @@ programs_are memory (suc n) before [] q = (tt, tt, tt)
 programs_are memory (suc n) before (x ∷ xs) q =
     let t = programs_are memory n (before ++ x ∷ []) xs q.1 in
     let new = subst (λ (taken : List (List ℕ)). AreNew taken (program_names xs)) (map_push (λ p. p.name) before x) t.2 in
-    ((program_is memory _ x q.0, t.0), (is_name_means x.name (in_range 1 MAX_NAME (length x.name) q.0.long.kept) q.0.name.form, t.1), (q.0.name.fresh, new))
+    ((program_is memory _ x q.0, t.0), (name_means x.name q.0.name.form, t.1), (q.0.name.fresh, new))
 
 programs_told : (memory : ℕ) (before xs : List ProgPart) → AllByRecursion (IsProgram memory) xs → AllByRecursion IsName (program_names xs) → AreNew (program_names before) (program_names xs) → Each (Programs memory) (length xs) before xs
 programs_told memory before [] h n f = tt
 programs_told memory before (x ∷ xs) h n f =
     let new = subst (λ (taken : List (List ℕ)). AreNew taken (program_names xs)) (sym (map_push (λ p. p.name) before x)) f.1 in
-    (program_told memory (program_names before) x h.0 n.0 (record { long = refl; form = is_name_told x.name n.0; fresh = f.0 }), programs_told memory (before ++ x ∷ []) xs h.1 n.1 new)
+    (program_told memory (program_names before) x h.0 n.0 (record { long = refl; form = name_told x.name n.0; fresh = f.0 }), programs_told memory (before ++ x ∷ []) xs h.1 n.1 new)
 
 -- ---- tasks
 
@@ -139,7 +140,7 @@ tasks_told programs few before (x ∷ xs) h =
 
 pub read_is_set : (s : TaskSet) → IsRead s → IsTaskSet s
 read_is_set s q =
-    let memory = both (is_in_range MIN_MEMORY MAX_MEMORY s.memory) (eqb (s.memory % 4) 0) q.header.memory.kept in
+    let memory = and_parts (is_in_range MIN_MEMORY MAX_MEMORY s.memory) (eqb (s.memory % 4) 0) q.header.memory.kept in
     let records = in_range (max 1 (length s.tasks)) (max_records s.format) s.records q.header.records.kept in
     record {
       format = in_range 1 MAX_FORMAT s.format q.header.format.kept;

@@ -3,7 +3,9 @@ use Rattle.std.proofs.Common.{◌≡◌, ℕ, Bool, true, false, not, cond, nat_
 use Rattle.std.specs.Bool.{OnTrue}
 use Rattle.std.specs.Cmp.Lexicographic.{pointwise}
 use Rattle.std.specs.List.{list_any}
-use Rattle.task_image.specs.Reading.{is_name, is_new}
+use Rattle.std.proofs.lemmas.List.{map_push}
+use Rattle.plain_text.specs.Names.{is_name}
+use Rattle.task_image.specs.Reading.{is_new}
 
 any_now : (name : List ℕ) (keys : List (Bor (List ℕ))) → list_any (λ k. pointwise nat_eq name k.now) keys ≡ list_any (pointwise nat_eq name) (map (λ k. k.now) keys)
 any_now name [] = refl
@@ -17,10 +19,6 @@ pub told_both : (a r : Bool) (name : List ℕ) (keys : List (Bor (List ℕ))) �
     → r ≡ (is_name name && is_new (map (λ k. k.now) keys) name)
 told_both a r name keys e f g = let h : is_name name ≡ true = sym e ∙ f in rw h (told_new r name keys g)
 
-now_with : (keys : List (Bor (List ℕ))) (name : Bor (List ℕ)) → map (λ k. k.now) (keys ++ name ∷ []) ≡ map (λ k. k.now) keys ++ name.now ∷ []
-now_with [] name = refl
-now_with (k ∷ keys) name = ap (λ ns. k.now ∷ ns) (now_with keys name)
-
 pub is_taken : (b r : Bool) (old new : List (Bor (List ℕ))) (name : Bor (List ℕ)) → r ≡ not b → new ≡ cond b old (old ++ name ∷ []) → OnTrue r (map (λ k. k.now) new ≡ map (λ k. k.now) old ++ name.now ∷ [])
 is_taken true r old new name e f = rw e tt
-is_taken false r old new name e f = rw e (ap (map (λ k. k.now)) f ∙ now_with old name)
+is_taken false r old new name e f = rw e (ap (map (λ k. k.now)) f ∙ map_push (λ k. k.now) old name)

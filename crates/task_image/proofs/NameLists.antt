@@ -1,39 +1,16 @@
 -- Names, each of which is new after those before it, are distinct names, and the other way round.
-use Rattle.std.proofs.Common.{◌≡◌, ◌≢◌, ℕ, Bool, true, false, not, nat_eq, ◌||◌, ◌&&◌, List, [], ◌∷◌, ◌++◌, length, get_or, refl, sym, ◌∙◌, ap}
+use Rattle.std.proofs.Common.{◌≡◌, ◌≢◌, ℕ, Bool, true, false, not, nat_eq, ◌||◌, List, [], ◌∷◌, ◌++◌, refl, sym, ◌∙◌, ap}
+use Rattle.std.proofs.lemmas.Bool.{not-true, or_parts}
 use Rattle.std.specs.Bool.{Decides}
-use Rattle.std.specs.Char.{is_ascii_digit}
 use Rattle.std.specs.Cmp.Lexicographic.{pointwise}
-use Rattle.std.specs.List.{AllByRecursion, list_all, list_any}
+use Rattle.std.specs.List.{AllByRecursion, list_any}
 use Rattle.std.proofs.lemmas.Bool.Decides.{Decides-eqb}
-use Rattle.std.proofs.lemmas.List.Sums.{AllPass-from_list_all, list_all-from_AllPass}
 use Rattle.std.proofs.lemmas.Slice.Eq.{slice_eq-Decides}
-use Rattle.set_model.specs.Limits.{IsWithin}
-use Rattle.set_model.specs.Names.{AreDistinct, IsName, is_name_byte}
-use Rattle.task_image.specs.Reading.{is_name, is_new}
-use Rattle.task_image.proofs.Numbers.{both}
-
--- ---- one name
-
-not_true : (b : Bool) → not b ≡ true → b ≡ false
-not_true true e = absurd cc
-not_true false e = refl
-
-pub is_name_means : (name : List ℕ) → IsWithin 1 16 (length name) → is_name name ≡ true → IsName name
-is_name_means name w e =
-    let t = both (list_all is_name_byte name) (not (is_ascii_digit (get_or name 0 0))) e in
-    record { size = w; bytes = AllPass-from_list_all is_name_byte name t.0; first = not_true _ t.1 }
-
-pub is_name_told : (name : List ℕ) → IsName name → is_name name ≡ true
-is_name_told name h = ap (λ (b : Bool). b && not (is_ascii_digit (get_or name 0 0))) (list_all-from_AllPass is_name_byte name h.bytes) ∙ ap not h.first
-
--- ---- a list of them
+use Rattle.set_model.specs.Names.{AreDistinct}
+use Rattle.task_image.specs.Reading.{is_new}
 
 same : (a b : List ℕ) → Decides (pointwise nat_eq a b) (a ≡ b)
 same a b = slice_eq-Decides Decides-eqb a b (pointwise nat_eq a b) refl
-
-neither : (a b : Bool) → (a || b) ≡ false → (a ≡ false) × (b ≡ false)
-neither true b e = absurd cc
-neither false b e = (refl, e)
 
 differs : (a b : List ℕ) → pointwise nat_eq a b ≡ false → b ≢ a
 differs a b e g = let f : true ≡ false = sym ((same a b).1 (sym g)) ∙ e in absurd cc
@@ -44,7 +21,7 @@ told_apart false a b e h = refl
 
 none_is : (taken : List (List ℕ)) (name : List ℕ) → list_any (pointwise nat_eq name) taken ≡ false → AllByRecursion (λ x. x ≢ name) taken
 none_is [] name e = tt
-none_is (x ∷ taken) name e = let t = neither _ _ e in (differs name x t.0, none_is taken name t.1)
+none_is (x ∷ taken) name e = let t = or_parts _ _ e in (differs name x t.0, none_is taken name t.1)
 
 none_told : (taken : List (List ℕ)) (name : List ℕ) → AllByRecursion (λ x. x ≢ name) taken → list_any (pointwise nat_eq name) taken ≡ false
 none_told [] name h = refl
@@ -85,7 +62,7 @@ Apart names x = AllByRecursion (λ later. x ≢ later) names
 later_differ : (taken names : List (List ℕ)) → AreNew taken names → AllByRecursion (Apart names) taken
 later_differ taken [] f = all_units taken
 later_differ taken (name ∷ names) f =
-    all_pairs (λ x. x ≢ name) (Apart names) taken (none_is taken name (not_true _ f.0)) (all_front (Apart names) taken name (later_differ (taken ++ name ∷ []) names f.1)).0
+    all_pairs (λ x. x ≢ name) (Apart names) taken (none_is taken name (not-true _ f.0)) (all_front (Apart names) taken name (later_differ (taken ++ name ∷ []) names f.1)).0
 
 pub new_are_distinct : (taken names : List (List ℕ)) → AreNew taken names → AreDistinct names
 new_are_distinct taken [] f = tt

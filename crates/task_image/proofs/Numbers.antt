@@ -1,7 +1,7 @@
 -- A field, and the numbers, names and literal bytes that are fields.
 use Rattle.std.proofs.Common.{◌≡◌, ℕ, zero, suc, ◌+◌, ◌*◌, ◌/◌, ◌%◌, ◌^◌, ◌<◌, ◌≤◌, ◌&&◌, Bool, true, false, cond, leb, min, List, [], ◌∷◌, ◌++◌, length, get_or, take, drop, refl, sym, ap, subst, ◌∙◌, arith}
 use Rattle.std.proofs.Math.Nat.{div-div-eq-div-mul, pow-succ'}
-use Rattle.std.proofs.lemmas.Bool.{leb-true, le-leb}
+use Rattle.std.proofs.lemmas.Bool.{leb-true, le-leb, and_parts}
 use Rattle.std.proofs.lemmas.Bool.Decides.{nat_tests}
 use Rattle.std.proofs.lemmas.List.{append-nil, take_at, drop_at, take-append-drop, length-append, length-take, take-take, get_or-take, get_or_past}
 use Rattle.std.specs.Int.{byte_at, bytes_low_first}
@@ -14,10 +14,6 @@ use Rattle.task_image.proofs.Fields.{Reads, Takes, at, gives, refused, bytes_fro
 
 abbrev holds : ℕ → (List ℕ → Bool) → List ℕ → Bool
 holds n rule left = leb n (length left) && rule (take n left)
-
-pub both : (a b : Bool) → (a && b) ≡ true → (a ≡ true) × (b ≡ true)
-both true b e = (refl, e)
-both false b e = absurd cc
 
 field_is : {A : Type 0} (n : ℕ) (rule : List ℕ → Bool) (value : List ℕ → A) (here : Here) → holds n rule here.left ≡ true → field n rule value here ≡ gives (value (take n here.left)) (past n here)
 unfolding field
@@ -39,7 +35,7 @@ kept n rule value here there x e = by (holds n rule here.left) refl
     by : (b : Bool) → holds n rule here.left ≡ b → Kept n rule value here there x
     by true h =
         let s = same_gift _ x (past n here) there (sym (field_is n rule value here h) ∙ e) in
-        let t = both _ _ h in
+        let t = and_parts _ _ h in
         record { long = leb-true n (length here.left) t.0; rule_kept = t.1; value_is = s.0; there_is = s.1 }
     by false h = let f : refused here.place ≡ gives x there = sym (field_not n rule value here h) ∙ e in absurd cc
 

@@ -1,7 +1,5 @@
 //! The numbers with which a packed set begins.
-
-ghost use Rattle.std.specs.Prelude.{◌≡◌};
-ghost use Rattle.task_image.specs.Answers.{Gives};
+ghost use Rattle.nv_base.specs.Refusals.{Gives};
 ghost use Rattle.task_image.specs.Unpacked.{header};
 ghost use Rattle.task_image.specs.HeaderView.{header_of};
 
@@ -32,7 +30,7 @@ pub struct Header {
 /// Reads the numbers before the first object.
 #[tactic(auto, unfolding(crate::specs::Unpacked::header))]
 pub(crate) fn read_header(cursor: &mut Cursor<'_>) -> Result<Header, Stop>
-    ensures { Gives header_of result cursor.new (header cursor.old) }
+    ensures { Gives (λ h. (header_of h, cursor.new)) result (header cursor.old) }
 {
     cursor.literal(b"NVKS")?;
     let format = cursor.format()?;

@@ -8,6 +8,8 @@ ghost use Rattle.task_image.specs.Packed.{packed};
 ghost use Rattle.task_image.specs.Reading.{AreBytes};
 ghost use Rattle.task_image.specs.Unpacked.{unpacked};
 
+use nv_base::limits::MAX_NAME;
+
 /// Each set is read from its packed bytes.
 pub fn packed_is_read()
     ensures { (set : TaskSet) → IsTaskSet set → IsNamed set → unpacked (packed set) ≡ Ok set }
@@ -30,5 +32,5 @@ pub fn place_is_near()
 
 /// A refusal rests on the bytes up to the end of its field, of which the longest has 16: bytes that agree so far are refused at the same place.
 pub fn refusal_is_local()
-    ensures { (bytes other : List ℕ) (place : ℕ) → AreBytes bytes → unpacked bytes ≡ Err place → take (place + 16) other ≡ take (place + 16) bytes → unpacked other ≡ Err place }
+    ensures { (bytes other : List ℕ) (place : ℕ) → AreBytes bytes → unpacked bytes ≡ Err place → take (place + MAX_NAME) other ≡ take (place + MAX_NAME) bytes → unpacked other ≡ Err place }
 {}

@@ -2,7 +2,7 @@
 
 ghost use Rattle.std.specs.Prelude.{◌≡◌, ◌++◌, ◌∷◌, [], IfOk, map};
 ghost use Rattle.set_model.specs.Views.{spawn_of};
-ghost use Rattle.task_image.specs.Answers.{Gives};
+ghost use Rattle.nv_base.specs.Refusals.{Gives};
 ghost use Rattle.task_image.specs.Reading.{several};
 ghost use Rattle.task_image.specs.Unpacked.{words, object, program, task};
 
@@ -15,7 +15,7 @@ use std::alloc::Global;
 use task_set::{Name, ObjPart, ObjectParts, ProgPart, ProgramParts, Tasks, Words};
 
 fn words(alloc: Global, cursor: &mut Cursor<'_>, n: u16) -> Result<Words, Stop>
-    ensures { Gives (λ w. w) result cursor.new (words n cursor.old) }
+    ensures { Gives (λ w. (w, cursor.new)) result (words n cursor.old) }
 {
     let mut words = Words::new(alloc);
     for _ in 0..n {
@@ -30,7 +30,7 @@ fn object<'a>(
     cursor: &mut Cursor<'a>,
     taken: &mut IndexSet<&'a [u8]>,
 ) -> Result<ObjPart, Stop>
-    ensures reading { Gives (λ o. o) result cursor.new (object (map (λ k. k.now) taken.old.keys) cursor.old) }
+    ensures reading { Gives (λ o. (o, cursor.new)) result (object (map (λ k. k.now) taken.old.keys) cursor.old) }
     ensures taken { IfOk result (λ o. map (λ k. k.now) taken.new.keys ≡ map (λ k. k.now) taken.old.keys ++ o.name ∷ []) }
 {
     let length_of_name = cursor.byte(1, MAX_NAME)?;
@@ -53,7 +53,7 @@ fn program<'a>(
     memory: u32,
     taken: &mut IndexSet<&'a [u8]>,
 ) -> Result<ProgPart, Stop>
-    ensures reading { Gives (λ p. p) result cursor.new (program memory (map (λ k. k.now) taken.old.keys) cursor.old) }
+    ensures reading { Gives (λ p. (p, cursor.new)) result (program memory (map (λ k. k.now) taken.old.keys) cursor.old) }
     ensures taken { IfOk result (λ p. map (λ k. k.now) taken.new.keys ≡ map (λ k. k.now) taken.old.keys ++ p.name ∷ []) }
 {
     let length_of_name = cursor.byte(1, MAX_NAME)?;
@@ -70,7 +70,7 @@ fn program<'a>(
 
 #[tactic(auto, unfolding(crate::specs::Unpacked::task))]
 fn task(cursor: &mut Cursor<'_>, programs: u8) -> Result<Spawn, Stop>
-    ensures { Gives spawn_of result cursor.new (task programs cursor.old) }
+    ensures { Gives (λ t. (spawn_of t, cursor.new)) result (task programs cursor.old) }
 {
     let program = ProgId(cursor.below(programs)?);
     let arg = cursor.any_word()?;
@@ -79,7 +79,7 @@ fn task(cursor: &mut Cursor<'_>, programs: u8) -> Result<Spawn, Stop>
 
 /// Reads so many objects.
 pub(crate) fn objects(alloc: Global, cursor: &mut Cursor<'_>, n: u8) -> Result<ObjectParts, Stop>
-    ensures { Gives (λ objects. objects) result cursor.new (several n (λ before. object (map (λ o. o.name) before)) [] cursor.old) }
+    ensures { Gives (λ objects. (objects, cursor.new)) result (several n (λ before. object (map (λ o. o.name) before)) [] cursor.old) }
 {
     let mut taken = IndexSet::new(alloc);
     let mut objects = ObjectParts::new(alloc);
@@ -96,7 +96,7 @@ pub(crate) fn programs(
     memory: u32,
     n: u8,
 ) -> Result<ProgramParts, Stop>
-    ensures { Gives (λ programs. programs) result cursor.new (several n (λ before. program memory (map (λ p. p.name) before)) [] cursor.old) }
+    ensures { Gives (λ programs. (programs, cursor.new)) result (several n (λ before. program memory (map (λ p. p.name) before)) [] cursor.old) }
 {
     let mut taken = IndexSet::new(alloc);
     let mut programs = ProgramParts::new(alloc);
@@ -113,7 +113,7 @@ pub(crate) fn tasks(
     programs: u8,
     n: u16,
 ) -> Result<Tasks, Stop>
-    ensures { Gives (map spawn_of) result cursor.new (several n (λ _. task programs) [] cursor.old) }
+    ensures { Gives (λ tasks. (map spawn_of tasks, cursor.new)) result (several n (λ _. task programs) [] cursor.old) }
 {
     let mut tasks = Tasks::new(alloc);
     for _ in 0..n {

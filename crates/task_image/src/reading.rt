@@ -1,9 +1,6 @@
 //! Task sets from their packed bytes.
-
-ghost use Rattle.std.specs.Prelude.{◌≡◌, MatchResult};
-ghost use Rattle.set_model.specs.Limits.{IsTaskSet};
-ghost use Rattle.set_model.specs.Names.{IsNamed};
-ghost use Rattle.task_image.specs.Answers.{Answers, Gives, Tells};
+ghost use Rattle.nv_base.specs.Refusals.{Gives};
+ghost use Rattle.task_image.specs.Answers.{Answers};
 ghost use Rattle.task_image.specs.Unpacked.{task_set, whole, unpacked};
 
 use crate::cursor::Cursor;
@@ -12,12 +9,12 @@ use crate::parts::{objects, programs, tasks};
 use crate::refusal::{ImageRefusal, Stop};
 use std::alloc::Global;
 use task_set::laws::none_broken_is_within;
-use task_set::{SetParts, SetRefusal, TaskSet};
+use task_set::{SetParts, TaskSet};
 
 /// Reads the parts of a set, which keep all limits and have names.
 #[tactic(auto, unfolding(crate::specs::Unpacked::task_set))]
 fn set_parts(alloc: Global, cursor: &mut Cursor<'_>) -> Result<SetParts, Stop>
-    ensures { Gives (λ parts. parts) result cursor.new (task_set cursor.old) }
+    ensures { Gives (λ parts. (parts, cursor.new)) result (task_set cursor.old) }
 {
     let header = read_header(cursor)?;
     let objects = objects(alloc, cursor, header.objects)?;
@@ -36,7 +33,7 @@ fn set_parts(alloc: Global, cursor: &mut Cursor<'_>) -> Result<SetParts, Stop>
 
 #[tactic(auto, unfolding(crate::specs::Unpacked::whole))]
 fn whole(alloc: Global, cursor: &mut Cursor<'_>) -> Result<SetParts, Stop>
-    ensures { Gives (λ parts. parts) result cursor.new (whole cursor.old) }
+    ensures { Gives (λ parts. (parts, cursor.new)) result (whole cursor.old) }
 {
     let parts = set_parts(alloc, cursor)?;
     cursor.end()?;
@@ -45,24 +42,10 @@ fn whole(alloc: Global, cursor: &mut Cursor<'_>) -> Result<SetParts, Stop>
 
 #[tactic(auto, unfolding(crate::specs::Unpacked::unpacked))]
 fn parts_of(alloc: Global, bytes: &[u8]) -> Result<SetParts, Stop>
-    ensures { Tells result (unpacked bytes.now) }
+    ensures { Gives (λ parts. parts) result (unpacked bytes.now) }
 {
     let parts = whole(alloc, &mut Cursor::new(bytes))?;
     Ok(parts)
-}
-
-// The set of parts that keep all limits and have names.
-fn set_of(alloc: Global, parts: SetParts) -> Result<TaskSet, ImageRefusal>
-    requires limits { IsTaskSet parts }
-    requires names { IsNamed parts }
-    ensures { MatchResult result (λ set. set ≡ parts) (λ refusal. refusal ≡ ImageRefusal.NoMemory) }
-{
-    none_broken_is_within();
-    match TaskSet::build(alloc, parts) {
-        Ok(set) => Ok(set),
-        Err(SetRefusal::NoMemory) => Err(ImageRefusal::NoMemory),
-        Err(SetRefusal::Limit(_) | SetRefusal::Name) => unreachable!(),
-    }
 }
 
 /// The task set that the whole bytes spell. `Bad` with the place of the first field that is cut or breaks its rule
@@ -70,9 +53,10 @@ fn set_of(alloc: Global, parts: SetParts) -> Result<TaskSet, ImageRefusal>
 pub fn read_set(alloc: Global, bytes: &[u8]) -> Result<TaskSet, ImageRefusal>
     ensures { Answers result (unpacked bytes.now) }
 {
+    none_broken_is_within();
     match parts_of(alloc, bytes) {
-        Ok(parts) => set_of(alloc, parts),
-        Err(Stop::Refused(place)) => Err(ImageRefusal::Bad(place as u32)),
+        Ok(parts) => Ok(TaskSet::of(parts)),
+        Err(Stop::At(place)) => Err(ImageRefusal::Bad(place as u32)),
         Err(Stop::NoMemory) => Err(ImageRefusal::NoMemory),
     }
 }

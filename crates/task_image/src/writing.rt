@@ -1,9 +1,8 @@
 //! Task sets as packed bytes.
 
-ghost use Rattle.std.specs.Prelude.{◌≡◌, ◌≤◌, ◌<◌, ◌++◌, length, IfOk, OnOk};
+ghost use Rattle.std.specs.Prelude.{◌≡◌, ◌<◌, ◌++◌, length, IfOk, OnOk};
 ghost use Rattle.std.specs.List.{flat_map};
 ghost use Rattle.byteorder.specs.Endian.{little_bytes};
-ghost use Rattle.set_model.specs.Limits.{IsProgram};
 ghost use Rattle.set_model.specs.Sets.{object_at, program_at};
 ghost use Rattle.set_model.specs.Views.{spawn_of};
 ghost use Rattle.task_image.specs.Packed.{packed_header, packed_object, packed_program, packed_task, packed};
@@ -13,7 +12,7 @@ use nv_base::{NoMemory, ObjId, ProgId, Spawn};
 use std::alloc::Global;
 use task_set::TaskSet;
 
-#[tactic(auto, using(crate::proofs::SetFacts::one_byte))]
+#[tactic(auto, using(crate::proofs::ByteFacts::one_byte))]
 fn put_byte(out: &mut Vec<u8>, n: u8) -> Result<(), NoMemory>
     ensures { OnOk result (out.new.items ≡ out.old.items ++ little_bytes 1 n) }
 {
@@ -48,36 +47,12 @@ fn put_words(out: &mut Vec<u8>, words: &[u32]) -> Result<(), NoMemory>
     Ok(())
 }
 
-// The name of an object, which has at most 16 bytes.
-#[tactic(auto, using(set_model::proofs::NameFacts::object_name_is_short))]
-fn object_name(set: &TaskSet, o: ObjId) -> &[u8]
-    requires { o.0 < length set.now.objects }
-    ensures exact { result.now ≡ (object_at set.now o.0).name }
-    ensures short { length result.now ≤ 16 }
-{
-    // for its clauses: the set's names are names
-    let _ = set.cores();
-    set.object_name(o)
-}
-
-// The name of a program, which has at most 16 bytes.
-#[tactic(auto, using(set_model::proofs::NameFacts::program_name_is_short))]
-fn program_name(set: &TaskSet, p: ProgId) -> &[u8]
-    requires { p.0 < length set.now.programs }
-    ensures exact { result.now ≡ (program_at set.now p.0).name }
-    ensures short { length result.now ≤ 16 }
-{
-    // for its clauses: the set's names are names
-    let _ = set.cores();
-    set.program_name(p)
-}
-
 #[tactic(auto, using(std::proofs::Common::append_assoc), unfolding(crate::specs::Packed::packed_object))]
 fn put_object(out: &mut Vec<u8>, set: &TaskSet, o: ObjId) -> Result<(), NoMemory>
     requires { o.0 < length set.now.objects }
     ensures { OnOk result (out.new.items ≡ out.old.items ++ packed_object (object_at set.now o.0)) }
 {
-    let name = object_name(set, o);
+    let name = set.object_name(o);
     put_byte(out, name.len() as u8)?;
     out.extend_from_slice(name)?;
     put_byte(out, set.size(o))?;
@@ -91,7 +66,7 @@ fn put_program(out: &mut Vec<u8>, set: &TaskSet, p: ProgId) -> Result<(), NoMemo
     requires { p.0 < length set.now.programs }
     ensures { OnOk result (out.new.items ≡ out.old.items ++ packed_program (program_at set.now p.0)) }
 {
-    let name = program_name(set, p);
+    let name = set.program_name(p);
     put_byte(out, name.len() as u8)?;
     out.extend_from_slice(name)?;
     put_word(out, set.fuel(p))?;
@@ -110,16 +85,6 @@ fn put_task(out: &mut Vec<u8>, task: &Spawn) -> Result<(), NoMemory>
     Ok(())
 }
 
-// How many tasks are open at first: at most as many as there are records.
-#[tactic(auto, using(crate::proofs::SetFacts::tasks_are_few))]
-fn number_of_tasks(set: &TaskSet) -> u16
-    ensures { result ≡ length set.now.tasks }
-{
-    // for its clauses: the set is within the limits
-    let _ = set.cores();
-    set.tasks().len() as u16
-}
-
 #[tactic(auto, unfolding(crate::specs::Packed::packed_header))]
 fn header_of(alloc: Global, set: &TaskSet) -> Result<Vec<u8>, NoMemory>
     ensures { IfOk result (λ out. out.items ≡ packed_header set.now) }
@@ -131,7 +96,7 @@ fn header_of(alloc: Global, set: &TaskSet) -> Result<Vec<u8>, NoMemory>
     put_byte(&mut out, set.objects())?;
     put_byte(&mut out, set.programs())?;
     put_byte(&mut out, 0)?;
-    put_half(&mut out, number_of_tasks(set))?;
+    put_half(&mut out, set.tasks().len() as u16)?;
     put_word(&mut out, set.memory())?;
     put_half(&mut out, set.records())?;
     put_half(&mut out, 0)?;

@@ -5,7 +5,7 @@ use Rattle.task_image.proofs.NameFacts.{told_both, is_taken}
 use Rattle.task_image.proofs.new_name.take_name.Goals as goal
 
 pub returns-clause-tells : goal.returns-clause-tells
-returns-clause-tells c = told_both _ _ c.args.name.now c.args.taken.now.keys c.is_name.ensures c.if-not-is_name.false c.in_ok-insert.ensures.added
+returns-clause-tells c = told_both _ _ c.args.name.now c.args.taken.now.keys c.is_name.ensures.test c.if-not-is_name.false c.in_ok-insert.ensures.added
 
 pub returns-clause-takes : goal.returns-clause-takes
 returns-clause-takes c =
