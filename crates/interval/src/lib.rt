@@ -2,11 +2,11 @@
 #![tactic(auto)]
 
 pub mod laws;
-mod ranges;
 mod version;
+mod ranges;
 
-pub use ranges::Interval;
 pub use version::{Pin, Version};
+pub use ranges::Interval;
 
 #[cfg(test)]
 mod tests;

@@ -3,21 +3,21 @@
 #![tactic(auto)]
 
 mod causes;
-mod ids;
 pub mod limits;
 mod lines;
 mod memory;
 mod memory_streams;
+mod ids;
 mod sets;
 mod std_streams;
 mod streams;
 mod whole;
 
 pub use causes::TrapCause;
-pub use ids::{CoreId, ObjId, Point, ProgId, Seq, TaskId};
 pub use lines::{Entry, Line, Outcome, Spawn, TaskRec};
 pub use memory::NoMemory;
 pub use memory_streams::{MemSink, MemSource};
+pub use ids::{CoreId, ObjId, Point, ProgId, Seq, TaskId};
 pub use sets::ObjSet;
 pub use std_streams::{StdSink, StdSource};
 pub use streams::{Sink, SinkFailed, Source, SourceFailed};

@@ -3,8 +3,8 @@
 ghost use Rattle.std.specs.Prelude.{◌≡◌, ◌<◌, []};
 ghost use Rattle.object_sets.specs.ObjectSets.{is_among, with_object, AreBelow, IsIncreasing};
 
-use crate::ids::ObjId;
 use crate::limits::MAX_OBJECTS;
+use crate::ids::ObjId;
 use std::marker::Model;
 
 /// A set of objects below 128, which contracts see as the increasing list of their numbers.

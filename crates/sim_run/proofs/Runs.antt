@@ -15,10 +15,9 @@ use Rattle.kernel_model.proofs.FirstEvents.{one_more}
 use Rattle.kernel_model.proofs.Reached.{lines_of-append}
 use Rattle.schedule_model.specs.Parts.{cores_stepped, failure_count}
 use Rattle.set_model.specs.Sets.{TaskSet}
-use Rattle.set_model.specs.Numbers.{sizes_of}
 use Rattle.set_model.specs.Formatted.{formatted}
 use Rattle.set_model.specs.Views.{line_of}
-use Rattle.task_model.specs.TaskSteps.{task_steps}
+use Rattle.task_model.specs.TaskSteps.{world_of}
 use Rattle.report_text.specs.Lines.{line_text}
 use Rattle.report_text.specs.Report.{end_part, lines_text}
 use Rattle.headline.specs.Run.{after, event_lines, first_state, report_text, state_read}
@@ -43,14 +42,14 @@ record LeadsTo (set : TaskSet) (events : List Event) (j : Kernel) (n : ℕ) (l :
 leads_to : (set : TaskSet) (events : List Event) (k j : Kernel) (n : ℕ) (l : base.Line) → Carries set events k n → slice_get events n ≡ Some (CoreStep 0) → Simulates k j l → LeadsTo set events j n l
 unfolding Simulates
 leads_to set events k j n l c e h =
-    let more = one_more (task_steps set) (sizes_of set) (formatted set) (first_state set) events n (CoreStep 0) e in
+    let more = one_more (world_of set) (first_state set) events n (CoreStep 0) e in
     let t = h (after set (take n events)) c.stands in
     record {
-      stands = subst (Represents j) (sym more.0) (subst (λ x. Represents j (event_step (task_steps x) (sizes_of x) (formatted x) (after set (take n events)) (CoreStep 0)).0) c.set_is t.0);
+      stands = subst (Represents j) (sym more.0) (subst (λ x. Represents j (event_step (world_of x) (after set (take n events)) (CoreStep 0)).0) c.set_is t.0);
       lines =
           more.1
           ∙ ap (λ x. event_lines set (take n events) ++ x ∷ [])
-          (subst (λ x. (event_step (task_steps x) (sizes_of x) (formatted x) (after set (take n events)) (CoreStep 0)).1 ≡ line_of l) c.set_is t.1);
+          (subst (λ x. (event_step (world_of x) (after set (take n events)) (CoreStep 0)).1 ≡ line_of l) c.set_is t.1);
     }
 
 pub carries_on : (set : TaskSet) (events : List Event) (k j : Kernel) (n : ℕ) (l : base.Line)
@@ -85,10 +84,10 @@ whole_report set events =
 -- so it begins with those of the first n
 split_report : (set : TaskSet) (events : List Event) (n : ℕ) → (rest : List ℕ) × (report_text set events ≡ first_lines_text set events n ++ rest)
 split_report set events n =
-    let more : List Line = lines_of (task_steps set) (sizes_of set) (formatted set) (after set (take n events)) (drop n events) in
+    let more : List Line = lines_of (world_of set) (after set (take n events)) (drop n events) in
     let tail : List ℕ = lines_text set (found_lines (unprinted (after set events))) ++ end_part set (state_read set events) (after set events).boots in
     let lines : event_lines set events ≡ event_lines set (take n events) ++ more =
-    ap (event_lines set) (sym (take-append-drop n events)) ∙ lines_of-append (task_steps set) (sizes_of set) (formatted set) (take n events) (drop n events) (first_state set) in (
+    ap (event_lines set) (sym (take-append-drop n events)) ∙ lines_of-append (world_of set) (take n events) (drop n events) (first_state set) in (
       lines_text set more ++ tail,
       whole_report set events
           ∙ ap (λ l. lines_text set l ++ tail) lines
