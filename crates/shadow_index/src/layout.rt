@@ -1,0 +1,26 @@
+//! The layout of a set on a device: its numbers, and its tables of places.
+
+ghost use Rattle.std.specs.Prelude.{◌≤◌};
+
+use crate::kind::DeviceKind;
+use crate::tables::{CodePlaces, PagePlaces, SlotPlaces};
+
+/// Where the words of a set stand on a device of a kind. All places are looked up in tables that are made once.
+#[derive(Drop)]
+pub struct Layout {
+    pub(crate) kind: DeviceKind,
+    pub(crate) need: u32,
+    pub(crate) first_index: u32,
+    pub(crate) index_words: u32,
+    pub(crate) head_reads: u32,
+    pub(crate) index_reads: u32,
+    pub(crate) root: u32,
+    pub(crate) pages: u8,
+    pub(crate) page_words: u32,
+    pub(crate) page_places: PagePlaces,
+    pub(crate) slot_places: SlotPlaces,
+    pub(crate) code_places: CodePlaces,
+    ghost few: { pages ≤ 31 },
+    ghost head: { head_reads ≤ 20001 },
+    ghost reads: { index_reads ≤ 3968 },
+}
