@@ -3,7 +3,7 @@ use Rattle.std.proofs.Common.{◌≡◌, ◌≢◌, ℕ, zero, suc, ◌+◌, ◌
 use Rattle.std.specs.List.{AllByRecursion}
 use Rattle.std.proofs.lemmas.Bool.{cases_eq, cases_lt, eq-eqb, ne_eqb, le-leb, eqb-false, or_parts}
 use Rattle.std.proofs.lemmas.Nat.{div-add-mod'}
-use Rattle.kernel_model.specs.Effects.{Objects, Write, written, object_words, put, put_from}
+use Rattle.kernel_model.specs.Effects.{Write, written, object_words}
 use Rattle.kernel_model.specs.Fit.{IsWrite}
 use Rattle.kernel_model.proofs.ForCallers.{length-put_from, put-seen}
 use Rattle.set_model.specs.Sets.{TaskSet, object_at}

@@ -1,5 +1,5 @@
 -- How many writes a commit has.
-use Rattle.std.proofs.Common.{◌≡◌, ℕ, zero, suc, ◌+◌, ◌-◌, ◌*◌, ◌≤◌, Bool, true, false, cond, eqb, leb, not, ◌||◌, ◌&&◌, List, [], ◌∷◌, ◌++◌, length, slice_index, sum_by, arith, ap, ap₂, ◌∙◌, refl}
+use Rattle.std.proofs.Common.{◌≡◌, ℕ, zero, suc, ◌+◌, ◌-◌, ◌*◌, ◌≤◌, Bool, true, false, cond, eqb, leb, not, ◌||◌, ◌&&◌, List, [], ◌∷◌, ◌++◌, length, sum_by, arith, ap, ap₂, ◌∙◌, refl}
 use Rattle.std.specs.List.{AllByRecursion}
 use Rattle.std.proofs.lemmas.Bool.{leb-true}
 use Rattle.std.proofs.lemmas.List.{length-append}
@@ -16,7 +16,7 @@ use Rattle.set_model.specs.Limits.{IsObject, IsTaskSet}
 use Rattle.set_model.specs.Numbers.{boot_turns, index_words, sizes_of}
 use Rattle.set_model.proofs.AtFacts.{all_at}
 use Rattle.device_model.specs.Words.{Words, written_at, words_from}
-use Rattle.device_model.specs.Layouts.{Layout, Plain, boot_turns_of, layout_of, slot_place, copy_place}
+use Rattle.device_model.specs.Layouts.{Layout, Plain, boot_turns_of, layout_of, copy_place}
 use Rattle.device_model.specs.IndexWords.{Index, index_word}
 use Rattle.device_model.specs.Decoding.{Held}
 use Rattle.device_model.specs.Commits.{Commit, commit_body, commit_of, commit_turns, commit_writes, count_changed, differs, is_changed, names_slot, next_root, object_changes, page_change, page_changes, words_written}

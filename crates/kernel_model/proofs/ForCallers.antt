@@ -8,14 +8,14 @@ pub use Rattle.kernel_model.proofs.Theorem.{clock_base, history_added}
 pub use Rattle.kernel_model.proofs.RunFacts.{base-sized, fit-runs, history-runs, next_id-bound, with_write-all, written-size, written-with_write}
 pub use Rattle.kernel_model.proofs.OpenLaws.{children_order, children_programs, length-children, length-open_tasks, open_order}
 pub use Rattle.kernel_model.proofs.Soundness.{still_open}
-pub use Rattle.kernel_model.proofs.CoreLaws.{IsAfter, as_before, core_at, durable_commit-idle, durable_commit-none, durable_commit-one, durable_commit-set, finishes, get_or-idle, get_or-replicate_idle, no_commit, no_core, others_commit, run_gives, turn_gives, turned_now, word_gives}
+pub use Rattle.kernel_model.proofs.CoreLaws.{IsAfter, as_before, core_at, durable_commit-idle, durable_commit-none, durable_commit-one, durable_commit-set, finishes, get_or-idle, get_or-replicate_idle, no_commit, no_core, others_commit, run_gives, turned_now, word_gives}
 pub use Rattle.kernel_model.proofs.StepLaws.{all_sound, history-step, next_sound, opened_sound, sound-ids}
 pub use Rattle.kernel_model.proofs.DurableLaws.{durable_commit-put, no_finish, none_beside, none_made}
 pub use Rattle.kernel_model.proofs.ReportLaws.{durable_commit-found}
 pub use Rattle.kernel_model.proofs.BaseLaws.{state_left-base, state_left-last}
 pub use Rattle.kernel_model.proofs.AloneLaws.{kept_writes, newest, newest-found, room_alone}
 pub use Rattle.kernel_model.proofs.RoomLaws.{chosen-all, chosen-met, interval-shrinks, meet-wider, older-ended, starts_after, within-shrinks, writers-older}
-pub use Rattle.kernel_model.proofs.NeededLaws.{IsOld, at_needed, needed_at, never_needed_again, older-old, others_needed}
+pub use Rattle.kernel_model.proofs.NeededLaws.{IsOld, at_needed, needed_at, never_needed_again, older-old}
 pub use Rattle.kernel_model.proofs.ChainLaws.{AreFrom, chain-joined, chain-less, chain_kept, chain_of_one, chosen_exists, chosen_from_chain, floor_kept, floor_of_idle, history-joined, needed-floored, not_needed, part_of_chain, room_from_chain, sound-from}
 pub use Rattle.kernel_model.proofs.FloorLaws.{floor_needs, live_counts, marks_start}
 pub use Rattle.kernel_model.proofs.CutLaws.{interval_cut, read_finds}

@@ -1,9 +1,8 @@
 -- The formatted state is one that a device may hold.
-use Rattle.std.proofs.Common.{◌≡◌, ℕ, zero, suc, ◌+◌, ◌<◌, ◌≤◌, length, List, [], ◌∷◌, get_or, map, refl, ap, arith}
+use Rattle.std.proofs.Common.{◌≡◌, ℕ, zero, suc, ◌+◌, ◌<◌, ◌≤◌, length, List, [], ◌∷◌, get_or, map, arith}
 use Rattle.std.specs.List.{AllByRecursion}
 use Rattle.std.proofs.lemmas.List.{length-map}
 use Rattle.kernel_model.specs.Effects.{Spawn, object_words}
-use Rattle.kernel_model.specs.Serial.{InIdOrder}
 use Rattle.kernel_model.specs.OpenTasks.{children}
 use Rattle.kernel_model.specs.Fit.{IsBase}
 use Rattle.kernel_model.proofs.ForCallers.{children_order, length-children}

@@ -14,7 +14,7 @@ use Rattle.kernel_model.specs.Live.{CallState, Mark, core_of, cores_of}
 use Rattle.kernel_model.specs.LiveSound.{IsLiveState}
 use Rattle.kernel_model.proofs.ForCallers.{core_at_marks, durable_commit-idle}
 use Rattle.slot_model.specs.Slots.{Image}
-use Rattle.slot_model.specs.Kept.{Held, Kept, chosen_held, newest_alone, newest_slot, slot_in}
+use Rattle.slot_model.specs.Kept.{Held, Kept, chosen_held, newest_slot, slot_in}
 use Rattle.slot_model.specs.Places.{free_slot}
 use Rattle.slot_model.specs.Store.{Target, target, targets, targets_from}
 use Rattle.slot_model.specs.Changes.{afresh, named_slot, with_finished}

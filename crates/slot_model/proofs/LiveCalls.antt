@@ -1,5 +1,5 @@
 -- What stands goes on through threads' calls.
-use Rattle.std.proofs.Common.{◌≡◌, ℕ, zero, suc, ◌+◌, ◌-◌, ◌<◌, ◌≤◌, Bool, true, false, cond, leb, List, [], ◌∷◌, get_or, set, length, replicate, Option, Some, None, refl, sym, ap, ◌∙◌, subst, arith, get_or-set_same, set-set, zero-add}
+use Rattle.std.proofs.Common.{◌≡◌, ℕ, suc, ◌+◌, ◌-◌, ◌<◌, ◌≤◌, Bool, true, false, cond, leb, List, [], ◌∷◌, get_or, set, length, replicate, Option, Some, None, refl, sym, ap, ◌∙◌, subst, arith, get_or-set_same, set-set, zero-add}
 use Rattle.std.specs.Prelude.{unwrap_or}
 use Rattle.std.specs.List.{AllByRecursion}
 use Rattle.kernel_model.specs.Sizes.{Sizes}
@@ -9,15 +9,14 @@ use Rattle.kernel_model.specs.Replay.{DeviceState, TaskRec, after_history, clock
 use Rattle.kernel_model.specs.Versions.{Read, Version, chosen, version_read, versions}
 use Rattle.kernel_model.specs.Intervals.{Interval, finish_interval, is_empty, read_interval, within}
 use Rattle.kernel_model.specs.OpenTasks.{open_tasks}
-use Rattle.kernel_model.specs.Cores.{Committing, Core, Idle, all_but, commits, next_task}
+use Rattle.kernel_model.specs.Cores.{Committing, Core, Idle, all_but, next_task}
 use Rattle.kernel_model.specs.Room.{interval_of, is_needed, is_needed_by, meet, without_room}
 use Rattle.kernel_model.specs.Verdicts.{Empty, Granted, Records, Slots, Verdict, finish_of, room_verdict, verdict}
 use Rattle.kernel_model.specs.Turns.{commit_writes}
-use Rattle.kernel_model.specs.Events.{with_finish}
 use Rattle.kernel_model.specs.Durable.{state_left}
 use Rattle.kernel_model.specs.History.{AreFound, IsAttempt, IsHistory}
 use Rattle.kernel_model.specs.Chain.{cut}
-use Rattle.kernel_model.specs.Live.{Answer, IsStale, Limit, CallState, Mark, Receipt, added_by, attempt_of, begin_answer, begin_call, core_of, cores_of, fetch_answer, fetch_call, finish_answer, finish_call, lost, marked}
+use Rattle.kernel_model.specs.Live.{IsStale, Limit, CallState, Mark, Receipt, added_by, attempt_of, begin_answer, begin_call, core_of, cores_of, fetch_answer, fetch_call, finish_answer, finish_call, lost, marked}
 use Rattle.kernel_model.specs.LiveSound.{IsLiveState, IsMarkedIf}
 use Rattle.kernel_model.proofs.ForCallers.{AreFrom, IsAfter, IsOld, as_before, at_needed, base_chain, chosen_exists, clock_base, core_at, core_at_marks, history_added, interval-shrinks, lawful_of, length-after_history, length-open_tasks, meet-wider, newest_words, no_core, no_marks, open_order, starts_after, still_open, task_under-open, turned_now, within-shrinks, object_words-put, object_words-put_written}
 use Rattle.slot_model.specs.Slots.{Image, IsSized}

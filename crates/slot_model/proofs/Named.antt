@@ -1,21 +1,19 @@
 -- The slots that the durable index names have the durable objects, at each event.
-use Rattle.std.proofs.Common.{◌≡◌, ℕ, zero, suc, ◌<◌, Bool, true, false, cond, eqb, List, [], ◌∷◌, get_or, set, length, replicate, Option, Some, None, refl, sym, ap, ◌∙◌, arith, ⊎_elim, zero-add}
-use Rattle.std.proofs.lemmas.Bool.{cases_eq}
+use Rattle.std.proofs.Common.{◌≡◌, ℕ, zero, suc, ◌<◌, Bool, true, false, cond, eqb, List, [], ◌∷◌, get_or, set, length, replicate, Option, Some, None, refl, sym, ap, ◌∙◌, arith, zero-add}
 use Rattle.kernel_model.specs.Sizes.{Sizes}
 use Rattle.kernel_model.specs.Effects.{Outcome, Write, object_words, written}
 use Rattle.kernel_model.specs.Items.{FinishRecord}
 use Rattle.kernel_model.specs.Replay.{DeviceState, TaskRec, after_history, clock_of, tables_of}
 use Rattle.kernel_model.specs.Worlds.{World}
-use Rattle.kernel_model.specs.OpenTasks.{open_tasks}
 use Rattle.kernel_model.specs.Versions.{Read, Version, chosen, versions}
 use Rattle.kernel_model.specs.Cores.{Attempt, Committing, Copying, Core, Idle, Ready, Running, all_but, commits, finished_by, is_committing, run_of}
 use Rattle.kernel_model.specs.Verdicts.{verdict}
 use Rattle.kernel_model.specs.Room.{is_needed}
-use Rattle.kernel_model.specs.Turns.{Nothing, commit_writes, core_turn, quiet, verdict_turn}
+use Rattle.kernel_model.specs.Turns.{Nothing, core_turn, quiet, verdict_turn}
 use Rattle.kernel_model.specs.Events.{Boot, CoreStep, Event, Fail, On, Power, State, acting_on, boot_turn, core_event, durable_commit, event_step, with_finish}
 use Rattle.kernel_model.specs.Durable.{flipped_by, flipped_core}
 use Rattle.kernel_model.specs.Chain.{floored}
-use Rattle.kernel_model.proofs.ForCallers.{chosen_exists, durable_commit-found, durable_commit-idle, durable_commit-none, durable_commit-one, durable_commit-put, durable_commit-set, finishes, get_or-idle, length-after_history, newest_words, no_commit, no_finish, none_beside, none_made, others_commit, tops, turn_gives, object_words-put, object_words-put_written}
+use Rattle.kernel_model.proofs.ForCallers.{chosen_exists, durable_commit-found, durable_commit-idle, durable_commit-none, durable_commit-one, durable_commit-put, durable_commit-set, finishes, get_or-idle, length-after_history, newest_words, no_finish, none_beside, none_made, others_commit, object_words-put, object_words-put_written}
 use Rattle.slot_model.specs.Slots.{Image}
 use Rattle.slot_model.specs.Kept.{Held, Kept, newest_alone, newest_slot, with_held}
 use Rattle.slot_model.specs.Changes.{kept_after, kept_run, kept_step, kept_turn, kept_verdict, named_slot, pinned, with_finished}

@@ -13,7 +13,7 @@ use Rattle.kernel_model.specs.Room.{has_room, is_needed, is_needed_by, without_r
 use Rattle.kernel_model.specs.Turns.{commit_writes}
 use Rattle.kernel_model.specs.Fit.{IsRun, IsWrite}
 use Rattle.kernel_model.specs.Chain.{floored}
-use Rattle.kernel_model.proofs.ForCallers.{AreFrom, chosen_exists, not_needed, others_needed}
+use Rattle.kernel_model.proofs.ForCallers.{AreFrom, chosen_exists, not_needed}
 use Rattle.slot_model.specs.Slots.{Image}
 use Rattle.slot_model.specs.Kept.{Held, Kept, must_stand}
 use Rattle.slot_model.specs.Places.{free_slot, is_taken, planned}

@@ -1,5 +1,5 @@
 -- No two versions of an object have the same writer, so a writer or a slot tells which one is held.
-use Rattle.std.proofs.Common.{◌≡◌, ℕ, ◌+◌, ◌<◌, ◌≤◌, inl, inr, Bool, true, false, cond, eqb, List, [], ◌∷◌, length, Option, Some, None, refl, sym, ap, ◌∙◌, subst, arith, ⊎_elim}
+use Rattle.std.proofs.Common.{◌≡◌, ℕ, ◌<◌, inl, inr, Bool, true, cond, eqb, List, [], ◌∷◌, Option, Some, None, sym, ap, ◌∙◌, subst, arith, ⊎_elim}
 use Rattle.std.specs.Prelude.{◌&&◌}
 use Rattle.std.specs.List.{AllByRecursion}
 use Rattle.std.proofs.lemmas.Bool.{eqb-true, eq-eqb, ne_eqb, or_cases, and_parts}
@@ -8,8 +8,8 @@ use Rattle.kernel_model.specs.Items.{FinishRecord}
 use Rattle.kernel_model.specs.Replay.{DeviceState}
 use Rattle.kernel_model.specs.Versions.{Version, find_version, versions_to}
 use Rattle.kernel_model.specs.History.{IsNumbered}
-use Rattle.kernel_model.specs.Chain.{IsChain, IsPart, floored}
-use Rattle.kernel_model.proofs.ForCallers.{found, tops, writer_found, writers-older, writers_below}
+use Rattle.kernel_model.specs.Chain.{IsPart, floored}
+use Rattle.kernel_model.proofs.ForCallers.{found, tops, writer_found, writers-older}
 use Rattle.slot_model.specs.Kept.{Held, AreApart, is_there, versions_in}
 use Rattle.slot_model.proofs.Chains.{each_held}
 

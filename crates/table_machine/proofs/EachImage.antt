@@ -4,8 +4,7 @@ use Rattle.std.specs.Prelude.{take, drop, slice_get}
 use Rattle.table_machine.proofs.Opened.{opened_represents}
 use Rattle.kernel_model.specs.Turns.{Line}
 use Rattle.std.proofs.Math.Seq.{take-append_seam}
-use Rattle.std.proofs.lemmas.List.{append_assoc, append-nil, length-take-le, take-append-drop, take_more}
-use Rattle.std.proofs.lemmas.Option.{get_or_from_slice_get, slice_get_within}
+use Rattle.std.proofs.lemmas.List.{append_assoc, append-nil, length-take-le, take-append-drop}
 use Rattle.kernel_model.specs.Items.{Entry, listing}
 use Rattle.kernel_model.specs.Report.{unprinted, found_lines, report_lines}
 use Rattle.kernel_model.proofs.ForCallers.{count_reached, take_one_more}

@@ -6,7 +6,7 @@ use Rattle.kernel_model.specs.Sizes.{Sizes}
 use Rattle.kernel_model.specs.Chain.{StartsFrom}
 use Rattle.kernel_model.specs.Fit.{IsWrite}
 use Rattle.kernel_model.specs.Verdicts.{Granted, Verdict, verdict}
-use Rattle.kernel_model.specs.Effects.{Outcome, Exit, Trap, Run, Write}
+use Rattle.kernel_model.specs.Effects.{Outcome, Run, Write}
 use Rattle.std.proofs.Common.{◌≡◌, ℕ, suc, ◌+◌, ◌<◌, ◌⊎◌, inl, inr, Bool, false, cond, List, [], ◌∷◌, get_or, set, length, Option, Some, None, refl, sym, ap, ◌∙◌, subst, arith, true}
 use Rattle.std.specs.Prelude.{option_map, unwrap_or}
 use Rattle.std.specs.List.{AllByRecursion}

@@ -8,7 +8,7 @@ use Rattle.kernel_model.specs.Turns.{Line, Nothing}
 use Rattle.kernel_model.specs.Events.{Power, On, Boot, State, CoreStep, Fail, boot_turn, durable_commit, event_step, still_owed, with_finish}
 use Rattle.kernel_model.specs.Durable.{state_left, turn_boots}
 use Rattle.kernel_model.proofs.ForCallers.{bound_at_clock, durable_commit-idle}
-use Rattle.slot_model.specs.Kept.{Held, Kept, newest_alone, newest_slot}
+use Rattle.slot_model.specs.Kept.{Kept, newest_slot}
 use Rattle.slot_model.specs.Changes.{afresh, named_slot, with_finished}
 use Rattle.slot_model.specs.Standing.{IsLawful, StandsFor}
 use Rattle.slot_model.specs.Tabled.{AreTables, Place, fresh_tables, places_of}

@@ -9,7 +9,7 @@ use Rattle.nv_base.specs.declared.causes.TrapCause.{TrapCause}
 use Rattle.nv_base.specs.declared.lines.Outcome.TheVariants as outcome
 use Rattle.kernel_model.specs.Effects.{Effects, Objects, Write, also_written, reads_after, seen, with_write, object_words, written}
 use Rattle.kernel_model.specs.Runs.{Ends, Reads, Step, run_from}
-use Rattle.kernel_model.proofs.ForCallers.{length-put_from}
+use Rattle.kernel_model.proofs.ForCallers.{length-put_from, put-seen}
 use Rattle.set_model.specs.Sets.{TaskSet}
 use Rattle.set_model.specs.Views.{trap_of}
 use Rattle.task_model.specs.TaskSteps.{given_words, memory_given, part_of, part_refusal, past, rewritten_by, rewritten_words, served, task_steps, unless, with_part}
@@ -17,7 +17,6 @@ use Rattle.task_model.specs.Shape.{HasShape}
 use Rattle.task_model.specs.Progress.{Stands, Turns, reads_noted}
 use Rattle.task_model.specs.declared.progress.Progress.{Progress}
 use Rattle.task_model.proofs.WriteFacts.{objects_in, objects_in-with_write, put-with_write, reads_after-is}
-use Rattle.task_model.proofs.WriteFacts.{seen as put-seen}
 use Rattle.task_model.proofs.Shapes.{shape-set}
 use Rattle.task_model.proofs.MachineFacts.{length-with_part, length-words_at}
 use Rattle.task_model.proofs.Services.{TestsTo, next_is}

@@ -1,15 +1,15 @@
 -- The table goes on through an event as the history does.
-use Rattle.std.proofs.Common.{◌≡◌, ℕ, ◌≤◌, inl, inr, Bool, true, false, cond, eqb, max, not, ◌||◌, List, [], ◌∷◌, get_or, map, Option, Some, None, refl, sym, ap, ap₂, ◌∙◌, subst, arith}
+use Rattle.std.proofs.Common.{◌≡◌, ℕ, ◌≤◌, inl, inr, Bool, true, false, cond, eqb, max, not, ◌||◌, List, [], ◌∷◌, get_or, map, Option, Some, None, refl, sym, ap, ◌∙◌, subst, arith}
 use Rattle.std.specs.Prelude.{is_some}
 use Rattle.std.specs.List.{AllByRecursion}
 use Rattle.object_sets.specs.ObjectSets.{is_among}
 use Rattle.kernel_model.specs.Sizes.{Sizes}
-use Rattle.kernel_model.specs.Effects.{Programs, Run, Write, written}
+use Rattle.kernel_model.specs.Effects.{Programs, Run, written}
 use Rattle.kernel_model.specs.Items.{FinishRecord}
 use Rattle.kernel_model.specs.Replay.{DeviceState, clock_of}
 use Rattle.kernel_model.specs.Worlds.{World}
 use Rattle.kernel_model.specs.Versions.{Version, chosen, versions}
-use Rattle.kernel_model.specs.Intervals.{Interval, touches}
+use Rattle.kernel_model.specs.Intervals.{touches}
 use Rattle.kernel_model.specs.Cores.{Idle}
 use Rattle.kernel_model.specs.Room.{is_needed}
 use Rattle.kernel_model.specs.Events.{Event, State, event_step}
@@ -18,7 +18,7 @@ use Rattle.kernel_model.specs.History.{IsAttempt, RestOnReads}
 use Rattle.kernel_model.specs.Live.{CallState, Mark, added_by, begin_call, cores_of, fetch_call, finish_call}
 use Rattle.kernel_model.specs.LiveSound.{IsLiveState}
 use Rattle.kernel_model.specs.Sound.{IsSound}
-use Rattle.kernel_model.specs.Bounds.{bound_of, raised_by, with_touch}
+use Rattle.kernel_model.specs.Bounds.{bound_of, with_touch}
 use Rattle.kernel_model.specs.Chain.{IsChain, IsFloor, IsPart, ended_at, floored, joining, with_joining, with_version}
 use Rattle.kernel_model.proofs.ForCallers.{begin_chain, begin_history, bound_at_clock, bound_next, bound_with, chain_kept, chain_of_one, fetch_chain, fetch_history, finish_chain, finish_history, finish_keeps, floor_needs, marks_start, newest}
 use Rattle.ver_table.specs.Chains.{Chain, Stored, holds_newest, installed, newest_ended, noted, one_version, without}
