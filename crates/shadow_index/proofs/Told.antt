@@ -1,5 +1,5 @@
 -- What a layout tells, by its parts.
-use Rattle.std.proofs.Common.{◌≡◌, ◌≢◌, ℕ, ◌+◌, ◌*◌, ◌<◌, ◌≤◌, length, sum_by, arith, refl, ap, ap₂, sym, ◌∙◌}
+use Rattle.std.proofs.Common.{◌≡◌, ◌≢◌, ℕ, ◌+◌, ◌*◌, ◌<◌, sum_by, arith, refl, ap, ap₂, ◌∙◌}
 use Rattle.set_model.specs.Sets.{TaskSet, object_at}
 use Rattle.std.proofs.lemmas.Bool.{eq-eqb, ne_eqb}
 use Rattle.set_model.specs.Numbers.{first_index}

@@ -1,5 +1,5 @@
 -- What a state is in the definitions, and the room that it has. This project's own.
-use Rattle.std.specs.Prelude.{◌≡◌, ℕ, ◌+◌, ◌<◌, ◌≤◌, length, map, vec_capacity, Option, None, Some}
+use Rattle.std.specs.Prelude.{◌≡◌, ℕ, ◌<◌, ◌≤◌, length, map, vec_capacity, Option, None, Some}
 use Rattle.set_model.specs.Sets.{TaskSet}
 use Rattle.set_model.specs.Views.{entry_if, task_of}
 use Rattle.device_model.specs.Words.{Words}

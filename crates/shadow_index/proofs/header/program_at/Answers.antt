@@ -1,5 +1,4 @@
-use Rattle.std.proofs.Common.{◌≡◌, ℕ, ◌+◌, ◌*◌, ◌/◌, ◌%◌, ◌<◌, length, slice_index, arith, ap, sym, ◌∙◌}
-use Rattle.set_model.specs.Sets.{program_at}
+use Rattle.std.proofs.Common.{◌≡◌, ℕ, ◌+◌, ◌*◌, ◌/◌, length, slice_index, arith, ap, sym, ◌∙◌}
 use Rattle.device_model.specs.Layouts.{header}
 use Rattle.device_model.proofs.HeaderLaws.{header-program}
 use Rattle.shadow_index.proofs.header.program_at.Goals as goal

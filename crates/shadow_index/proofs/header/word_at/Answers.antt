@@ -1,4 +1,4 @@
-use Rattle.std.proofs.Common.{◌≡◌, ℕ, ◌+◌, ◌-◌, ◌*◌, length, slice_index, arith, ap, sym, ◌∙◌}
+use Rattle.std.proofs.Common.{◌≡◌, ◌+◌, ◌-◌, ◌*◌, length, slice_index, arith, ap, sym, ◌∙◌}
 use Rattle.device_model.specs.Layouts.{header}
 use Rattle.device_model.proofs.HeaderLaws.{header-object}
 use Rattle.shadow_index.proofs.header.word_at.Goals as goal

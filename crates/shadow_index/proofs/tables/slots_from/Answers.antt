@@ -1,4 +1,4 @@
-use Rattle.std.proofs.Common.{◌<◌, ◌+◌, ◌*◌, length, arith, ◌∙◌}
+use Rattle.std.proofs.Common.{◌+◌, ◌*◌, arith, ◌∙◌}
 use Rattle.std.proofs.lemmas.List.{length-set}
 use Rattle.shadow_index.proofs.Filling.{number_more}
 use Rattle.shadow_index.proofs.tables.slots_from.Goals as goal

@@ -1,8 +1,8 @@
-use Rattle.std.proofs.Common.{◌≡◌, ◌≢◌, ℕ, ◌<◌, slice_index, arith, ap, subst, sym, ◌∙◌}
+use Rattle.std.proofs.Common.{◌≡◌, ◌≢◌, ℕ, ◌<◌, slice_index, arith, ap, sym, ◌∙◌}
 use Rattle.set_model.specs.Sets.{TaskSet}
 use Rattle.set_model.specs.Numbers.{first_index}
 use Rattle.device_model.specs.Layouts.{header, magic_of}
-use Rattle.device_model.specs.Devices.{Device, layout_on}
+use Rattle.device_model.specs.Devices.{layout_on}
 use Rattle.shadow_index.proofs.Told.{format_header, format_root, magic_is}
 use Rattle.shadow_index.proofs.layout.Layout.header_word.Goals as goal
 

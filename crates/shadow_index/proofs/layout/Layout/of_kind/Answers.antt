@@ -1,5 +1,5 @@
-use Rattle.std.proofs.Common.{◌≡◌, ℕ, ◌<◌, ◌≤◌, ◌+◌, ◌*◌, [], refl, ap, arith, sym, ◌∙◌}
-use Rattle.set_model.specs.Sets.{ObjPart, object_at}
+use Rattle.std.proofs.Common.{◌≡◌, ◌+◌, ◌*◌, [], refl, ap, arith, ◌∙◌}
+use Rattle.set_model.specs.Sets.{ObjPart}
 use Rattle.set_model.specs.Limits.{IsObject}
 use Rattle.set_model.proofs.AtFacts.{all_at}
 use Rattle.device_model.specs.Layouts.{layout_of, slots_at}

@@ -1,9 +1,9 @@
-use Rattle.std.proofs.Common.{◌≡◌, ℕ, ◌+◌, ◌-◌, ◌*◌, ◌<◌, ◌≤◌, ⊎_elim, not, eqb, nat_le, length, arith, refl, sym, ap, ◌∙◌}
+use Rattle.std.proofs.Common.{◌≡◌, ℕ, ◌+◌, ◌-◌, ⊎_elim, not, eqb, nat_le, length, arith, sym, ap, ◌∙◌}
 use Rattle.std.proofs.lemmas.Bool.{cases_lt}
 use Rattle.std.proofs.lemmas.Bool.Decides.{nat_tests}
-use Rattle.device_model.specs.IndexWords.{is_faulty, is_faulty_number}
+use Rattle.device_model.specs.IndexWords.{is_faulty_number}
 use Rattle.shadow_index.specs.States.{word_of}
-use Rattle.shadow_index.specs.Forms.{is_faulty_task, number_word, record_word}
+use Rattle.shadow_index.specs.Forms.{is_faulty_task, number_word}
 use Rattle.shadow_index.proofs.ByKind.{numbers_stay, other_slot_stays, padding_is_none, record_stays, slot_is_taken, slot_stays, word_number, word_record}
 use Rattle.shadow_index.proofs.Faults.{not-not, fault_number, fault_padding, fault_slot, fault_task}
 use Rattle.shadow_index.proofs.state.State.take.Goals as goal

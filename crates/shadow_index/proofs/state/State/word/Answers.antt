@@ -1,4 +1,4 @@
-use Rattle.std.proofs.Common.{◌≡◌, ℕ, ◌+◌, ◌-◌, ◌<◌, length, slice_index, arith, sym, ap, ◌∙◌}
+use Rattle.std.proofs.Common.{◌≡◌, ℕ, ◌+◌, ◌-◌, length, arith, sym, ap, ◌∙◌}
 use Rattle.shadow_index.specs.Forms.{record_word}
 use Rattle.shadow_index.proofs.ByKind.{word_number, word_record, word_slot}
 use Rattle.shadow_index.proofs.state.State.word.Goals as goal
