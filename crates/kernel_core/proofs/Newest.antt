@@ -1,11 +1,11 @@
 -- What one core reads: the newest version of each object, since no finish joins while its attempt lasts.
-use Rattle.std.proofs.Common.{◌≡◌, ℕ, ◌<◌, ◌≤◌, max, List, [], ◌∷◌, length, Option, Some, None, unwrap_or, refl, sym, ap, ◌∙◌, arith}
-use Rattle.kernel_model.specs.Effects.{Objects, Run, Write, put, object_words, written}
+use Rattle.std.proofs.Common.{◌≡◌, ℕ, ◌<◌, ◌≤◌, max, List, [], ◌∷◌, length, Option, Some, None, refl, ap, ◌∙◌, arith}
+use Rattle.kernel_model.specs.Effects.{Objects, Run, Write, object_words}
 use Rattle.kernel_model.specs.Items.{FinishRecord}
 use Rattle.kernel_model.specs.Replay.{DeviceState, after_history, clock_of, tables_of}
 use Rattle.kernel_model.specs.Versions.{Read, Version, chosen, read_words, version_read, versions, words_in}
 use Rattle.kernel_model.specs.Intervals.{Interval, finish_interval, last_touch, raised_for, read_interval, sooner, within}
-use Rattle.kernel_model.proofs.ForCallers.{chosen_exists, last_touch-clock, length-put_from, newest, newest-found, newest_words, tops}
+use Rattle.kernel_model.proofs.ForCallers.{chosen_exists, last_touch-clock, length-put_from, newest, newest-found, newest_words}
 
 -- as many objects as at first
 pub length-objects : (base : DeviceState) (history : List FinishRecord) → length (after_history history (tables_of base)).objects ≡ length base.objects

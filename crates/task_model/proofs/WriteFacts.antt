@@ -1,9 +1,9 @@
 -- What one more write makes of the objects, and of the set of those written.
-use Rattle.std.proofs.Common.{◌≡◌, ℕ, zero, suc, add-zero, zero-add, ◌+◌, ◌<◌, ◌≤◌, Bool, true, false, cond, ltb, eqb, ◌||◌, List, [], ◌∷◌, length, map, set, Some, unwrap_or, refl, sym, ap, ◌∙◌, ne_eqb, arith}
+use Rattle.std.proofs.Common.{◌≡◌, ℕ, zero, suc, zero-add, ◌+◌, ◌<◌, ◌≤◌, Bool, true, false, cond, ltb, eqb, ◌||◌, List, [], ◌∷◌, map, set, Some, unwrap_or, refl, sym, ap, ◌∙◌, ne_eqb, arith}
 use Rattle.std.specs.List.{AllByRecursion}
 use Rattle.std.proofs.lemmas.Bool.{eqb-true, eqb-false, ltb-true, ltb-false}
 use Rattle.object_sets.specs.ObjectSets.{inserted, is_among, with_object, IsIncreasing}
-use Rattle.kernel_model.specs.Effects.{Objects, Write, put, put_from, reads_after, with_write, object_words, written}
+use Rattle.kernel_model.specs.Effects.{Objects, Write, put, put_from, reads_after, with_write, written}
 use Rattle.kernel_model.proofs.ForCallers.{written-with_write}
 
 -- nothing is put in
