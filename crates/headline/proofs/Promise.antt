@@ -7,15 +7,11 @@ use Rattle.kernel_model.specs.Execution.{Execution}
 use Rattle.set_model.proofs.LimitFacts.{few_records}
 use Rattle.set_model.specs.Sets.{TaskSet}
 use Rattle.set_model.specs.Limits.{IsTaskSet}
-use Rattle.set_model.specs.Numbers.{sizes_of}
-use Rattle.set_model.specs.Formatted.{formatted}
-use Rattle.task_model.specs.TaskSteps.{task_steps}
+use Rattle.task_model.specs.TaskSteps.{world_of}
 
-abbrev pub execution_of : (set : TaskSet) (events : List Event) → IsTaskSet set → length events ≤ 1000000 → IsSetUp (task_steps set) (sizes_of set) (formatted set) → Execution MachineState
+abbrev pub execution_of : (set : TaskSet) (events : List Event) → IsTaskSet set → length events ≤ 1000000 → IsSetUp (world_of set) → Execution MachineState
 execution_of set events h l up = record {
-  steps = task_steps set;
-  sizes = sizes_of set;
-  base = formatted set;
+  world = world_of set;
   cores = set.cores;
   power = On;
   boots = 0;

@@ -7,9 +7,8 @@ use Rattle.kernel_model.specs.Events.{Event, On, State, lines_of, opened, state_
 use Rattle.kernel_model.specs.Durable.{listed, state_left}
 use Rattle.kernel_model.specs.Report.{report_lines}
 use Rattle.set_model.specs.Sets.{TaskSet}
-use Rattle.set_model.specs.Numbers.{sizes_of}
 use Rattle.set_model.specs.Formatted.{formatted}
-use Rattle.task_model.specs.TaskSteps.{task_steps}
+use Rattle.task_model.specs.TaskSteps.{world_of}
 use Rattle.report_text.specs.Report.{end_part, lines_text}
 
 -- all cores idle, and the power on
@@ -18,15 +17,15 @@ first_state set = opened set.cores On 0
 
 -- the state after some events
 abbrev pub after : TaskSet → List Event → State MachineState
-after set events = state_after (task_steps set) (sizes_of set) (formatted set) (first_state set) events
+after set events = state_after (world_of set) (first_state set) events
 
 -- what they print
 abbrev pub event_lines : TaskSet → List Event → List Line
-event_lines set events = lines_of (task_steps set) (sizes_of set) (formatted set) (first_state set) events
+event_lines set events = lines_of (world_of set) (first_state set) events
 
 -- that, and then the finish that is durable and not told
 abbrev pub all_lines : TaskSet → List Event → List Line
-all_lines set events = report_lines (task_steps set) (sizes_of set) (formatted set) (first_state set) events
+all_lines set events = report_lines (world_of set) (first_state set) events
 
 -- the durable state after some events
 abbrev pub state_read : TaskSet → List Event → DeviceState

@@ -23,10 +23,9 @@ use Rattle.kernel_model.specs.Turns as model
 use Rattle.kernel_model.specs.Events.{On, State, after_turn, CoreStep, durable_commit, event_step, opened, still_owed}
 use Rattle.kernel_model.specs.Report.{unprinted}
 use Rattle.set_model.specs.Sets.{TaskSet, object_at, program_at}
-use Rattle.set_model.specs.Numbers.{sizes_of}
 use Rattle.set_model.specs.Formatted.{formatted}
 use Rattle.set_model.specs.Views.{entry_if, line_of, outcome_of, task_of}
-use Rattle.task_model.specs.TaskSteps.{given_words, rewritten_words, served, task_steps}
+use Rattle.task_model.specs.TaskSteps.{given_words, rewritten_words, served, task_steps, world_of}
 use Rattle.headline.specs.Run.{first_state as first_of}
 use Rattle.kernel_core.specs.Shapes.{behind}
 use Rattle.kernel_core.specs.Represents.{AgreesIn, HasDone, GhostState, Simulates, Leaves, Represents, core_in, left_in, state_in}
@@ -44,7 +43,7 @@ pub leads_from : (old new : Kernel) (l : Line) → SimulatesTurn old new l → S
 unfolding SimulatesTurn Simulates
 leads_from old new l t = λ s st.
     let n = t st.hidden st.fits in
-    subst (λ x. let r = event_step (task_steps old.set) (sizes_of old.set) (formatted old.set) x (CoreStep 0) in Represents new r.0 × (r.1 ≡ line_of l)) (sym st.is)
+    subst (λ x. let r = event_step (world_of old.set) x (CoreStep 0) in Represents new r.0 × (r.1 ≡ line_of l)) (sym st.is)
     (record { hidden = n.hidden; fits = n.fits; is = ap (λ p. p.0) n.steps }, ap (λ p. p.1) n.steps)
 
 -- what is durable is what the kernel keeps
@@ -185,7 +184,7 @@ copying k o w copied = record k { phase = phase.Copying o w copied }
 
 abbrev copied_in : Kernel → GhostState → ObjId → Want → ℕ → List Read → State MachineState × model.Line
 copied_in k h o w copied reads =
-    after_turn (state_in (copying k o w copied) h) 0 (copy_turn (task_steps k.set) (sizes_of k.set) (formatted k.set) h.history (record h.attempt { state = k.machine }) copied reads)
+    after_turn (state_in (copying k o w copied) h) 0 (copy_turn (world_of k.set) h.history (record h.attempt { state = k.machine }) copied reads)
 
 abbrev one_copied : Kernel → GhostState → ObjId → Want → ℕ → Read → Bool → State MachineState × model.Line
 one_copied k h o w copied r b =

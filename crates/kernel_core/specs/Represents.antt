@@ -14,10 +14,9 @@ use Rattle.kernel_model.specs.Turns.{read_of}
 use Rattle.kernel_model.specs.Events.{State, On, CoreStep, event_step}
 use Rattle.kernel_model.specs.Durable.{listed, state_left}
 use Rattle.set_model.specs.Sets.{TaskSet}
-use Rattle.set_model.specs.Numbers.{sizes_of}
 use Rattle.set_model.specs.Formatted.{formatted}
 use Rattle.set_model.specs.Views.{entry_of, line_of, outcome_of, spawn_of}
-use Rattle.task_model.specs.TaskSteps.{task_steps}
+use Rattle.task_model.specs.TaskSteps.{world_of}
 use Rattle.kernel_core.specs.Shapes.{AreWritten}
 use Rattle.kernel_core.specs.declared.attempt.Attempt as own
 use Rattle.kernel_core.specs.declared.kernel.Kernel.{Kernel}
@@ -96,4 +95,4 @@ pub record Represents (k : Kernel) (s : State MachineState) : Type 0 where
 unfoldable pub Simulates : Kernel → Kernel → Line → Type 0
 Simulates old new line =
     (s : State MachineState) → Represents old s
-    → (let t = event_step (task_steps old.set) (sizes_of old.set) (formatted old.set) s (CoreStep 0) in Represents new t.0 × (t.1 ≡ line_of line))
+    → (let t = event_step (world_of old.set) s (CoreStep 0) in Represents new t.0 × (t.1 ≡ line_of line))

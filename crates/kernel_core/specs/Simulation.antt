@@ -8,10 +8,9 @@ use Rattle.nv_base.specs.declared.lines.Outcome.{Outcome}
 use Rattle.nv_base.specs.declared.lines.Outcome.TheVariants as outcome
 use Rattle.kernel_model.specs.Turns.{Nothing, run_turn}
 use Rattle.kernel_model.specs.Events.{CoreStep, event_step}
-use Rattle.set_model.specs.Numbers.{sizes_of}
 use Rattle.set_model.specs.Formatted.{formatted}
 use Rattle.set_model.specs.Views.{line_of}
-use Rattle.task_model.specs.TaskSteps.{served, task_steps}
+use Rattle.task_model.specs.TaskSteps.{served, task_steps, world_of}
 use Rattle.kernel_core.specs.Represents.{Agrees, GhostState, core_in, state_in}
 use Rattle.kernel_core.specs.declared.attempt.Attempt as own
 use Rattle.kernel_core.specs.declared.kernel.Kernel.{Kernel}
@@ -22,7 +21,7 @@ use Rattle.kernel_core.specs.declared.kernel.Phase.TheVariants as phase
 pub record Next (old : Kernel) (h : GhostState) (new : Kernel) (line : Line) : Type 0 where
   pub hidden : GhostState
   pub fits : Agrees new hidden
-  pub steps : event_step (task_steps old.set) (sizes_of old.set) (formatted old.set) (state_in old h) (CoreStep 0) ≡ (state_in new hidden, line_of line)
+  pub steps : event_step (world_of old.set) (state_in old h) (CoreStep 0) ≡ (state_in new hidden, line_of line)
 
 -- from each
 unfoldable pub SimulatesTurn : Kernel → Kernel → Line → Type 0

@@ -1,11 +1,10 @@
 -- The bounds of objects.
 use Rattle.std.proofs.Common.{◌≡◌, ℕ, ◌≤◌, Bool, true, false, cond, max, List, [], ◌∷◌, get_or, Option, Some, None, refl, ap, ◌∙◌, subst, arith}
 use Rattle.std.specs.List.{AllByRecursion}
-use Rattle.kernel_model.specs.Sizes.{Sizes}
 use Rattle.kernel_model.specs.Effects.{Outcome, Run, Write, written}
-use Rattle.kernel_model.specs.Runs.{TaskMachine}
 use Rattle.kernel_model.specs.Items.{FinishRecord}
 use Rattle.kernel_model.specs.Replay.{DeviceState, clock_of}
+use Rattle.kernel_model.specs.Worlds.{World}
 use Rattle.kernel_model.specs.Versions.{Read, Version, version_read}
 use Rattle.kernel_model.specs.Intervals.{Interval, finish_interval, last_touch, raised_for, read_interval, touches, within}
 use Rattle.kernel_model.specs.Cores.{Attempt, Committing, Idle, Ready, run_of}
@@ -30,8 +29,8 @@ pub bound_with : (floor o : ℕ) (j : Option FinishRecord) (history : List Finis
 bound_with floor o None history = refl
 bound_with floor o (Some i) history = bound_raised floor o i history
 
-pub bound_next : {M : Type 0} → (steps : TaskMachine M) (sizes : Sizes) (base : DeviceState) (s : State M) (floor o : ℕ) (e : Event) → bound_of floor o (event_step steps sizes base s e).0.history ≡ with_touch (joining s e) o (bound_of floor o s.history)
-bound_next steps sizes base s floor o e = ap (bound_of floor o) (history-joined steps sizes base s e) ∙ bound_with floor o (joining s e) s.history
+pub bound_next : {M : Type 0} → (world : World M) (s : State M) (floor o : ℕ) (e : Event) → bound_of floor o (event_step world s e).0.history ≡ with_touch (joining s e) o (bound_of floor o s.history)
+bound_next world s floor o e = ap (bound_of floor o) (history-joined world s e) ∙ bound_with floor o (joining s e) s.history
 
 within-lo : (v : Option Version) (i : Interval) → i.lo ≤ (within v i).lo
 within-lo None i = omega arith
@@ -67,9 +66,9 @@ touch-follows i (x ∷ history) o words e h = go (touch-follows i history o word
     go rest true f = omega (arith, rest, h.0.touched o words e f)
     go rest false f = rest
 
-pub commit_above : {M : Type 0} → (steps : TaskMachine M) (sizes : Sizes) (base : DeviceState) (s : State M) (floor k left o : ℕ) (i : FinishRecord) (words : List ℕ) → IsSound steps sizes base s → IsFloor base floor s →
+pub commit_above : {M : Type 0} → (world : World M) (s : State M) (floor k left o : ℕ) (i : FinishRecord) (words : List ℕ) → IsSound world s → IsFloor world.base floor s →
     get_or s.cores k Idle ≡ Committing i left → written i.run.writes o ≡ Some words → bound_of floor o s.history ≤ i.point
-commit_above {M} steps sizes base s floor k left o i words h f e w =
-    let core : IsSoundCore steps sizes base s.history (Committing i left) = subst (IsSoundCore steps sizes base s.history) e (h.cores k) in
+commit_above {M} world s floor k left o i words h f e w =
+    let core : IsSoundCore world s.history (Committing i left) = subst (IsSoundCore world s.history) e (h.cores k) in
     let from : floor ≤ i.point = subst (StartsFrom floor) e (f.starts k) in
     omega (arith, from, touch-follows i s.history o words w core.0.ordered.0)

@@ -7,7 +7,7 @@ use Rattle.kernel_model.specs.Sizes.{Sizes}
 use Rattle.kernel_model.specs.Effects.{Trap, object_words}
 use Rattle.kernel_model.specs.Runs.{Step, Went, Reads, Writes, Spawns, Ends}
 use Rattle.kernel_model.specs.Fit.{IsMachine, IsOutcome, IsWrite, IsSetUp}
-use Rattle.kernel_model.specs.WorkedTasks.{Op, Work, Add, Take, Put, PutAt, Fork, Stop, StopSum, Spent, Task, machine_of, step_of, toy, with_first}
+use Rattle.kernel_model.specs.WorkedTasks.{Op, Work, Add, Take, Put, PutAt, Fork, Stop, StopSum, Spent, Task, step_of, toy, with_first, world_of}
 use Rattle.kernel_model.specs.WorkedRuns.{adding, copy_and_put, resumed_later}
 
 words-size : (n k : ℕ) → length (with_first n (replicate k 0)) ≡ k
@@ -72,7 +72,7 @@ toy_machine sizes program = record {
     at m s e = subst (IsFit sizes m.ops) e (each_fit sizes m.ops m.sum)
 
 -- a run on one object
-pub set_up-adding : IsSetUp (machine_of adding) adding.sizes adding.base
+pub set_up-adding : IsSetUp (world_of adding)
 set_up-adding = record {
   machine = toy_machine adding.sizes adding.program;
   sized = record { slots = λ o l. omega arith; index_writes = λ before after writes. omega arith; boot_turns = omega arith };
@@ -94,7 +94,7 @@ set_up-adding = record {
     at (suc o) l = absurd (omega (arith, l))
 
 -- a run with two cores
-pub set_up-copy_and_put : IsSetUp (machine_of copy_and_put) copy_and_put.sizes copy_and_put.base
+pub set_up-copy_and_put : IsSetUp (world_of copy_and_put)
 set_up-copy_and_put = record {
   machine = toy_machine copy_and_put.sizes copy_and_put.program;
   sized = record { slots = λ o l. omega arith; index_writes = λ before after writes. omega arith; boot_turns = omega arith };
@@ -117,7 +117,7 @@ set_up-copy_and_put = record {
     at (suc (suc o)) l = absurd (omega (arith, l))
 
 -- a run from a clock above 0
-pub set_up-resumed_later : IsSetUp (machine_of resumed_later) resumed_later.sizes resumed_later.base
+pub set_up-resumed_later : IsSetUp (world_of resumed_later)
 set_up-resumed_later = record {
   machine = toy_machine resumed_later.sizes resumed_later.program;
   sized = record { slots = λ o l. omega arith; index_writes = λ before after writes. omega arith; boot_turns = omega arith };

@@ -5,6 +5,7 @@ use Rattle.kernel_model.specs.Effects.{Outcome, Exit, Trap, Spawn, Objects}
 use Rattle.kernel_model.specs.Runs.{Reads, Spawns, Writes, Step, Went, Ends, TaskMachine, fuel_cause}
 use Rattle.kernel_model.specs.Items.{FinishRecord, Entry, serial_order}
 use Rattle.kernel_model.specs.Replay.{TaskRec, DeviceState, tables_of, after_all}
+use Rattle.kernel_model.specs.Worlds.{World}
 use Rattle.kernel_model.specs.Turns.{Line, Nothing}
 use Rattle.kernel_model.specs.Events.{Power, State, Event, CoreStep, opened, state_after}
 use Rattle.kernel_model.specs.Durable.{durable, listed}
@@ -129,21 +130,25 @@ pub record Scene : Type 0 where
 abbrev pub machine_of : Scene → TaskMachine Task
 machine_of x = toy x.sizes x.program
 
+-- what stays in a scene
+abbrev pub world_of : Scene → World Task
+world_of x = record { steps = machine_of x; sizes = x.sizes; base = x.base }
+
 -- before the first event
 abbrev pub first_of : Scene → State Task
 first_of x = opened x.cores x.power x.boots
 
 -- the lines that are reported of some events
 abbrev pub shows : Scene → List Event → List Line
-shows x events = shown (report_lines (machine_of x) x.sizes x.base (first_of x) events)
+shows x events = shown (report_lines (world_of x) (first_of x) events)
 
 -- what is durable after some events: the state, and the boots
 abbrev pub leaves : Scene → List Event → DeviceState × ℕ
-leaves x events = let d = durable x.base None (state_after (machine_of x) x.sizes x.base (first_of x) events) in (d.state, d.boots)
+leaves x events = let d = durable x.base None (state_after (world_of x) (first_of x) events) in (d.state, d.boots)
 
 -- the finishes that are durable then
 abbrev pub finishes_of : Scene → List Event → List FinishRecord
-finishes_of x events = listed (state_after (machine_of x) x.sizes x.base (first_of x) events)
+finishes_of x events = listed (state_after (world_of x) (first_of x) events)
 
 -- the tasks of some finishes in serial order
 abbrev pub order_of : List FinishRecord → List ℕ

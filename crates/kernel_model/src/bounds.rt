@@ -1,11 +1,10 @@
 //! The bounds that a table keeps of who touched each object, in place of the listing.
 
 ghost use Rattle.std.specs.Prelude.{ℕ, ◌≡◌, ◌≤◌, ◌∷◌, List, Option, get_or};
-ghost use Rattle.kernel_model.specs.Sizes.{Sizes};
 ghost use Rattle.kernel_model.specs.Effects.{Outcome, Run, written};
-ghost use Rattle.kernel_model.specs.Runs.{TaskMachine};
 ghost use Rattle.kernel_model.specs.Items.{FinishRecord};
 ghost use Rattle.kernel_model.specs.Replay.{DeviceState, clock_of};
+ghost use Rattle.kernel_model.specs.Worlds.{World};
 ghost use Rattle.kernel_model.specs.Versions.{Read};
 ghost use Rattle.kernel_model.specs.Intervals.{finish_interval, read_interval};
 ghost use Rattle.kernel_model.specs.Cores.{Attempt, Core, run_of};
@@ -26,8 +25,8 @@ pub fn finish_raises_bounds()
 
 /// A bound changes by the finish that joins at an event, if one does, and else stays.
 pub fn bound_goes_on<M>()
-    ensures { (steps : TaskMachine M) (sizes : Sizes) (base : DeviceState) (s : State M) (floor o : ℕ) (e : Event)
-        → bound_of floor o (event_step steps sizes base s e).0.history ≡ with_touch (joining s e) o (bound_of floor o s.history) }
+    ensures { (world : World M) (s : State M) (floor o : ℕ) (e : Event)
+        → bound_of floor o (event_step world s e).0.history ≡ with_touch (joining s e) o (bound_of floor o s.history) }
 {}
 
 /// The bounds give the interval of a finish whose attempt began at the floor or later.
@@ -44,6 +43,6 @@ pub fn bounds_give_ready_interval<M>()
 
 /// The point of a finish that commits is at least the bound of each object that it writes.
 pub fn commit_is_above_bounds<M>()
-    ensures { (steps : TaskMachine M) (sizes : Sizes) (base : DeviceState) (s : State M) (floor k left o : ℕ) (i : FinishRecord) (words : List ℕ) → IsSound steps sizes base s → IsFloor base floor s
+    ensures { (world : World M) (s : State M) (floor k left o : ℕ) (i : FinishRecord) (words : List ℕ) → IsSound world s → IsFloor world.base floor s
         → get_or s.cores k Core.Idle ≡ Core.Committing i left → written i.run.writes o ≡ Option.Some words → bound_of floor o s.history ≤ i.point }
 {}

@@ -3,7 +3,7 @@
 ghost use Rattle.std.specs.Prelude.{ℕ, List};
 ghost use Rattle.kernel_model.specs.Sizes.{Sizes};
 ghost use Rattle.kernel_model.specs.Fit.{IsMachine, IsSetUp};
-ghost use Rattle.kernel_model.specs.WorkedTasks.{Op, machine_of, toy};
+ghost use Rattle.kernel_model.specs.WorkedTasks.{Op, toy, world_of};
 ghost use Rattle.kernel_model.specs.WorkedRuns.{BlindWriters, CappedChild, CountedIndex, CutCommit, DoomedCopy, FailureOnTwoCores, FailuresInBoot, FoundFinish, FuelIsSpent, JoinedCalls, NinthSpawn, NoRecords, NoSlot, OlderVersion, OrderedByPoint, PartsOnTwoCores, ResumedLater, ResumedRun, SmallestRun, TakenId, WriteSkew, adding, copy_and_put, resumed_later};
 
 /// One task on one core.
@@ -53,7 +53,7 @@ pub fn worked_tasks_are_machine()
 
 /// The laws' premises hold of such runs.
 pub fn worked_runs_are_set_up()
-    ensures { IsSetUp (machine_of adding) adding.sizes adding.base
-        × IsSetUp (machine_of copy_and_put) copy_and_put.sizes copy_and_put.base
-        × IsSetUp (machine_of resumed_later) resumed_later.sizes resumed_later.base }
+    ensures { IsSetUp (world_of adding)
+        × IsSetUp (world_of copy_and_put)
+        × IsSetUp (world_of resumed_later) }
 {}

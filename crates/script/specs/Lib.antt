@@ -13,6 +13,6 @@ pub mod ScriptText
 pub mod Laws
 -- How the code meets them.
 pub mod Causes
+pub mod CauseWords
 pub mod Answers
 pub mod Views
-pub mod Exits

@@ -2,6 +2,7 @@
 #![tactic(auto)]
 
 mod block;
+mod cause_words;
 mod draft;
 mod items;
 mod keyword;
@@ -12,7 +13,6 @@ mod refusals;
 mod section;
 mod set_lines;
 mod set_text;
-mod status;
 mod text_laws;
 mod timeline;
 mod words;
@@ -21,7 +21,6 @@ pub use keyword::{BlockKind, Keyword, Stage};
 pub use reading::{Script, read_script};
 pub use refusals::{ScriptCause, ScriptError, ScriptRefusal};
 pub use set_text::script_text;
-pub use status::{ImageFault, Status};
 pub use text_laws::script_text_is_read_back;
 
 #[cfg(test)]

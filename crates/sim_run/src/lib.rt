@@ -5,17 +5,15 @@ mod assembly;
 mod call;
 mod command;
 mod input;
-mod answer_line;
 mod packing;
 mod read_back;
-mod refusals;
 pub mod rows;
 mod run;
 mod texts;
 
+pub use answers::Status;
 pub use call::simulate;
 pub use command::{Command, WordsRefusal, words_of};
-pub use script::Status;
 
 #[cfg(test)]
 mod tests;

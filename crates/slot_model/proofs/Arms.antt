@@ -3,9 +3,9 @@ use Rattle.std.proofs.Common.{◌≡◌, ℕ, ◌-◌, ◌<◌, ◌≤◌, true,
 use Rattle.std.specs.List.{AllByRecursion}
 use Rattle.kernel_model.specs.Sizes.{Sizes}
 use Rattle.kernel_model.specs.Effects.{Run, Write}
-use Rattle.kernel_model.specs.Runs.{TaskMachine}
 use Rattle.kernel_model.specs.Items.{FinishRecord}
 use Rattle.kernel_model.specs.Replay.{DeviceState}
+use Rattle.kernel_model.specs.Worlds.{World}
 use Rattle.kernel_model.specs.Versions.{Version, chosen, versions}
 use Rattle.kernel_model.specs.Chain.{IsChain}
 use Rattle.kernel_model.proofs.ChainLaws.{chosen_exists}
@@ -26,26 +26,26 @@ use Rattle.slot_model.proofs.Writing.{commit_writes-all, no_target}
 use Rattle.slot_model.proofs.Targets.{target_in}
 
 -- a step of a core that turns from c to d
-pub turn_stands : {M : Type 0} → (steps : TaskMachine M) (sizes : Sizes) (base : DeviceState) (floor : ℕ) (s : State M) (kept : Kept) (image : Image) (n : ℕ) (c d : Core M) → IsLawful steps sizes base s → StandsFor sizes base floor s kept image → s.power ≡ On → get_or s.cores n Idle ≡ c →
-    (core_turn steps sizes base s.history (all_but n s.cores) n c).core ≡ d →
-    StandsFor sizes base floor (event_step steps sizes base s (CoreStep n)).0 (kept_turn sizes base s.history (all_but n s.cores) n c d kept) (image_turn sizes base s.history kept.plan c image)
-turn_stands {M} steps sizes base floor s kept image n c d h f on at turn =
-    subst₂ (StandsFor sizes base floor (event_step steps sizes base s (CoreStep n)).0) of_kept of_image (event_stands steps sizes base floor s kept image (CoreStep n) h f)
+pub turn_stands : {M : Type 0} → (world : World M) (floor : ℕ) (s : State M) (kept : Kept) (image : Image) (n : ℕ) (c d : Core M) → IsLawful world s → StandsFor world.sizes world.base floor s kept image → s.power ≡ On → get_or s.cores n Idle ≡ c →
+    (core_turn world s.history (all_but n s.cores) n c).core ≡ d →
+    StandsFor world.sizes world.base floor (event_step world s (CoreStep n)).0 (kept_turn world.sizes world.base s.history (all_but n s.cores) n c d kept) (image_turn world.sizes world.base s.history kept.plan c image)
+turn_stands {M} world floor s kept image n c d h f on at turn =
+    subst₂ (StandsFor world.sizes world.base floor (event_step world s (CoreStep n)).0) of_kept of_image (event_stands world floor s kept image (CoreStep n) h f)
   where
-    of_kept : kept_after steps sizes base s (CoreStep n) kept ≡ kept_turn sizes base s.history (all_but n s.cores) n c d kept
+    of_kept : kept_after world s (CoreStep n) kept ≡ kept_turn world.sizes world.base s.history (all_but n s.cores) n c d kept
     of_kept =
-        ap (λ p. kept_step steps sizes base s n p kept) on ∙ ap (λ (x : Core M). kept_turn sizes base s.history (all_but n s.cores) n x (core_turn steps sizes base s.history (all_but n s.cores) n x).core kept) at
-        ∙ ap (λ (x : Core M). kept_turn sizes base s.history (all_but n s.cores) n c x kept) turn
+        ap (λ p. kept_step world s n p kept) on ∙ ap (λ (x : Core M). kept_turn world.sizes world.base s.history (all_but n s.cores) n x (core_turn world s.history (all_but n s.cores) n x).core kept) at
+        ∙ ap (λ (x : Core M). kept_turn world.sizes world.base s.history (all_but n s.cores) n c x kept) turn
 
-    of_image : image_after sizes base s (CoreStep n) kept image ≡ image_turn sizes base s.history kept.plan c image
-    of_image = ap (λ p. image_turn sizes base s.history kept.plan (acting_on p (get_or s.cores n Idle)) image) on ∙ ap (λ (x : Core M). image_turn sizes base s.history kept.plan x image) at
+    of_image : image_after world.sizes world.base s (CoreStep n) kept image ≡ image_turn world.sizes world.base s.history kept.plan c image
+    of_image = ap (λ p. image_turn world.sizes world.base s.history kept.plan (acting_on p (get_or s.cores n Idle)) image) on ∙ ap (λ (x : Core M). image_turn world.sizes world.base s.history kept.plan x image) at
 
 -- a turn of a boot
-pub boot_stands : {M : Type 0} → (steps : TaskMachine M) (sizes : Sizes) (base : DeviceState) (floor : ℕ) (s : State M) (kept : Kept) (image : Image) (n left : ℕ) → IsLawful steps sizes base s → StandsFor sizes base floor s kept image → s.power ≡ Boot left →
-    StandsFor sizes base floor (event_step steps sizes base s (CoreStep n)).0 kept image
-boot_stands {M} steps sizes base floor s kept image n left h f off =
-    subst₂ (StandsFor sizes base floor (event_step steps sizes base s (CoreStep n)).0) (ap (λ p. kept_step steps sizes base s n p kept) off) (ap (λ p. image_turn sizes base s.history kept.plan (acting_on p (get_or s.cores n Idle)) image) off)
-    (event_stands steps sizes base floor s kept image (CoreStep n) h f)
+pub boot_stands : {M : Type 0} → (world : World M) (floor : ℕ) (s : State M) (kept : Kept) (image : Image) (n left : ℕ) → IsLawful world s → StandsFor world.sizes world.base floor s kept image → s.power ≡ Boot left →
+    StandsFor world.sizes world.base floor (event_step world s (CoreStep n)).0 kept image
+boot_stands {M} world floor s kept image n left h f off =
+    subst₂ (StandsFor world.sizes world.base floor (event_step world s (CoreStep n)).0) (ap (λ p. kept_step world s n p kept) off) (ap (λ p. image_turn world.sizes world.base s.history kept.plan (acting_on p (get_or s.cores n Idle)) image) off)
+    (event_stands world floor s kept image (CoreStep n) h f)
 
 calm_kept : {M : Type 0} → (sizes : Sizes) (base : DeviceState) (history : List FinishRecord) (others : List (Core M)) (n : ℕ) (c d : Core M) (kept : Kept) → is_calm c d ≡ true → kept_turn sizes base history others n c d kept ≡ kept
 calm_kept sizes base history others n Idle d kept e = refl
@@ -70,11 +70,11 @@ calm_image sizes base history plan (Ready a outcome) d image e = refl
 calm_image sizes base history plan (Committing i left) d image e = absurd (cc e)
 
 -- a calm turn
-pub calm_stands : {M : Type 0} → (steps : TaskMachine M) (sizes : Sizes) (base : DeviceState) (floor : ℕ) (s : State M) (kept : Kept) (image : Image) (n : ℕ) (c d : Core M) → IsLawful steps sizes base s → StandsFor sizes base floor s kept image → s.power ≡ On → get_or s.cores n Idle ≡ c →
-    (core_turn steps sizes base s.history (all_but n s.cores) n c).core ≡ d → is_calm c d ≡ true → StandsFor sizes base floor (event_step steps sizes base s (CoreStep n)).0 kept image
-calm_stands {M} steps sizes base floor s kept image n c d h f on at turn calm =
-    subst₂ (StandsFor sizes base floor (event_step steps sizes base s (CoreStep n)).0) (calm_kept sizes base s.history (all_but n s.cores) n c d kept calm) (calm_image sizes base s.history kept.plan c d image calm)
-    (turn_stands steps sizes base floor s kept image n c d h f on at turn)
+pub calm_stands : {M : Type 0} → (world : World M) (floor : ℕ) (s : State M) (kept : Kept) (image : Image) (n : ℕ) (c d : Core M) → IsLawful world s → StandsFor world.sizes world.base floor s kept image → s.power ≡ On → get_or s.cores n Idle ≡ c →
+    (core_turn world s.history (all_but n s.cores) n c).core ≡ d → is_calm c d ≡ true → StandsFor world.sizes world.base floor (event_step world s (CoreStep n)).0 kept image
+calm_stands {M} world floor s kept image n c d h f on at turn calm =
+    subst₂ (StandsFor world.sizes world.base floor (event_step world s (CoreStep n)).0) (calm_kept world.sizes world.base s.history (all_but n s.cores) n c d kept calm) (calm_image world.sizes world.base s.history kept.plan c d image calm)
+    (turn_stands world floor s kept image n c d h f on at turn)
 
 -- a commit under way
 pub under_way : {M : Type 0} → (sizes : Sizes) (base : DeviceState) (floor : ℕ) (s : State M) (kept : Kept) (image : Image) (n : ℕ) (i : FinishRecord) (left : ℕ) → StandsFor sizes base floor s kept image → get_or s.cores n Idle ≡ Committing i left → IsUnderWay sizes base s.history s.cores kept image i left
@@ -104,9 +104,9 @@ free_writes {M} sizes base floor history cores kept image f ws r k = go ws r k
     go [] r k = tt
     go (w ∷ ws) r k = (record { object = r.0.object; spare = k.0; other = apart w.object r.0.object (kept.chains w.object) refl k.0 }, go ws r.1 k.1)
 
-pub taken_free : {M : Type 0} → (steps : TaskMachine M) (sizes : Sizes) (base : DeviceState) (floor : ℕ) (s : State M) (kept : Kept) (image : Image) (n : ℕ) (i : FinishRecord) (left : ℕ) → IsLawful steps sizes base s → StandsFor sizes base floor s kept image → get_or s.cores n Idle ≡ Committing i left →
-    AllByRecursion (IsFree sizes base s.history s.cores kept) i.run.writes
-taken_free steps sizes base floor s kept image n i left h f at = free_writes sizes base floor s.history s.cores kept image f.stands i.run.writes (runs_of steps sizes base s h.set_up h.sound n i left at).writes (under_way sizes base floor s kept image n i left f at).spare
+pub taken_free : {M : Type 0} → (world : World M) (floor : ℕ) (s : State M) (kept : Kept) (image : Image) (n : ℕ) (i : FinishRecord) (left : ℕ) → IsLawful world s → StandsFor world.sizes world.base floor s kept image → get_or s.cores n Idle ≡ Committing i left →
+    AllByRecursion (IsFree world.sizes world.base s.history s.cores kept) i.run.writes
+taken_free world floor s kept image n i left h f at = free_writes world.sizes world.base floor s.history s.cores kept image f.stands i.run.writes (runs_of world s h.set_up h.sound n i left at).writes (under_way world.sizes world.base floor s kept image n i left f at).spare
 
 -- and each of its words to a place there
 pub free_target : {M : Type 0} → (sizes : Sizes) (base : DeviceState) (history : List FinishRecord) (cores : List (Core M)) (kept : Kept) (made : ℕ) (run : Run) (t : Target) → IsRun sizes run →
@@ -117,6 +117,6 @@ free_target {M} sizes base history cores kept made run t fit k e = target_in siz
     slots [] k = tt
     slots (w ∷ ws) k = (k.0.place, slots ws k.1)
 
-pub target_free : {M : Type 0} → (steps : TaskMachine M) (sizes : Sizes) (base : DeviceState) (floor : ℕ) (s : State M) (kept : Kept) (image : Image) (n : ℕ) (i : FinishRecord) (left made : ℕ) (t : Target) → IsLawful steps sizes base s → StandsFor sizes base floor s kept image → get_or s.cores n Idle ≡ Committing i left →
-    target sizes made i.run.writes ≡ Some t → IsTarget sizes kept i.run.writes t
-target_free steps sizes base floor s kept image n i left made t h f at e = free_target sizes base s.history s.cores kept made i.run t (runs_of steps sizes base s h.set_up h.sound n i left at) (under_way sizes base floor s kept image n i left f at).spare e
+pub target_free : {M : Type 0} → (world : World M) (floor : ℕ) (s : State M) (kept : Kept) (image : Image) (n : ℕ) (i : FinishRecord) (left made : ℕ) (t : Target) → IsLawful world s → StandsFor world.sizes world.base floor s kept image → get_or s.cores n Idle ≡ Committing i left →
+    target world.sizes made i.run.writes ≡ Some t → IsTarget world.sizes kept i.run.writes t
+target_free world floor s kept image n i left made t h f at e = free_target world.sizes world.base s.history s.cores kept made i.run t (runs_of world s h.set_up h.sound n i left at) (under_way world.sizes world.base floor s kept image n i left f at).spare e

@@ -3,9 +3,10 @@ use Rattle.std.proofs.Common.{◌≡◌, ℕ, List, [], ◌∷◌, get_or, Optio
 use Rattle.std.specs.List.{AllByRecursion}
 use Rattle.kernel_model.specs.Sizes.{Sizes}
 use Rattle.kernel_model.specs.Effects.{Programs}
-use Rattle.kernel_model.specs.Runs.{TaskMachine, whole_run}
+use Rattle.kernel_model.specs.Runs.{whole_run}
 use Rattle.kernel_model.specs.Items.{FinishRecord}
 use Rattle.kernel_model.specs.Replay.{DeviceState}
+use Rattle.kernel_model.specs.Worlds.{World}
 use Rattle.kernel_model.specs.Versions.{Read, read_words}
 use Rattle.kernel_model.specs.Cores.{Committing, Copying, Core, Idle, Ready, Running}
 use Rattle.kernel_model.specs.Events.{Event, State, event_step, with_finish}
@@ -28,25 +29,25 @@ same_reads base history [] = tt
 same_reads base history (r ∷ reads) = (refl, same_reads base history reads)
 
 -- of each core, through an event
-pub copies_stay : {M : Type 0} → (steps : TaskMachine M) (sizes : Sizes) (base : DeviceState) (s : State M) (e : Event) (k : ℕ) → IsLawful steps sizes base s →
-    AllByRecursion (λ r. read_words base (event_step steps sizes base s e).0.history r ≡ read_words base s.history r) (reads_of (get_or s.cores k Idle))
-copies_stay {M} steps sizes base s e k h = subst (λ (g : List FinishRecord). AllByRecursion (λ r. read_words base g r ≡ read_words base s.history r) (reads_of (get_or s.cores k Idle))) (sym same) (go (joining s e) later)
+pub copies_stay : {M : Type 0} → (world : World M) (s : State M) (e : Event) (k : ℕ) → IsLawful world s →
+    AllByRecursion (λ r. read_words world.base (event_step world s e).0.history r ≡ read_words world.base s.history r) (reads_of (get_or s.cores k Idle))
+copies_stay {M} world s e k h = subst (λ (g : List FinishRecord). AllByRecursion (λ r. read_words world.base g r ≡ read_words world.base s.history r) (reads_of (get_or s.cores k Idle))) (sym same) (go (joining s e) later)
   where
-    same : (event_step steps sizes base s e).0.history ≡ with_finish (joining s e) s.history
-    same = history-joined steps sizes base s e
+    same : (event_step world s e).0.history ≡ with_finish (joining s e) s.history
+    same = history-joined world s e
 
-    later : IsHistory (whole_run steps) base (with_finish (joining s e) s.history)
-    later = subst (IsHistory (whole_run steps) base) same (next_sound steps sizes base h.set_up s h.sound h.ids e).history
+    later : IsHistory (whole_run world.steps) world.base (with_finish (joining s e) s.history)
+    later = subst (IsHistory (whole_run world.steps) world.base) same (next_sound world h.set_up s h.sound h.ids e).history
 
-    by : (i : FinishRecord) → IsNumbered base (i ∷ s.history) → (c : Core M) → IsSoundCore steps sizes base s.history c → AllByRecursion (λ r. read_words base (i ∷ s.history) r ≡ read_words base s.history r) (reads_of c)
+    by : (i : FinishRecord) → IsNumbered world.base (i ∷ s.history) → (c : Core M) → IsSoundCore world s.history c → AllByRecursion (λ r. read_words world.base (i ∷ s.history) r ≡ read_words world.base s.history r) (reads_of c)
     by i n Idle x = tt
-    by i n (Running a) x = (reads_kept base i s.history n a.reads x.2.are_found).1
-    by i n (Copying a copied) x = (reads_kept base i s.history n a.reads x.3.are_found).1
-    by i n (Ready a outcome) x = (reads_kept base i s.history n a.reads x.are_found).1
+    by i n (Running a) x = (reads_kept world.base i s.history n a.reads x.2.are_found).1
+    by i n (Copying a copied) x = (reads_kept world.base i s.history n a.reads x.3.are_found).1
+    by i n (Ready a outcome) x = (reads_kept world.base i s.history n a.reads x.are_found).1
     by i n (Committing j left) x = tt
 
-    go : (j : Option FinishRecord) → IsHistory (whole_run steps) base (with_finish j s.history) → AllByRecursion (λ r. read_words base (with_finish j s.history) r ≡ read_words base s.history r) (reads_of (get_or s.cores k Idle))
-    go None g = same_reads base s.history (reads_of (get_or s.cores k Idle))
+    go : (j : Option FinishRecord) → IsHistory (whole_run world.steps) world.base (with_finish j s.history) → AllByRecursion (λ r. read_words world.base (with_finish j s.history) r ≡ read_words world.base s.history r) (reads_of (get_or s.cores k Idle))
+    go None g = same_reads world.base s.history (reads_of (get_or s.cores k Idle))
     go (Some i) g = by i g.numbered (get_or s.cores k Idle) (h.sound.cores k)
 
 -- and of each caller, through a finish

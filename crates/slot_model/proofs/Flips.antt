@@ -2,11 +2,9 @@
 use Rattle.std.proofs.Common.{◌≡◌, ℕ, zero, suc, true, cond, List, ◌∷◌, get_or, Option, Some, None, refl, ap, ◌∙◌, subst, ⊎_elim}
 use Rattle.std.specs.Prelude.{is_some}
 use Rattle.std.proofs.lemmas.Bool.{cases_eq}
-use Rattle.kernel_model.specs.Sizes.{Sizes}
 use Rattle.kernel_model.specs.Effects.{written}
-use Rattle.kernel_model.specs.Runs.{TaskMachine}
 use Rattle.kernel_model.specs.Items.{FinishRecord}
-use Rattle.kernel_model.specs.Replay.{DeviceState}
+use Rattle.kernel_model.specs.Worlds.{World}
 use Rattle.kernel_model.specs.Versions.{Read}
 use Rattle.kernel_model.specs.Intervals.{read_interval}
 use Rattle.kernel_model.specs.Cores.{Committing, Copying, Core, Idle, Ready, Running, commits, finished_by}
@@ -25,9 +23,9 @@ use Rattle.slot_model.proofs.Named.{named_step}
 use Rattle.slot_model.proofs.Tables.{cut_readers}
 
 -- without a last write the named slots stay
-pub named_stays : {M : Type 0} → (steps : TaskMachine M) (sizes : Sizes) (base : DeviceState) (s : State M) (kept : Kept) (e : Event) (o : ℕ) → IsLawful steps sizes base s → flipped_by s e ≡ None →
-    named_slot (event_step steps sizes base s e).0 (kept_after steps sizes base s e kept) o ≡ named_slot s kept o
-named_stays steps sizes base s kept e o h f = named_step steps sizes h.set_up.sized.index_writes base s h.sound.one_commits kept e o ∙ ap (λ j. newest_slot ((with_finished j (with_finished (durable_commit s.cores) kept)).chains o)) f
+pub named_stays : {M : Type 0} → (world : World M) (s : State M) (kept : Kept) (e : Event) (o : ℕ) → IsLawful world s → flipped_by s e ≡ None →
+    named_slot (event_step world s e).0 (kept_after world s e kept) o ≡ named_slot s kept o
+named_stays world s kept e o h f = named_step world h.set_up.sized.index_writes s h.sound.one_commits kept e o ∙ ap (λ j. newest_slot ((with_finished j (with_finished (durable_commit s.cores) kept)).chains o)) f
 
 -- the core that makes a last write commits
 flipped_at : {M : Type 0} → (c : Core M) (i : FinishRecord) → flipped_core c ≡ Some i → c ≡ Committing i 1
@@ -52,11 +50,11 @@ none_durable {M} s one (CoreStep n) i f = go s.power f
     go (Boot left) f = absurd (cc f)
 
 -- the last write names the slots of the plan
-pub named_turns : {M : Type 0} → (steps : TaskMachine M) (sizes : Sizes) (base : DeviceState) (s : State M) (kept : Kept) (e : Event) (i : FinishRecord) (o : ℕ) → IsLawful steps sizes base s → flipped_by s e ≡ Some i →
-    (named_slot s kept o ≡ newest_slot (kept.chains o)) × (named_slot (event_step steps sizes base s e).0 (kept_after steps sizes base s e kept) o ≡ cond (is_some (written i.run.writes o)) (kept.plan o) (newest_slot (kept.chains o)))
-named_turns {M} steps sizes base s kept e i o h f = (
+pub named_turns : {M : Type 0} → (world : World M) (s : State M) (kept : Kept) (e : Event) (i : FinishRecord) (o : ℕ) → IsLawful world s → flipped_by s e ≡ Some i →
+    (named_slot s kept o ≡ newest_slot (kept.chains o)) × (named_slot (event_step world s e).0 (kept_after world s e kept) o ≡ cond (is_some (written i.run.writes o)) (kept.plan o) (newest_slot (kept.chains o)))
+named_turns {M} world s kept e i o h f = (
   ap (λ j. newest_slot ((with_finished j kept).chains o)) none,
-  named_step steps sizes h.set_up.sized.index_writes base s h.sound.one_commits kept e o ∙ ap (λ j. newest_slot ((with_finished j (with_finished (durable_commit s.cores) kept)).chains o)) f
+  named_step world h.set_up.sized.index_writes s h.sound.one_commits kept e o ∙ ap (λ j. newest_slot ((with_finished j (with_finished (durable_commit s.cores) kept)).chains o)) f
       ∙ ap (λ j. newest_slot ((with_finished (Some i) (with_finished j kept)).chains o)) none ∙ at (written i.run.writes o),
 )
   where
@@ -68,15 +66,15 @@ named_turns {M} steps sizes base s kept e i o h f = (
     at (Some words) = refl
 
 -- a finish that joins cuts those that read what it writes
-pub finish_cuts : {M : Type 0} → (steps : TaskMachine M) (sizes : Sizes) (base : DeviceState) (s : State M) (n left start : ℕ) (i : FinishRecord) (reads : List Read) → IsLawful steps sizes base s → get_or s.cores n Idle ≡ Committing i left → AreFound base s.history reads →
-    read_interval base (i ∷ s.history) start reads ≡ cut i.point (is_written_read i reads) (read_interval base s.history start reads)
-finish_cuts {M} steps sizes base s n left start i reads h at k =
-    let c : IsSoundCore {M = M} steps sizes base s.history (Committing i left) = subst (IsSoundCore steps sizes base s.history) at (h.sound.cores n) in
-    cut_readers base i s.history (lawful_of base (i ∷ s.history) c.0.numbered c.0.ordered) c.0.numbered start reads k
+pub finish_cuts : {M : Type 0} → (world : World M) (s : State M) (n left start : ℕ) (i : FinishRecord) (reads : List Read) → IsLawful world s → get_or s.cores n Idle ≡ Committing i left → AreFound world.base s.history reads →
+    read_interval world.base (i ∷ s.history) start reads ≡ cut i.point (is_written_read i reads) (read_interval world.base s.history start reads)
+finish_cuts {M} world s n left start i reads h at k =
+    let c : IsSoundCore {M = M} world s.history (Committing i left) = subst (IsSoundCore world s.history) at (h.sound.cores n) in
+    cut_readers world.base i s.history (lawful_of world.base (i ∷ s.history) c.0.numbered c.0.ordered) c.0.numbered start reads k
 
 -- while a commit has writes left the newest slots are named
-pub commit_names : {M : Type 0} → (steps : TaskMachine M) (sizes : Sizes) (base : DeviceState) (s : State M) (kept : Kept) (n left o : ℕ) (i : FinishRecord) → IsLawful steps sizes base s → get_or s.cores n Idle ≡ Committing i (suc left) → named_slot s kept o ≡ newest_slot (kept.chains o)
-commit_names {M} steps sizes base s kept n left o i h e = ap (λ j. newest_slot ((with_finished j kept).chains o)) (durable_commit-none s.cores at)
+pub commit_names : {M : Type 0} → (world : World M) (s : State M) (kept : Kept) (n left o : ℕ) (i : FinishRecord) → IsLawful world s → get_or s.cores n Idle ≡ Committing i (suc left) → named_slot s kept o ≡ newest_slot (kept.chains o)
+commit_names {M} world s kept n left o i h e = ap (λ j. newest_slot ((with_finished j kept).chains o)) (durable_commit-none s.cores at)
   where
     at : (k : ℕ) → finished_by (get_or s.cores k Idle) ≡ None
     at k = ⊎_elim (λ g. ap (λ j. finished_by (get_or s.cores j Idle)) g ∙ ap finished_by e) (λ ne. no_commit (get_or s.cores k Idle) (λ g. ne (h.sound.one_commits k n g (ap commits e)))) (cases_eq k n)

@@ -1,9 +1,8 @@
 -- What began at the floor or later sees a version the same, as it is seen after a boot.
 use Rattle.std.proofs.Common.{◌≡◌, ℕ, suc, ◌≤◌, Bool, List, [], ◌∷◌, ◌||◌, get_or, Some, refl, ap, ap₂, arith}
-use Rattle.kernel_model.specs.Sizes.{Sizes}
-use Rattle.kernel_model.specs.Runs.{TaskMachine}
 use Rattle.kernel_model.specs.Items.{FinishRecord}
 use Rattle.kernel_model.specs.Replay.{DeviceState}
+use Rattle.kernel_model.specs.Worlds.{World}
 use Rattle.kernel_model.specs.Versions.{Read, Version}
 use Rattle.kernel_model.specs.Intervals.{Interval, read_interval}
 use Rattle.kernel_model.specs.Cores.{Committing, Copying, Core, Idle, Ready, Running}
@@ -15,12 +14,12 @@ use Rattle.kernel_model.proofs.ChainLaws.{AreFrom, floored-meet}
 use Rattle.kernel_model.proofs.Points.{start_lo}
 
 -- the attempt's interval begins at floor or later
-floor-lo : {M : Type 0} → (steps : TaskMachine M) (sizes : Sizes) (base : DeviceState) (history : List FinishRecord) (floor : ℕ) (c : Core M) → IsSoundCore steps sizes base history c → StartsFrom floor c → (i : Interval) → interval_of base history c ≡ Some i → floor ≤ i.lo
-floor-lo steps sizes base history floor Idle s f i e = absurd (cc e)
-floor-lo steps sizes base history floor (Running a) s f i e = let same : read_interval base history a.start a.reads ≡ i = cc in omega (arith, f, start_lo base history a.start a.reads s.2.are_found, ap (λ (x : Interval). x.lo) same)
-floor-lo steps sizes base history floor (Copying a k) s f i e = let same : read_interval base history a.start a.reads ≡ i = cc in omega (arith, f, start_lo base history a.start a.reads s.3.are_found, ap (λ (x : Interval). x.lo) same)
-floor-lo steps sizes base history floor (Ready a outcome) s f i e = let same : read_interval base history a.start a.reads ≡ i = cc in omega (arith, f, start_lo base history a.start a.reads s.are_found, ap (λ (x : Interval). x.lo) same)
-floor-lo steps sizes base history floor (Committing j left) s f i e = absurd (cc e)
+floor-lo : {M : Type 0} → (world : World M) (history : List FinishRecord) (floor : ℕ) (c : Core M) → IsSoundCore world history c → StartsFrom floor c → (i : Interval) → interval_of world.base history c ≡ Some i → floor ≤ i.lo
+floor-lo world history floor Idle s f i e = absurd (cc e)
+floor-lo world history floor (Running a) s f i e = let same : read_interval world.base history a.start a.reads ≡ i = cc in omega (arith, f, start_lo world.base history a.start a.reads s.2.are_found, ap (λ (x : Interval). x.lo) same)
+floor-lo world history floor (Copying a k) s f i e = let same : read_interval world.base history a.start a.reads ≡ i = cc in omega (arith, f, start_lo world.base history a.start a.reads s.3.are_found, ap (λ (x : Interval). x.lo) same)
+floor-lo world history floor (Ready a outcome) s f i e = let same : read_interval world.base history a.start a.reads ≡ i = cc in omega (arith, f, start_lo world.base history a.start a.reads s.are_found, ap (λ (x : Interval). x.lo) same)
+floor-lo world history floor (Committing j left) s f i e = absurd (cc e)
 
 copied-floored : (floor o : ℕ) (v : Version) (reads : List Read) → is_newest_read o (floored floor v) reads ≡ is_newest_read o v reads
 copied-floored floor o v [] = refl
@@ -37,5 +36,5 @@ pub needed-floored : {M : Type 0} → (base : DeviceState) (history : List Finis
 needed-floored base history floor o v [] h = refl
 needed-floored base history floor o v (c ∷ cores) h = ap₂ (λ (x y : Bool). x || y) (needed_by-floored base history floor o v c (h 0)) (needed-floored base history floor o v cores (λ k. h (suc k)))
 
-pub sound-from : {M : Type 0} → (steps : TaskMachine M) (sizes : Sizes) (base : DeviceState) (s : State M) → IsSound steps sizes base s → (floor : ℕ) → IsFloor base floor s → AreFrom base s.history floor s.cores
-sound-from steps sizes base s h floor f k i e = floor-lo steps sizes base s.history floor (get_or s.cores k Idle) (h.cores k) (f.starts k) i e
+pub sound-from : {M : Type 0} → (world : World M) (s : State M) → IsSound world s → (floor : ℕ) → IsFloor world.base floor s → AreFrom world.base s.history floor s.cores
+sound-from world s h floor f k i e = floor-lo world s.history floor (get_or s.cores k Idle) (h.cores k) (f.starts k) i e

@@ -2,9 +2,9 @@
 use Rattle.std.proofs.Common.{◌≡◌, ℕ, ◌+◌, ◌-◌, max, Bool, List, [], ◌∷◌, get_or, length, Option, Some, None, refl, sym, ap, ◌∙◌, subst, arith}
 use Rattle.kernel_model.specs.Sizes.{Sizes}
 use Rattle.kernel_model.specs.Effects.{written}
-use Rattle.kernel_model.specs.Runs.{TaskMachine}
 use Rattle.kernel_model.specs.Items.{FinishRecord}
 use Rattle.kernel_model.specs.Replay.{DeviceState, clock_of}
+use Rattle.kernel_model.specs.Worlds.{World}
 use Rattle.kernel_model.specs.Versions.{Version, chosen, versions}
 use Rattle.kernel_model.specs.OpenTasks.{open_tasks}
 use Rattle.kernel_model.specs.Cores.{Idle}
@@ -40,8 +40,8 @@ fresh_stands {M} sizes base floor s kept image idle f = record {
 }
 
 -- during a boot all cores are idle
-pub boot_idle : {M : Type 0} → (steps : TaskMachine M) (sizes : Sizes) (base : DeviceState) (s : State M) (left : ℕ) → IsLawful steps sizes base s → s.power ≡ Boot left → (k : ℕ) → get_or s.cores k Idle ≡ Idle
-boot_idle steps sizes base s left h off = subst (λ p. IsQuiet p s.cores) off h.sound.quiet
+pub boot_idle : {M : Type 0} → (world : World M) (s : State M) (left : ℕ) → IsLawful world s → s.power ≡ Boot left → (k : ℕ) → get_or s.cores k Idle ≡ Idle
+boot_idle world s left h off = subst (λ p. IsQuiet p s.cores) off h.sound.quiet
 
 -- the tables begin with the newest versions
 pub tables_begin : {M : Type 0} → (sizes : Sizes) (base : DeviceState) (floor : ℕ) (s : State M) (kept : Kept) (image : Image) → ((k : ℕ) → get_or s.cores k Idle ≡ Idle) → StandsFor sizes base floor s kept image →

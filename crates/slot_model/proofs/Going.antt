@@ -2,9 +2,10 @@
 use Rattle.std.proofs.Common.{◌≡◌, ℕ, zero, suc, ◌+◌, ◌<◌, ◌≤◌, true, false, cond, eqb, List, [], ◌∷◌, get_or, set, length, Option, Some, None, refl, sym, ap, ◌∙◌, subst, arith, eq-eqb, ne_eqb, leb-false, get_or-set_other}
 use Rattle.kernel_model.specs.Sizes.{Sizes}
 use Rattle.kernel_model.specs.Effects.{Objects, Programs}
-use Rattle.kernel_model.specs.Runs.{TaskMachine, whole_run}
+use Rattle.kernel_model.specs.Runs.{whole_run}
 use Rattle.kernel_model.specs.Items.{FinishRecord}
 use Rattle.kernel_model.specs.Replay.{DeviceState}
+use Rattle.kernel_model.specs.Worlds.{World}
 use Rattle.kernel_model.specs.Versions.{Read, Version, chosen, versions}
 use Rattle.kernel_model.specs.Intervals.{Interval, is_empty, read_interval}
 use Rattle.kernel_model.specs.Room.{interval_of}
@@ -48,38 +49,38 @@ same_chains : (sizes : Sizes) (base : DeviceState) (floor : ℕ) (history : List
 same_chains sizes base floor history kept then t e p = record { places = λ o l. p.places o l ∙ ap (λ (f : ℕ → List Held). places_of (f o)) (sym e); bounds = p.bounds; clock = p.clock; number = p.number; next = p.next; pending = p.pending }
 
 -- an event but a failure
-pub tables_on : {M : Type 0} → (steps : TaskMachine M) (sizes : Sizes) (base : DeviceState) (floor : ℕ) (s : State M) (kept : Kept) (t : Tables) (n : ℕ) → IsLawful steps sizes base s → AreTables sizes base floor s.history kept t →
-    AreTables sizes base floor (event_step steps sizes base s (CoreStep n)).0.history (kept_after steps sizes base s (CoreStep n) kept) (tables_joined (joining s (CoreStep n)) kept.plan t)
-tables_on {M} steps sizes base floor s kept t n h p = go s.power
+pub tables_on : {M : Type 0} → (world : World M) (floor : ℕ) (s : State M) (kept : Kept) (t : Tables) (n : ℕ) → IsLawful world s → AreTables world.sizes world.base floor s.history kept t →
+    AreTables world.sizes world.base floor (event_step world s (CoreStep n)).0.history (kept_after world s (CoreStep n) kept) (tables_joined (joining s (CoreStep n)) kept.plan t)
+tables_on {M} world floor s kept t n h p = go s.power
   where
     own : Core M
     own = get_or s.cores n Idle
 
-    joined : (c : Core M) → get_or s.cores n Idle ≡ c → AreTables sizes base floor (with_finish (finished_by c) s.history) (with_finished (finished_by c) kept) (tables_joined (finished_by c) kept.plan t)
+    joined : (c : Core M) → get_or s.cores n Idle ≡ c → AreTables world.sizes world.base floor (with_finish (finished_by c) s.history) (with_finished (finished_by c) kept) (tables_joined (finished_by c) kept.plan t)
     joined Idle e = p
     joined (Running a) e = p
     joined (Copying a copied) e = p
     joined (Ready a outcome) e = p
-    joined (Committing i zero) e = tables_finish steps sizes base floor s kept t n 0 i h e p
+    joined (Committing i zero) e = tables_finish world floor s kept t n 0 i h e p
     joined (Committing i (suc left)) e = p
 
-    boot : (left : ℕ) → AreTables sizes base floor (boot_turn s left).0.history kept t
+    boot : (left : ℕ) → AreTables world.sizes world.base floor (boot_turn s left).0.history kept t
     boot zero = p
     boot (suc zero) = p
     boot (suc (suc left)) = p
 
-    go : (q : Power) → AreTables sizes base floor (core_event steps sizes base s n q).0.history (kept_step steps sizes base s n q kept) (tables_joined (finished_by (acting_on q own)) kept.plan t)
-    go On = same_chains sizes base floor (with_finish (finished_by own) s.history) (with_finished (finished_by own) kept) _ (tables_joined (finished_by own) kept.plan t) (turn_chains sizes base s.history (all_but n s.cores) n own (core_turn steps sizes base s.history (all_but n s.cores) n own).core kept) (joined own refl)
-    go (Boot left) = elim (eqb n 0) as (λ b. AreTables sizes base floor (cond b (boot_turn s left) (s, Nothing)).0.history kept t) [ true ↦ boot left | false ↦ p ]
+    go : (q : Power) → AreTables world.sizes world.base floor (core_event world s n q).0.history (kept_step world s n q kept) (tables_joined (finished_by (acting_on q own)) kept.plan t)
+    go On = same_chains world.sizes world.base floor (with_finish (finished_by own) s.history) (with_finished (finished_by own) kept) _ (tables_joined (finished_by own) kept.plan t) (turn_chains world.sizes world.base s.history (all_but n s.cores) n own (core_turn world s.history (all_but n s.cores) n own).core kept) (joined own refl)
+    go (Boot left) = elim (eqb n 0) as (λ b. AreTables world.sizes world.base floor (cond b (boot_turn s left) (s, Nothing)).0.history kept t) [ true ↦ boot left | false ↦ p ]
 
 -- what a finish that joins makes of what is kept of an attempt
-cut_core : {M : Type 0} → (steps : TaskMachine M) (sizes : Sizes) (base : DeviceState) (i : FinishRecord) (history : List FinishRecord) → IsHistory (whole_run steps) base (i ∷ history) → (slot : ℕ) (c : Core M) → IsSoundCore steps sizes base history c → view_of base (i ∷ history) slot c ≡ cut_view (Some i) (reads_of c) (view_of base history slot c)
-cut_core {M} steps sizes base i history h slot c s = go c s
+cut_core : {M : Type 0} → (world : World M) (i : FinishRecord) (history : List FinishRecord) → IsHistory (whole_run world.steps) world.base (i ∷ history) → (slot : ℕ) (c : Core M) → IsSoundCore world history c → view_of world.base (i ∷ history) slot c ≡ cut_view (Some i) (reads_of c) (view_of world.base history slot c)
+cut_core {M} world i history h slot c s = go c s
   where
-    cuts : (start : ℕ) (reads : List Read) → AreFound base history reads → read_interval base (i ∷ history) start reads ≡ cut i.point (is_written_read i reads) (read_interval base history start reads)
-    cuts start reads k = cut_readers base i history (lawful_of base (i ∷ history) h.numbered h.ordered) h.numbered start reads k
+    cuts : (start : ℕ) (reads : List Read) → AreFound world.base history reads → read_interval world.base (i ∷ history) start reads ≡ cut i.point (is_written_read i reads) (read_interval world.base history start reads)
+    cuts start reads k = cut_readers world.base i history (lawful_of world.base (i ∷ history) h.numbered h.ordered) h.numbered start reads k
 
-    go : (c : Core M) → IsSoundCore steps sizes base history c → view_of base (i ∷ history) slot c ≡ cut_view (Some i) (reads_of c) (view_of base history slot c)
+    go : (c : Core M) → IsSoundCore world history c → view_of world.base (i ∷ history) slot c ≡ cut_view (Some i) (reads_of c) (view_of world.base history slot c)
     go Idle s = refl
     go (Running a) s = ap (λ (j : Interval). Some (let v : View = record { interval = j; copying = None } in v)) (cuts a.start a.reads s.2.are_found)
     go (Copying a copied) s = ap (λ (j : Interval). Some (let v : View = record { interval = j; copying = pin_of slot a.reads } in v)) (cuts a.start a.reads s.3.are_found)
@@ -87,10 +88,10 @@ cut_core {M} steps sizes base i history h slot c s = go c s
     go (Committing j left) s = refl
 
 -- what is kept of the others, after a step of core n
-pub others_on : {M : Type 0} → (steps : TaskMachine M) (sizes : Sizes) (base : DeviceState) (s : State M) (kept : Kept) (n k : ℕ) → IsLawful steps sizes base s → (k ≡ n → ⊥) →
-    (let t : State M = (event_step steps sizes base s (CoreStep n)).0 in
-    view_of base t.history ((kept_after steps sizes base s (CoreStep n) kept).pins k) (get_or t.cores k Idle) ≡ cut_view (joining s (CoreStep n)) (reads_of (get_or s.cores k Idle)) (view_of base s.history (kept.pins k) (get_or s.cores k Idle)))
-others_on {M} steps sizes base s kept n k h ne = go s.power
+pub others_on : {M : Type 0} → (world : World M) (s : State M) (kept : Kept) (n k : ℕ) → IsLawful world s → (k ≡ n → ⊥) →
+    (let t : State M = (event_step world s (CoreStep n)).0 in
+    view_of world.base t.history ((kept_after world s (CoreStep n) kept).pins k) (get_or t.cores k Idle) ≡ cut_view (joining s (CoreStep n)) (reads_of (get_or s.cores k Idle)) (view_of world.base s.history (kept.pins k) (get_or s.cores k Idle)))
+others_on {M} world s kept n k h ne = go s.power
   where
     own : Core M
     own = get_or s.cores n Idle
@@ -99,17 +100,17 @@ others_on {M} steps sizes base s kept n k h ne = go s.power
     other = get_or s.cores k Idle
 
     Goal : List FinishRecord → ℕ → Core M → Option FinishRecord → Type 0
-    Goal later slot c j = view_of base later slot c ≡ cut_view j (reads_of other) (view_of base s.history (kept.pins k) other)
+    Goal later slot c j = view_of world.base later slot c ≡ cut_view j (reads_of other) (view_of world.base s.history (kept.pins k) other)
 
-    pins : (c d : Core M) → (kept_turn sizes base s.history (all_but n s.cores) n c d kept).pins k ≡ kept.pins k
+    pins : (c d : Core M) → (kept_turn world.sizes world.base s.history (all_but n s.cores) n c d kept).pins k ≡ kept.pins k
     pins Idle d = refl
     pins (Running a) Idle = refl
     pins (Running a) (Running b) = refl
     pins (Running a) (Copying b copied) = by b.reads
       where
-        by : (reads : List Read) → (pinned base s.history n a reads kept).pins k ≡ kept.pins k
+        by : (reads : List Read) → (pinned world.base s.history n a reads kept).pins k ≡ kept.pins k
         by [] = refl
-        by (r ∷ reads) = ap (λ b. cond b (slot_in (chosen_held (read_interval base s.history a.start a.reads).hi (kept.chains r.object))) (kept.pins k)) (ne_eqb k n ne)
+        by (r ∷ reads) = ap (λ b. cond b (slot_in (chosen_held (read_interval world.base s.history a.start a.reads).hi (kept.chains r.object))) (kept.pins k)) (ne_eqb k n ne)
     pins (Running a) (Ready b outcome) = refl
     pins (Running a) (Committing i left) = refl
     pins (Copying a copied) d = refl
@@ -127,8 +128,8 @@ others_on {M} steps sizes base s kept n k h ne = go s.power
     joined (Copying a copied) e = refl
     joined (Ready a outcome) e = refl
     joined (Committing i zero) e =
-        let c : IsSoundCore {M = M} steps sizes base s.history (Committing i zero) = subst (IsSoundCore steps sizes base s.history) e (h.sound.cores n) in
-        cut_core steps sizes base i s.history c.0 (kept.pins k) other (h.sound.cores k)
+        let c : IsSoundCore {M = M} world s.history (Committing i zero) = subst (IsSoundCore world s.history) e (h.sound.cores n) in
+        cut_core world i s.history c.0 (kept.pins k) other (h.sound.cores k)
     joined (Committing i (suc left)) e = refl
 
     boot : (left : ℕ) → Goal (boot_turn s left).0.history (kept.pins k) (get_or (boot_turn s left).0.cores k Idle) None
@@ -136,10 +137,10 @@ others_on {M} steps sizes base s kept n k h ne = go s.power
     boot (suc zero) = refl
     boot (suc (suc left)) = refl
 
-    go : (p : Power) → Goal (core_event steps sizes base s n p).0.history ((kept_step steps sizes base s n p kept).pins k) (get_or (core_event steps sizes base s n p).0.cores k Idle) (finished_by (acting_on p own))
+    go : (p : Power) → Goal (core_event world s n p).0.history ((kept_step world s n p kept).pins k) (get_or (core_event world s n p).0.cores k Idle) (finished_by (acting_on p own))
     go On =
-        ap (λ (x : Core M). view_of base (with_finish (finished_by own) s.history) ((kept_step steps sizes base s n On kept).pins k) x) (get_or-set_other s.cores n k (core_turn steps sizes base s.history (all_but n s.cores) n own).core Idle ne)
-        ∙ ap (λ (x : ℕ). view_of base (with_finish (finished_by own) s.history) x other) (pins own (core_turn steps sizes base s.history (all_but n s.cores) n own).core) ∙ joined own refl
+        ap (λ (x : Core M). view_of world.base (with_finish (finished_by own) s.history) ((kept_step world s n On kept).pins k) x) (get_or-set_other s.cores n k (core_turn world s.history (all_but n s.cores) n own).core Idle ne)
+        ∙ ap (λ (x : ℕ). view_of world.base (with_finish (finished_by own) s.history) x other) (pins own (core_turn world s.history (all_but n s.cores) n own).core) ∙ joined own refl
     go (Boot left) = elim (eqb n 0) as (λ b. Goal (cond b (boot_turn s left) (s, Nothing)).0.history (kept.pins k) (get_or (cond b (boot_turn s left) (s, Nothing)).0.cores k Idle) None) [ true ↦ boot left | false ↦ refl ]
 
 -- the views of the others, core by core
@@ -173,13 +174,13 @@ views_all base history pins views cores n h =
     subst (λ m. others_views views m 0 (length cores) ≡ views_of base history pins 0 (set cores n Idle)) z (views_numbered base history pins views cores n 0 (λ j. let e : j ≡ 0 + j = omega arith in subst (λ m. views m ≡ view_of base history (pins m) (get_or cores j Idle)) e (h j)))
 
 -- an outside read of a running core finds a version, and its place
-pub read_found : {M : Type 0} → (steps : TaskMachine M) (sizes : Sizes) (base : DeviceState) (floor : ℕ) (s : State M) (kept : Kept) (image : Image) (t : Tables) (n o : ℕ) (a : Attempt M) → IsLawful steps sizes base s → StandsFor sizes base floor s kept image → AreTables sizes base floor s.history kept t →
-    get_or s.cores n Idle ≡ Running a → is_empty (read_interval base s.history a.start a.reads) ≡ false → o < sizes.objects →
-    (v : Version) × (chosen (read_interval base s.history a.start a.reads).hi (versions base o s.history) ≡ Some v) × IsRead sizes base s.history a.start a.reads o (t.places o) image v
-read_found {M} steps sizes base floor s kept image t n o a h f p at ne l =
-    let c : IsSoundCore steps sizes base s.history (Running a) = subst (IsSoundCore steps sizes base s.history) at (h.sound.cores n) in
-    let v = read_finds steps base s.history a.task a.start a.reads _ c.2 ne o in
-    (v.0, v.1, read_at sizes base floor s.history s.cores kept image h.sound.history.numbered f.stands t p n o a.start a.reads v.0 (ap (interval_of base s.history) at) ne l v.1)
+pub read_found : {M : Type 0} → (world : World M) (floor : ℕ) (s : State M) (kept : Kept) (image : Image) (t : Tables) (n o : ℕ) (a : Attempt M) → IsLawful world s → StandsFor world.sizes world.base floor s kept image → AreTables world.sizes world.base floor s.history kept t →
+    get_or s.cores n Idle ≡ Running a → is_empty (read_interval world.base s.history a.start a.reads) ≡ false → o < world.sizes.objects →
+    (v : Version) × (chosen (read_interval world.base s.history a.start a.reads).hi (versions world.base o s.history) ≡ Some v) × IsRead world.sizes world.base s.history a.start a.reads o (t.places o) image v
+read_found {M} world floor s kept image t n o a h f p at ne l =
+    let c : IsSoundCore world s.history (Running a) = subst (IsSoundCore world s.history) at (h.sound.cores n) in
+    let v = read_finds world.steps world.base s.history a.task a.start a.reads _ c.2 ne o in
+    (v.0, v.1, read_at world.sizes world.base floor s.history s.cores kept image h.sound.history.numbered f.stands t p n o a.start a.reads v.0 (ap (interval_of world.base s.history) at) ne l v.1)
 
 -- so does a caller's fetch
 pub fetch_found : (whole : Programs) (sizes : Sizes) (base : DeviceState) (s : CallState) (kept : Kept) (image : Image) (t : Tables) (n o : ℕ) (m : Mark) → IsLiveState whole base s → LiveStands sizes base s kept image → AreTables sizes base base.clock s.history kept t → get_or s.marks n None ≡ Some m →
@@ -197,13 +198,13 @@ fetch_found whole sizes base s kept image t n o m h f p own ne l =
     after (Some hi) e = omega (arith, from, leb-false hi (read_interval base s.history m.start m.reads).lo e)
 
 -- what must be true of a state, where there are ids
-pub lawful_from : {M : Type 0} → (steps : TaskMachine M) (sizes : Sizes) (base : DeviceState) (s : State M) → IsSetUp steps sizes base → IsSound steps sizes base s → HasIds base (length s.history) → IsLawful steps sizes base s
-lawful_from steps sizes base s set_up h l = record { set_up = set_up; sound = h; ids = sound-ids steps sizes base set_up s.history h.history l }
+pub lawful_from : {M : Type 0} → (world : World M) (s : State M) → IsSetUp world → IsSound world s → HasIds world.base (length s.history) → IsLawful world s
+lawful_from world s set_up h l = record { set_up = set_up; sound = h; ids = sound-ids world set_up s.history h.history l }
 
 -- and of the next
-pub lawful_next : {M : Type 0} → (steps : TaskMachine M) (sizes : Sizes) (base : DeviceState) (s : State M) (e : Event) → IsLawful steps sizes base s → HasIds base (length s.history + 1) → IsLawful steps sizes base (event_step steps sizes base s e).0
-lawful_next steps sizes base s e h l =
-    lawful_from steps sizes base (event_step steps sizes base s e).0 h.set_up (next_sound steps sizes base h.set_up s h.sound h.ids e) (let k = history-step steps sizes base s e in omega (arith, l, k))
+pub lawful_next : {M : Type 0} → (world : World M) (s : State M) (e : Event) → IsLawful world s → HasIds world.base (length s.history + 1) → IsLawful world (event_step world s e).0
+lawful_next world s e h l =
+    lawful_from world (event_step world s e).0 h.set_up (next_sound world h.set_up s h.sound h.ids e) (let k = history-step world s e in omega (arith, l, k))
 
 -- and between calls
 pub live_lawful : (whole : Programs) (sizes : Sizes) (base : DeviceState) (s : CallState) → RestOnReads whole → ((program arg : ℕ) (objects : Objects) → AreSized sizes objects → IsRun sizes (whole program arg objects)) → IsBase sizes base → IsLiveState whole base s → HasIds base (length s.history) → IsLiveLawful whole sizes base s

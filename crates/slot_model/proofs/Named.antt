@@ -3,9 +3,9 @@ use Rattle.std.proofs.Common.{◌≡◌, ℕ, zero, suc, ◌<◌, Bool, true, fa
 use Rattle.std.proofs.lemmas.Bool.{cases_eq}
 use Rattle.kernel_model.specs.Sizes.{Sizes}
 use Rattle.kernel_model.specs.Effects.{Outcome, Write, object_words, written}
-use Rattle.kernel_model.specs.Runs.{TaskMachine}
 use Rattle.kernel_model.specs.Items.{FinishRecord}
 use Rattle.kernel_model.specs.Replay.{DeviceState, TaskRec, after_history, clock_of, tables_of}
+use Rattle.kernel_model.specs.Worlds.{World}
 use Rattle.kernel_model.specs.OpenTasks.{open_tasks}
 use Rattle.kernel_model.specs.Versions.{Read, Version, chosen, versions}
 use Rattle.kernel_model.specs.Cores.{Attempt, Committing, Copying, Core, Idle, Ready, Running, all_but, commits, finished_by, is_committing, run_of}
@@ -54,36 +54,36 @@ newest_stands slots floor n words_at (x ∷ vs) v (h ∷ hs) new e s =
     (s.places.0, s.words.0 (newest_must floor n n h hs (x ∷ vs) new s.chained) ∙ ap (λ (y : Version). y.words) first ∙ ap (λ (y : Version). y.words) same)
 
 -- the named slot of each object
-pub named_holds : {M : Type 0} → (steps : TaskMachine M) (sizes : Sizes) (base : DeviceState) (floor : ℕ) (s : State M) (kept : Kept) (image : Image) → IsLawful steps sizes base s → StandsFor sizes base floor s kept image → (o : ℕ) → o < sizes.objects → IsNamed sizes base s kept image o
-named_holds {M} steps sizes base floor s kept image h f o l = go (durable_commit s.cores) refl
+pub named_holds : {M : Type 0} → (world : World M) (floor : ℕ) (s : State M) (kept : Kept) (image : Image) → IsLawful world s → StandsFor world.sizes world.base floor s kept image → (o : ℕ) → o < world.sizes.objects → IsNamed world.sizes world.base s kept image o
+named_holds {M} world floor s kept image h f o l = go (durable_commit s.cores) refl
   where
-    in_base : o < length base.objects
+    in_base : o < length world.base.objects
     in_base = let k = h.set_up.based.objects in omega (arith, k, l)
 
-    long : o < length (after_history s.history (tables_of base)).objects
-    long = let k = length-after_history s.history (tables_of base) in omega (arith, k, in_base)
+    long : o < length (after_history s.history (tables_of world.base)).objects
+    long = let k = length-after_history s.history (tables_of world.base) in omega (arith, k, in_base)
 
-    top : (newest_slot (kept.chains o) < sizes.slots o) × (image o (newest_slot (kept.chains o)) ≡ object_words (after_history s.history (tables_of base)).objects o)
+    top : (newest_slot (kept.chains o) < world.sizes.slots o) × (image o (newest_slot (kept.chains o)) ≡ object_words (after_history s.history (tables_of world.base)).objects o)
     top =
-        let v = chosen_exists base o s.history None None tt in
-        let k = newest_stands (sizes.slots o) floor (is_needed base s.history o s.cores) (image o) (versions base o s.history) v.0 (kept.chains o) (newest_of base o s.history) v.1 (f.stands.objects o l) in
-        (k.0, k.1 ∙ newest_words base o in_base s.history v.0 v.1)
+        let v = chosen_exists world.base o s.history None None tt in
+        let k = newest_stands (world.sizes.slots o) floor (is_needed world.base s.history o s.cores) (image o) (versions world.base o s.history) v.0 (kept.chains o) (newest_of world.base o s.history) v.1 (f.stands.objects o l) in
+        (k.0, k.1 ∙ newest_words world.base o in_base s.history v.0 v.1)
 
     Goal : Option FinishRecord → Type 0
-    Goal j = (newest_slot ((with_finished j kept).chains o) < sizes.slots o) × (image o (newest_slot ((with_finished j kept).chains o)) ≡ object_words (after_history (with_finish j s.history) (tables_of base)).objects o)
+    Goal j = (newest_slot ((with_finished j kept).chains o) < world.sizes.slots o) × (image o (newest_slot ((with_finished j kept).chains o)) ≡ object_words (after_history (with_finish j s.history) (tables_of world.base)).objects o)
 
     by : (i : FinishRecord) → durable_commit s.cores ≡ Some i → (w : Option (List ℕ)) → written i.run.writes o ≡ w →
-        (newest_slot (with_held i w (kept.plan o) (kept.chains o)) < sizes.slots o) × (image o (newest_slot (with_held i w (kept.plan o) (kept.chains o))) ≡ object_words (after_history (i ∷ s.history) (tables_of base)).objects o)
-    by i e None g = (top.0, top.1 ∙ sym (object_words-put 0 i.run.writes (after_history s.history (tables_of base)).objects o (rw zero-add g)))
+        (newest_slot (with_held i w (kept.plan o) (kept.chains o)) < world.sizes.slots o) × (image o (newest_slot (with_held i w (kept.plan o) (kept.chains o))) ≡ object_words (after_history (i ∷ s.history) (tables_of world.base)).objects o)
+    by i e None g = (top.0, top.1 ∙ sym (object_words-put 0 i.run.writes (after_history s.history (tables_of world.base)).objects o (rw zero-add g)))
     by i e (Some words) g =
-        let k = found_given steps sizes base floor s kept image h f i e o words g in
-        (k.0.place, k.1 ∙ sym (object_words-put_written 0 i.run.writes (after_history s.history (tables_of base)).objects o words long (rw zero-add g)))
+        let k = found_given world floor s kept image h f i e o words g in
+        (k.0.place, k.1 ∙ sym (object_words-put_written 0 i.run.writes (after_history s.history (tables_of world.base)).objects o words long (rw zero-add g)))
 
     at : (j : Option FinishRecord) → durable_commit s.cores ≡ j → Goal j
     at None e = top
     at (Some i) e = by i e (written i.run.writes o) refl
 
-    go : (j : Option FinishRecord) → durable_commit s.cores ≡ j → IsNamed sizes base s kept image o
+    go : (j : Option FinishRecord) → durable_commit s.cores ≡ j → IsNamed world.sizes world.base s kept image o
     go j e = let k = at (durable_commit s.cores) refl in record { slot = k.0; words = k.1 }
 
 alone_slot : (clock : ℕ) (chain : List Held) → newest_slot (newest_alone clock chain) ≡ newest_slot chain
@@ -122,12 +122,12 @@ found_core : {M : Type 0} → (cores : List (Core M)) (i : FinishRecord) → dur
 found_core cores i e = let k = durable_commit-found cores i e in (k.0, (finishes (get_or cores k.0 Idle) i k.1).1)
 
 -- a turn that ends no commit and begins none to write
-no_finish : {M : Type 0} → (steps : TaskMachine M) (sizes : Sizes) → ((before after : List TaskRec) (writes : List Write) → 0 < sizes.index_writes before after writes) → (base : DeviceState) (history : List FinishRecord) (others : List (Core M)) (n : ℕ) (c : Core M) → (commits c ≡ true → ⊥) →
-    finished_by (core_turn steps sizes base history others n c).core ≡ None
-no_finish {M} steps sizes l base history others n c h =
-    turn_gives (λ d. finished_by d ≡ None) refl steps sizes base history others n c
+no_finish : {M : Type 0} → (world : World M) → ((before after : List TaskRec) (writes : List Write) → 0 < world.sizes.index_writes before after writes) → (history : List FinishRecord) (others : List (Core M)) (n : ℕ) (c : Core M) → (commits c ≡ true → ⊥) →
+    finished_by (core_turn world history others n c).core ≡ None
+no_finish {M} world l history others n c h =
+    turn_gives (λ d. finished_by d ≡ None) refl world history others n c
     (λ t b e f g. refl) (λ a b e f. refl) (λ a b k e f. refl) (λ a outcome e. refl)
-    (λ a outcome i e f g. left_over i (commit_writes sizes base history i) (let k = l (open_tasks base history) (open_tasks base (i ∷ history)) i.run.writes in omega (arith, k)))
+    (λ a outcome i e f g. left_over i (commit_writes world.sizes world.base history i) (let k = l (open_tasks world.base history) (open_tasks world.base (i ∷ history)) i.run.writes in omega (arith, k)))
     (λ i left e. absurd (h (rw e refl)))
   where
     left_over : (i : FinishRecord) (left : ℕ) → 0 < left → finished_by {M = M} (Committing i left) ≡ None
@@ -160,16 +160,16 @@ run_chains {M} base history n a kept j d = go d
     go (Committing i left) = refl
 
 -- the named slots after a turn
-named_turn : {M : Type 0} → (steps : TaskMachine M) (sizes : Sizes) → ((before after : List TaskRec) (writes : List Write) → 0 < sizes.index_writes before after writes) → (base : DeviceState) (s : State M) → ((j k : ℕ) → commits (get_or s.cores j Idle) ≡ true → commits (get_or s.cores k Idle) ≡ true → j ≡ k) → (kept : Kept) (n : ℕ) (c : Core M) → get_or s.cores n Idle ≡ c →
-    (let d : Core M = (core_turn steps sizes base s.history (all_but n s.cores) n c).core in
-    (with_finished (durable_commit (set s.cores n d)) (kept_turn sizes base s.history (all_but n s.cores) n c d kept)).chains ≡ (with_finished (flipped_core c) (with_finished (durable_commit s.cores) kept)).chains)
-named_turn {M} steps sizes l base s one kept n c e = by c e
+named_turn : {M : Type 0} → (world : World M) → ((before after : List TaskRec) (writes : List Write) → 0 < world.sizes.index_writes before after writes) → (s : State M) → ((j k : ℕ) → commits (get_or s.cores j Idle) ≡ true → commits (get_or s.cores k Idle) ≡ true → j ≡ k) → (kept : Kept) (n : ℕ) (c : Core M) → get_or s.cores n Idle ≡ c →
+    (let d : Core M = (core_turn world s.history (all_but n s.cores) n c).core in
+    (with_finished (durable_commit (set s.cores n d)) (kept_turn world.sizes world.base s.history (all_but n s.cores) n c d kept)).chains ≡ (with_finished (flipped_core c) (with_finished (durable_commit s.cores) kept)).chains)
+named_turn {M} world l s one kept n c e = by c e
   where
     now : Core M → Core M
-    now c = (core_turn steps sizes base s.history (all_but n s.cores) n c).core
+    now c = (core_turn world s.history (all_but n s.cores) n c).core
 
     Goal : Core M → Type 0
-    Goal c = (with_finished (durable_commit (set s.cores n (now c))) (kept_turn sizes base s.history (all_but n s.cores) n c (now c) kept)).chains ≡ (with_finished (flipped_core c) (with_finished (durable_commit s.cores) kept)).chains
+    Goal c = (with_finished (durable_commit (set s.cores n (now c))) (kept_turn world.sizes world.base s.history (all_but n s.cores) n c (now c) kept)).chains ≡ (with_finished (flipped_core c) (with_finished (durable_commit s.cores) kept)).chains
 
     no_other : (c : Core M) → get_or s.cores n Idle ≡ c → commits c ≡ true → (k : ℕ) → (k ≡ n → ⊥) → finished_by (get_or s.cores k Idle) ≡ None
     no_other c e f k ne = no_commit (get_or s.cores k Idle) (λ g. ne (one k n g (rw e f)))
@@ -178,39 +178,39 @@ named_turn {M} steps sizes l base s one kept n c e = by c e
     none_at k i left e = ⊎_elim (λ f. ap (λ j. finished_by (get_or s.cores j Idle)) f ∙ rw e refl) (λ ne. no_other (Committing i (suc left)) e refl k ne) (cases_eq k n)
 
     same : (c : Core M) → get_or s.cores n Idle ≡ c → (commits c ≡ true → ⊥) → finished_by c ≡ None → durable_commit (set s.cores n (now c)) ≡ durable_commit s.cores
-    same c e f g = durable_commit-set s.cores n (now c) (no_finish steps sizes l base s.history (all_but n s.cores) n c f ∙ sym (rw e g))
+    same c e f g = durable_commit-set s.cores n (now c) (no_finish world l s.history (all_but n s.cores) n c f ∙ sym (rw e g))
 
     ready : (a : Attempt M) (outcome : Outcome) → get_or s.cores n Idle ≡ Ready a outcome → (j : Option FinishRecord) → durable_commit s.cores ≡ j →
-        (with_finished j (kept_verdict sizes base s.history (all_but n s.cores) (now (Ready a outcome)) kept)).chains ≡ (with_finished j kept).chains
-    ready a outcome e None f = calm_chains sizes base s.history (all_but n s.cores) n (Ready a outcome) (now (Ready a outcome)) kept refl
+        (with_finished j (kept_verdict world.sizes world.base s.history (all_but n s.cores) (now (Ready a outcome)) kept)).chains ≡ (with_finished j kept).chains
+    ready a outcome e None f = calm_chains world.sizes world.base s.history (all_but n s.cores) n (Ready a outcome) (now (Ready a outcome)) kept refl
     ready a outcome e (Some i) f =
         let k = found_core s.cores i f in
         let other : k.0 ≡ n → ⊥ = λ g. (let x : Committing i 0 ≡ Ready a outcome = sym k.1 ∙ ap (λ m. get_or s.cores m Idle) g ∙ e in absurd (cc x)) in
         let waits : is_committing (all_but n s.cores) ≡ true = others_commit s.cores n k.0 other (ap commits k.1) in
-        ap (λ b. (with_finished (Some i) (kept_verdict sizes base s.history (all_but n s.cores) (cond b (quiet (Ready a outcome)) (verdict_turn {M = M} sizes base s.history n a.task (verdict sizes base s.history (all_but n s.cores) a (run_of a outcome)))).core kept)).chains) waits
+        ap (λ b. (with_finished (Some i) (kept_verdict world.sizes world.base s.history (all_but n s.cores) (cond b (quiet (Ready a outcome)) (verdict_turn {M = M} world.sizes world.base s.history n a.task (verdict world.sizes world.base s.history (all_but n s.cores) a (run_of a outcome)))).core kept)).chains) waits
 
     by : (c : Core M) → get_or s.cores n Idle ≡ c → Goal c
     by Idle e = ap (λ j. (with_finished j kept).chains) (same Idle e (λ f. cc f) refl)
-    by (Running a) e = ap (λ j. (with_finished j (kept_run base s.history n a (now (Running a)) kept)).chains) (same (Running a) e (λ f. cc f) refl) ∙ run_chains base s.history n a kept (durable_commit s.cores) (now (Running a))
+    by (Running a) e = ap (λ j. (with_finished j (kept_run world.base s.history n a (now (Running a)) kept)).chains) (same (Running a) e (λ f. cc f) refl) ∙ run_chains world.base s.history n a kept (durable_commit s.cores) (now (Running a))
     by (Copying a k) e = ap (λ j. (with_finished j kept).chains) (same (Copying a k) e (λ f. cc f) refl)
-    by (Ready a outcome) e = ap (λ j. (with_finished j (kept_verdict sizes base s.history (all_but n s.cores) (now (Ready a outcome)) kept)).chains) (same (Ready a outcome) e (λ f. cc f) refl) ∙ ready a outcome e (durable_commit s.cores) refl
+    by (Ready a outcome) e = ap (λ j. (with_finished j (kept_verdict world.sizes world.base s.history (all_but n s.cores) (now (Ready a outcome)) kept)).chains) (same (Ready a outcome) e (λ f. cc f) refl) ∙ ready a outcome e (durable_commit s.cores) refl
     by (Committing i zero) e = let both = durable_commit-one s.cores n i (rw e refl) (no_other (Committing i zero) e refl) in rw (both.1, both.0) refl
     by (Committing i (suc zero)) e = rw (commit_put s.cores n i (rw e refl) (no_other (Committing i (suc zero)) e refl), durable_commit-none s.cores (λ k. none_at k i zero e)) refl
     by (Committing i (suc (suc left))) e = rw (durable_commit-set s.cores n (Committing i (suc left)) (rw e refl)) refl
 
 -- the named slots after an event: those of a finish whose last write it makes, and else the same
-pub named_step : {M : Type 0} → (steps : TaskMachine M) (sizes : Sizes) → ((before after : List TaskRec) (writes : List Write) → 0 < sizes.index_writes before after writes) → (base : DeviceState) (s : State M) → ((j k : ℕ) → commits (get_or s.cores j Idle) ≡ true → commits (get_or s.cores k Idle) ≡ true → j ≡ k) → (kept : Kept) (e : Event) (o : ℕ) →
-    named_slot (event_step steps sizes base s e).0 (kept_after steps sizes base s e kept) o ≡ newest_slot ((with_finished (flipped_by s e) (with_finished (durable_commit s.cores) kept)).chains o)
-named_step {M} steps sizes l base s one kept Fail o =
-    ap (λ j. newest_slot ((with_finished j (kept_after steps sizes base s Fail kept)).chains o)) (durable_commit-idle (replicate (length s.cores) Idle) (get_or-idle s.cores))
-    ∙ alone_slot (clock_of base (with_finish (durable_commit s.cores) s.history)) ((with_finished (durable_commit s.cores) kept).chains o)
-named_step {M} steps sizes l base s one kept (CoreStep n) o = go s.power
+pub named_step : {M : Type 0} → (world : World M) → ((before after : List TaskRec) (writes : List Write) → 0 < world.sizes.index_writes before after writes) → (s : State M) → ((j k : ℕ) → commits (get_or s.cores j Idle) ≡ true → commits (get_or s.cores k Idle) ≡ true → j ≡ k) → (kept : Kept) (e : Event) (o : ℕ) →
+    named_slot (event_step world s e).0 (kept_after world s e kept) o ≡ newest_slot ((with_finished (flipped_by s e) (with_finished (durable_commit s.cores) kept)).chains o)
+named_step {M} world l s one kept Fail o =
+    ap (λ j. newest_slot ((with_finished j (kept_after world s Fail kept)).chains o)) (durable_commit-idle (replicate (length s.cores) Idle) (get_or-idle s.cores))
+    ∙ alone_slot (clock_of world.base (with_finish (durable_commit s.cores) s.history)) ((with_finished (durable_commit s.cores) kept).chains o)
+named_step {M} world l s one kept (CoreStep n) o = go s.power
   where
     boot : (left : ℕ) → named_slot (boot_turn s left).0 kept o ≡ newest_slot ((with_finished (durable_commit s.cores) kept).chains o)
     boot zero = refl
     boot (suc zero) = refl
     boot (suc (suc left)) = refl
 
-    go : (p : Power) → named_slot (core_event steps sizes base s n p).0 (kept_step steps sizes base s n p kept) o ≡ newest_slot ((with_finished (flipped_core (acting_on p (get_or s.cores n Idle))) (with_finished (durable_commit s.cores) kept)).chains o)
-    go On = ap (λ (f : ℕ → List Held). newest_slot (f o)) (named_turn steps sizes l base s one kept n (get_or s.cores n Idle) refl)
+    go : (p : Power) → named_slot (core_event world s n p).0 (kept_step world s n p kept) o ≡ newest_slot ((with_finished (flipped_core (acting_on p (get_or s.cores n Idle))) (with_finished (durable_commit s.cores) kept)).chains o)
+    go On = ap (λ (f : ℕ → List Held). newest_slot (f o)) (named_turn world l s one kept n (get_or s.cores n Idle) refl)
     go (Boot left) = elim (eqb n 0) as (λ b. named_slot (cond b (boot_turn s left) (s, Nothing)).0 kept o ≡ newest_slot ((with_finished (durable_commit s.cores) kept).chains o)) [ true ↦ boot left | false ↦ refl ]

@@ -3,9 +3,9 @@ use Rattle.std.proofs.Common.{◌≡◌, ℕ, ◌<◌, Bool, true, false, cond, 
 use Rattle.std.specs.Prelude.{option_map}
 use Rattle.std.specs.List.{AllByRecursion}
 use Rattle.kernel_model.specs.Sizes.{Sizes}
-use Rattle.kernel_model.specs.Runs.{TaskMachine}
 use Rattle.kernel_model.specs.Items.{FinishRecord}
 use Rattle.kernel_model.specs.Replay.{DeviceState}
+use Rattle.kernel_model.specs.Worlds.{World}
 use Rattle.kernel_model.specs.Versions.{Read, Version, chosen, find_version, versions}
 use Rattle.kernel_model.specs.Intervals.{Interval, is_empty, read_interval, within}
 use Rattle.kernel_model.specs.Cores.{Committing, Core, Idle}
@@ -66,11 +66,11 @@ read_at {M} sizes base floor history cores kept image num s t p n o start reads 
     c = chosen_stands sizes base floor history cores kept image num s n o i v at ne l e
 
 -- a finish that joins
-pub tables_finish : {M : Type 0} → (steps : TaskMachine M) (sizes : Sizes) (base : DeviceState) (floor : ℕ) (s : State M) (kept : Kept) (t : Tables) (n left : ℕ) (i : FinishRecord) → IsLawful steps sizes base s → get_or s.cores n Idle ≡ Committing i left → AreTables sizes base floor s.history kept t →
-    AreTables sizes base floor (i ∷ s.history) (with_finished (Some i) kept) (tables_with i kept.plan t)
-tables_finish {M} steps sizes base floor s kept t n left i h at p =
-    let c : IsSoundCore {M = M} steps sizes base s.history (Committing i left) = subst (IsSoundCore steps sizes base s.history) at (h.sound.cores n) in
-    tables_join sizes base floor i s.history kept t (length-open_tasks base i s.history (open_order base h.set_up.based.old h.set_up.based.in_order s.history h.sound.history.numbered) c.2.0 c.2.1) p
+pub tables_finish : {M : Type 0} → (world : World M) (floor : ℕ) (s : State M) (kept : Kept) (t : Tables) (n left : ℕ) (i : FinishRecord) → IsLawful world s → get_or s.cores n Idle ≡ Committing i left → AreTables world.sizes world.base floor s.history kept t →
+    AreTables world.sizes world.base floor (i ∷ s.history) (with_finished (Some i) kept) (tables_with i kept.plan t)
+tables_finish {M} world floor s kept t n left i h at p =
+    let c : IsSoundCore {M = M} world s.history (Committing i left) = subst (IsSoundCore world s.history) at (h.sound.cores n) in
+    tables_join world.sizes world.base floor i s.history kept t (length-open_tasks world.base i s.history (open_order world.base h.set_up.based.old h.set_up.based.in_order s.history h.sound.history.numbered) c.2.0 c.2.1) p
 
 -- at first
 pub tables_first : (sizes : Sizes) (base : DeviceState) (named : ℕ → ℕ) → AreTables sizes base base.clock [] (first_kept base named) (fresh_tables named base)

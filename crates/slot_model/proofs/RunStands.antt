@@ -2,8 +2,8 @@
 use Rattle.std.proofs.Common.{◌≡◌, ℕ, ◌+◌, ◌<◌, ◌≤◌, List, [], ◌∷◌, get_or, length, replicate, take, arith, length-take}
 use Rattle.kernel_model.specs.Sizes.{Sizes}
 use Rattle.kernel_model.specs.Effects.{object_words}
-use Rattle.kernel_model.specs.Runs.{TaskMachine}
 use Rattle.kernel_model.specs.Replay.{DeviceState}
+use Rattle.kernel_model.specs.Worlds.{World}
 use Rattle.kernel_model.specs.Cores.{Core, Idle}
 use Rattle.kernel_model.specs.Room.{is_needed}
 use Rattle.kernel_model.specs.Events.{Event, Power, State, event_step, opened, state_after}
@@ -19,45 +19,45 @@ use Rattle.slot_model.specs.Changes.{Beside, beside_after, beside_event, first_k
 use Rattle.slot_model.specs.Standing.{IsLawful, StandsFor}
 use Rattle.slot_model.proofs.EventLaws.{event_stands}
 
-lawful : {M : Type 0} → (steps : TaskMachine M) (sizes : Sizes) (base : DeviceState) → IsSetUp steps sizes base → (s : State M) (n : ℕ) → HasIds base (length s.history + n) → IsSound steps sizes base s → IsLawful steps sizes base s
-lawful steps sizes base set_up s n l h = record { set_up = set_up; sound = h; ids = sound-ids steps sizes base set_up s.history h.history (omega (arith, l)) }
+lawful : {M : Type 0} → (world : World M) → IsSetUp world → (s : State M) (n : ℕ) → HasIds world.base (length s.history + n) → IsSound world s → IsLawful world s
+lawful world set_up s n l h = record { set_up = set_up; sound = h; ids = sound-ids world set_up s.history h.history (omega (arith, l)) }
 
 -- any events
-pub events_stand : {M : Type 0} → (steps : TaskMachine M) (sizes : Sizes) (base : DeviceState) → IsSetUp steps sizes base → (events : List Event) (s : State M) (b : Beside) → HasIds base (length s.history + length events) → IsSound steps sizes base s → StandsFor sizes base b.floor s b.kept b.image →
-    (let a : Beside = beside_after steps sizes base s events b in StandsFor sizes base a.floor (state_after steps sizes base s events) a.kept a.image)
-events_stand steps sizes base set_up [] s b l h f = f
-events_stand steps sizes base set_up (e ∷ events) s b l h f =
-    events_stand steps sizes base set_up events (event_step steps sizes base s e).0 (beside_event steps sizes base s e b) (omega (arith, l, history-step steps sizes base s e))
-    (next_sound steps sizes base set_up s h (sound-ids steps sizes base set_up s.history h.history (omega (arith, l))) e)
-    (event_stands steps sizes base b.floor s b.kept b.image e (lawful steps sizes base set_up s (length (e ∷ events)) l h) f)
+pub events_stand : {M : Type 0} → (world : World M) → IsSetUp world → (events : List Event) (s : State M) (b : Beside) → HasIds world.base (length s.history + length events) → IsSound world s → StandsFor world.sizes world.base b.floor s b.kept b.image →
+    (let a : Beside = beside_after world s events b in StandsFor world.sizes world.base a.floor (state_after world s events) a.kept a.image)
+events_stand world set_up [] s b l h f = f
+events_stand world set_up (e ∷ events) s b l h f =
+    events_stand world set_up events (event_step world s e).0 (beside_event world s e b) (omega (arith, l, history-step world s e))
+    (next_sound world set_up s h (sound-ids world set_up s.history h.history (omega (arith, l))) e)
+    (event_stands world b.floor s b.kept b.image e (lawful world set_up s (length (e ∷ events)) l h) f)
 
 few : (n : ℕ) (events : List Event) → length (take n events) ≤ length events
 few n events = let e = length-take n events in omega (arith, e)
 
 -- the first events of a run
-pub run_stands : {M : Type 0} → (x : Execution M) (n : ℕ) (b : Beside) → StandsFor x.sizes x.base b.floor (start_of x) b.kept b.image →
-    (let a : Beside = beside_after x.steps x.sizes x.base (start_of x) (take n x.events) b in StandsFor x.sizes x.base a.floor (state_at x n) a.kept a.image)
+pub run_stands : {M : Type 0} → (x : Execution M) (n : ℕ) (b : Beside) → StandsFor x.world.sizes x.world.base b.floor (start_of x) b.kept b.image →
+    (let a : Beside = beside_after x.world (start_of x) (take n x.events) b in StandsFor x.world.sizes x.world.base a.floor (state_at x n) a.kept a.image)
 run_stands {M} x n b f =
-    events_stand x.steps x.sizes x.base x.set_up (take n x.events) (start_of x) b (let k = few n x.events in let l : HasIds x.base (length x.events) = x.ids in omega (arith, l, k)) (opened_sound x.steps x.sizes x.base x.set_up x.cores x.power x.boots) f
+    events_stand x.world x.set_up (take n x.events) (start_of x) b (let k = few n x.events in let l : HasIds x.world.base (length x.events) = x.ids in omega (arith, l, k)) (opened_sound x.world x.set_up x.cores x.power x.boots) f
 
 -- so many events, so many finishes at most
-grows : {M : Type 0} → (steps : TaskMachine M) (sizes : Sizes) (base : DeviceState) (events : List Event) (s : State M) → length (state_after steps sizes base s events).history ≤ length s.history + length events
-grows steps sizes base [] s = omega arith
-grows steps sizes base (e ∷ events) s = let l = grows steps sizes base events (event_step steps sizes base s e).0 in let k = history-step steps sizes base s e in omega (arith, l, k)
+grows : {M : Type 0} → (world : World M) (events : List Event) (s : State M) → length (state_after world s events).history ≤ length s.history + length events
+grows world [] s = omega arith
+grows world (e ∷ events) s = let l = grows world events (event_step world s e).0 in let k = history-step world s e in omega (arith, l, k)
 
 -- in each state of a run the laws hold
-pub run_lawful : {M : Type 0} → (x : Execution M) (n : ℕ) → IsLawful x.steps x.sizes x.base (state_at x n)
+pub run_lawful : {M : Type 0} → (x : Execution M) (n : ℕ) → IsLawful x.world (state_at x n)
 run_lawful {M} x n = record {
   set_up = x.set_up;
   sound = sound;
-  ids = sound-ids x.steps x.sizes x.base x.set_up (state_at x n).history sound.history (omega (arith, grows x.steps x.sizes x.base (take n x.events) (start_of x), ids));
+  ids = sound-ids x.world x.set_up (state_at x n).history sound.history (omega (arith, grows x.world (take n x.events) (start_of x), ids));
 }
   where
-    ids : HasIds x.base (length (take n x.events))
-    ids = let k = few n x.events in let l : HasIds x.base (length x.events) = x.ids in omega (arith, l, k)
+    ids : HasIds x.world.base (length (take n x.events))
+    ids = let k = few n x.events in let l : HasIds x.world.base (length x.events) = x.ids in omega (arith, l, k)
 
-    sound : IsSound x.steps x.sizes x.base (state_at x n)
-    sound = all_sound x.steps x.sizes x.base x.set_up (take n x.events) (start_of x) (omega (arith, ids)) (opened_sound x.steps x.sizes x.base x.set_up x.cores x.power x.boots)
+    sound : IsSound x.world (state_at x n)
+    sound = all_sound x.world x.set_up (take n x.events) (start_of x) (omega (arith, ids)) (opened_sound x.world x.set_up x.cores x.power x.boots)
 
 -- at first the base's versions stand, in the slots that the device names
 pub first_stands : (M : Type 0) (sizes : Sizes) (base : DeviceState) (cores : ℕ) (power : Power) (boots : ℕ) (named : ℕ → ℕ) (image : Image) → IsSized sizes image →

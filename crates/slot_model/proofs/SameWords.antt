@@ -3,9 +3,9 @@ use Rattle.std.proofs.Common.{◌≡◌, ℕ, ◌-◌, ◌<◌, List, [], ◌∷
 use Rattle.std.specs.List.{AllByRecursion}
 use Rattle.kernel_model.specs.Sizes.{Sizes}
 use Rattle.kernel_model.specs.Effects.{Write}
-use Rattle.kernel_model.specs.Runs.{TaskMachine}
 use Rattle.kernel_model.specs.Items.{FinishRecord}
 use Rattle.kernel_model.specs.Replay.{DeviceState}
+use Rattle.kernel_model.specs.Worlds.{World}
 use Rattle.kernel_model.specs.Cores.{Committing, Copying, Core, Idle, Ready, Running}
 use Rattle.kernel_model.specs.Room.{is_needed}
 use Rattle.kernel_model.specs.Turns.{commit_writes}
@@ -28,24 +28,24 @@ same_written sizes base history cores kept before after e (w ∷ ws) made r p k 
   same_written sizes base history cores kept before after e ws (made - sizes.size w.object) r.1 p.1 k.1,
 )
 
-pub same_stands : {M : Type 0} → (steps : TaskMachine M) (sizes : Sizes) (base : DeviceState) (floor : ℕ) (s : State M) (kept : Kept) (before after : Image) → IsLawful steps sizes base s → AreSame sizes before after → StandsFor sizes base floor s kept before → StandsFor sizes base floor s kept after
-same_stands {M} steps sizes base floor s kept before after h e f = record {
+pub same_stands : {M : Type 0} → (world : World M) (floor : ℕ) (s : State M) (kept : Kept) (before after : Image) → IsLawful world s → AreSame world.sizes before after → StandsFor world.sizes world.base floor s kept before → StandsFor world.sizes world.base floor s kept after
+same_stands {M} world floor s kept before after h e f = record {
   since = f.since;
   stands = record {
     starts = f.stands.starts;
     sized = λ o k l m. ap length (sym (e o k l m)) ∙ f.stands.sized o k l m;
-    objects = λ o l. standing_words (sizes.slots o) floor (is_needed base s.history o s.cores) (before o) (after o) (versions base o s.history) (kept.chains o) (same o l (kept.chains o) (f.stands.objects o l).places) (f.stands.objects o l);
+    objects = λ o l. standing_words (world.sizes.slots o) floor (is_needed world.base s.history o s.cores) (before o) (after o) (versions world.base o s.history) (kept.chains o) (same o l (kept.chains o) (f.stands.objects o l).places) (f.stands.objects o l);
     served = λ n. served n (get_or s.cores n Idle) refl (f.stands.served n);
   };
 }
   where
-    same : (o : ℕ) → o < sizes.objects → (hs : List Held) → AllByRecursion (λ h. h.slot < sizes.slots o) hs → AllByRecursion (λ h. must_stand (is_needed base s.history o s.cores) h ≡ true → after o h.slot ≡ before o h.slot) hs
+    same : (o : ℕ) → o < world.sizes.objects → (hs : List Held) → AllByRecursion (λ h. h.slot < world.sizes.slots o) hs → AllByRecursion (λ h. must_stand (is_needed world.base s.history o s.cores) h ≡ true → after o h.slot ≡ before o h.slot) hs
     same o l [] p = tt
     same o l (x ∷ hs) p = (λ g. sym (e o x.slot l p.0), same o l hs p.1)
 
-    served : (n : ℕ) (c : Core M) → get_or s.cores n Idle ≡ c → IsServed sizes base s.history s.cores kept before n c → IsServed sizes base s.history s.cores kept after n c
+    served : (n : ℕ) (c : Core M) → get_or s.cores n Idle ≡ c → IsServed world.sizes world.base s.history s.cores kept before n c → IsServed world.sizes world.base s.history s.cores kept after n c
     served n Idle at u = tt
     served n (Running a) at u = tt
     served n (Copying a copied) at u = u
     served n (Ready a outcome) at u = tt
-    served n (Committing i left) at u = record { few = u.few; spare = u.spare; written = same_written sizes base s.history s.cores kept before after e i.run.writes (commit_writes sizes base s.history i - left) (runs_of steps sizes base s h.set_up h.sound n i left at).writes u.spare u.written }
+    served n (Committing i left) at u = record { few = u.few; spare = u.spare; written = same_written world.sizes world.base s.history s.cores kept before after e i.run.writes (commit_writes world.sizes world.base s.history i - left) (runs_of world s h.set_up h.sound n i left at).writes u.spare u.written }

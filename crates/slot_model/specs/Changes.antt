@@ -2,9 +2,9 @@
 use Rattle.std.specs.Prelude.{ℕ, zero, ◌==◌, Bool, true, false, List, [], ◌∷◌, Option, Some, None, get_or, if◌then◌else◌}
 use Rattle.kernel_model.specs.Sizes.{Sizes}
 use Rattle.kernel_model.specs.Effects.{object_words, written}
-use Rattle.kernel_model.specs.Runs.{TaskMachine}
 use Rattle.kernel_model.specs.Items.{FinishRecord}
 use Rattle.kernel_model.specs.Replay.{DeviceState, clock_of}
+use Rattle.kernel_model.specs.Worlds.{World}
 use Rattle.kernel_model.specs.Versions.{Read, Version}
 use Rattle.kernel_model.specs.Intervals.{read_interval}
 use Rattle.kernel_model.specs.Cores.{Attempt, Core, Idle, Running, Copying, Ready, Committing, all_but}
@@ -60,13 +60,13 @@ kept_turn sizes base history others n (Committing i zero) d kept = with_finished
 kept_turn sizes base history others n _ d kept = kept
 
 -- after a step of core n
-abbrev pub kept_step : {M : Type 0} → TaskMachine M → Sizes → DeviceState → State M → ℕ → Power → Kept → Kept
-kept_step steps sizes base s n On kept =
+abbrev pub kept_step : {M : Type 0} → World M → State M → ℕ → Power → Kept → Kept
+kept_step world s n On kept =
     let c = get_or s.cores n Idle in
     let others = all_but n s.cores in
-    kept_turn sizes base s.history others n c
-    (core_turn steps sizes base s.history others n c).core kept
-kept_step steps sizes base s n (Boot left) kept = kept
+    kept_turn world.sizes world.base s.history others n c
+    (core_turn world s.history others n c).core kept
+kept_step world s n (Boot left) kept = kept
 
 -- the clock at the last boot, after an event
 abbrev pub floor_after : {M : Type 0} → DeviceState → (floor : ℕ) → State M → Event → ℕ
@@ -74,11 +74,11 @@ floor_after base floor s Fail = clock_of base (with_finish (durable_commit s.cor
 floor_after base floor s (CoreStep n) = floor
 
 -- what is kept after an event
-abbrev pub kept_after : {M : Type 0} → TaskMachine M → Sizes → DeviceState → State M → Event → Kept → Kept
-kept_after steps sizes base s Fail kept =
-    afresh (clock_of base (with_finish (durable_commit s.cores) s.history))
+abbrev pub kept_after : {M : Type 0} → World M → State M → Event → Kept → Kept
+kept_after world s Fail kept =
+    afresh (clock_of world.base (with_finish (durable_commit s.cores) s.history))
     (with_finished (durable_commit s.cores) kept)
-kept_after steps sizes base s (CoreStep n) kept = kept_step steps sizes base s n s.power kept
+kept_after world s (CoreStep n) kept = kept_step world s n s.power kept
 
 -- the image after an event
 abbrev pub image_after : {M : Type 0} → Sizes → DeviceState → State M → Event → Kept → Image → Image
@@ -95,20 +95,20 @@ pub record Beside : Type 0 where
   pub image : Image
 
 -- after an event
-abbrev pub beside_event : {M : Type 0} → TaskMachine M → Sizes → DeviceState → State M → Event → Beside → Beside
-beside_event steps sizes base s e b = record {
-  floor = floor_after base b.floor s e;
-  kept = kept_after steps sizes base s e b.kept;
-  image = image_after sizes base s e b.kept b.image;
+abbrev pub beside_event : {M : Type 0} → World M → State M → Event → Beside → Beside
+beside_event world s e b = record {
+  floor = floor_after world.base b.floor s e;
+  kept = kept_after world s e b.kept;
+  image = image_after world.sizes world.base s e b.kept b.image;
 }
 
 -- after some events
-abbrev pub beside_after : {M : Type 0} → TaskMachine M → Sizes → DeviceState → State M → List Event → Beside
+abbrev pub beside_after : {M : Type 0} → World M → State M → List Event → Beside
     → Beside
-beside_after steps sizes base s [] b = b
-beside_after steps sizes base s (e ∷ events) b =
-    beside_after steps sizes base (event_step steps sizes base s e).0 events
-    (beside_event steps sizes base s e b)
+beside_after world s [] b = b
+beside_after world s (e ∷ events) b =
+    beside_after world (event_step world s e).0 events
+    (beside_event world s e b)
 
 -- the base's version of an object
 abbrev pub first_version : DeviceState → ℕ → Version

@@ -3,9 +3,9 @@ use Rattle.std.specs.Prelude.{◌≡◌, ℕ, ◌-◌, ◌<◌, ◌≤◌, Bool,
 use Rattle.std.specs.List.{AllByRecursion}
 use Rattle.kernel_model.specs.Sizes.{Sizes}
 use Rattle.kernel_model.specs.Effects.{Write, object_words, written}
-use Rattle.kernel_model.specs.Runs.{TaskMachine}
 use Rattle.kernel_model.specs.Items.{FinishRecord}
 use Rattle.kernel_model.specs.Replay.{DeviceState, max_id, next_id}
+use Rattle.kernel_model.specs.Worlds.{World}
 use Rattle.kernel_model.specs.Versions.{Read, Version, versions}
 use Rattle.kernel_model.specs.Intervals.{Interval}
 use Rattle.kernel_model.specs.Cores.{Core, Idle, Copying, Committing}
@@ -78,11 +78,11 @@ pub record StandsFor {M : Type 0} (sizes : Sizes) (base : DeviceState) (floor : 
   pub stands : Stands sizes base floor s.history s.cores kept image
 
 -- what must be true of the state. It is so after any events of a run: laws of the kernel's model
-pub record IsLawful {M : Type 0} (steps : TaskMachine M) (sizes : Sizes) (base : DeviceState) (s : State M)
+pub record IsLawful {M : Type 0} (world : World M) (s : State M)
     : Type 0 where
-  pub set_up : IsSetUp steps sizes base
-  pub sound : IsSound steps sizes base s
-  pub ids : next_id base s.history ≤ max_id
+  pub set_up : IsSetUp world
+  pub sound : IsSound world s
+  pub ids : next_id world.base s.history ≤ max_id
 
 -- the slots that the durable index names have the durable objects
 pub record IsNamed {M : Type 0} (sizes : Sizes) (base : DeviceState) (s : State M) (kept : Kept)

@@ -8,7 +8,7 @@ use Rattle.kernel_model.specs.Cores.{Core, Idle, Ready, run_of}
 use Rattle.kernel_model.specs.Verdicts.{Verdict, Slots}
 use Rattle.kernel_model.specs.Events.{State, Event, Fail, state_after}
 use Rattle.kernel_model.specs.Bounds.{bound_of}
-use Rattle.kernel_model.specs.WorkedTasks.{Task, Scene, first_of, machine_of, steps}
+use Rattle.kernel_model.specs.WorkedTasks.{Task, Scene, first_of, steps, world_of}
 use Rattle.kernel_model.specs.WorkedRuns.{adding, doomed, no_slot, summing}
 use Rattle.slot_model.specs.Slots.{Image}
 use Rattle.slot_model.specs.Changes.{Beside, beside_after, first_kept, named_slot}
@@ -20,12 +20,12 @@ formatted_image x o k = if k == 0 then object_words x.base.objects o else replic
 
 -- the state after some events
 abbrev pub state_of : Scene → List Event → State Task
-state_of x events = state_after (machine_of x) x.sizes x.base (first_of x) events
+state_of x events = state_after (world_of x) (first_of x) events
 
 -- what is kept and what stands then
 abbrev pub beside_of : Scene → List Event → Beside
 beside_of x events =
-    beside_after (machine_of x) x.sizes x.base (first_of x) events
+    beside_after (world_of x) (first_of x) events
     (record { floor = x.base.clock; kept = first_kept x.base (λ o. 0); image = formatted_image x })
 
 -- of so many numbers from k on

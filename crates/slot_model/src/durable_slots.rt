@@ -14,7 +14,7 @@ ghost use Rattle.slot_model.specs.Moments.{Moment, AreTablesIn, IsLawfulIn, IsNa
 
 /// The slots that the durable index names have the words of the durable objects.
 pub fn named_slots_hold<M>()
-    ensures { (m : Moment M) (o : ℕ) → IsStanding m → o < m.sizes.objects → IsNamedIn m o }
+    ensures { (m : Moment M) (o : ℕ) → IsStanding m → o < m.world.sizes.objects → IsNamedIn m o }
 {}
 
 /// An event that makes no last write of a commit names the same slots.

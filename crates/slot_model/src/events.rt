@@ -65,8 +65,8 @@ pub fn finish_keeps<M>()
 pub fn failure_keeps<M>()
     ensures { (m : Moment M) → IsStanding m
         → (let found = durable_commit m.state.cores in
-        let clock = clock_of m.base (with_finish found m.state.history) in
-        let after = (event_step m.steps m.sizes m.base m.state Event.Fail).0 in
+        let clock = clock_of m.world.base (with_finish found m.state.history) in
+        let after = (event_step m.world m.state Event.Fail).0 in
         let kept = afresh clock (with_finished found m.kept) in
         StandsIn (record m { floor = clock; state = after; kept = kept })) }
 {}

@@ -21,8 +21,8 @@ ghost use Rattle.slot_model.specs.Moments.{Moment, IsLawfulIn, IsStanding, after
 
 /// An object has a free slot just where the model says that it has room.
 pub fn free_slot_is_room<M>()
-    ensures { (m : Moment M) (n o : ℕ) → IsStanding m → o < m.sizes.objects
-        → is_some (free_in m n o) ≡ has_room m.sizes m.base m.state.history (others_in m n) o }
+    ensures { (m : Moment M) (n o : ℕ) → IsStanding m → o < m.world.sizes.objects
+        → is_some (free_in m n o) ≡ has_room m.world.sizes m.world.base m.state.history (others_in m n) o }
 {}
 
 /// It is the least slot with no version that must stand.
@@ -38,16 +38,16 @@ pub fn free_slot_is_least<M>()
 pub fn copied_version_stands<M>()
     ensures { (m : Moment M) (n copied : ℕ) (a : Attempt M) (r : Read) (reads : List Read)
         → IsStanding m → core_in m n ≡ Core.Copying a copied
-        → a.reads ≡ r ∷ reads → r.object < m.sizes.objects
-        → (m.kept.pins n < m.sizes.slots r.object)
-        × (m.image r.object (m.kept.pins n) ≡ read_words m.base m.state.history r) }
+        → a.reads ≡ r ∷ reads → r.object < m.world.sizes.objects
+        → (m.kept.pins n < m.world.sizes.slots r.object)
+        × (m.image r.object (m.kept.pins n) ≡ read_words m.world.base m.state.history r) }
 {}
 
 /// What an attempt has read keeps its words at each event.
 pub fn copies_stay<M>()
     ensures { (m : Moment M) (e : Event) (k : ℕ) → IsLawfulIn m
         → (let later = (after_event m e).state.history in
-        AllByRecursion (λ r. read_words m.base later r ≡ read_words m.base m.state.history r)
+        AllByRecursion (λ r. read_words m.world.base later r ≡ read_words m.world.base m.state.history r)
         (reads_of (core_in m k))) }
 {}
 
@@ -55,22 +55,22 @@ pub fn copies_stay<M>()
 pub fn chosen_version_stands<M>()
     ensures { (m : Moment M) (n o : ℕ) (i : Interval) (v : Version)
         → IsStanding m → interval_in m n ≡ Some i → is_empty i ≡ false
-        → o < m.sizes.objects → chosen i.hi (all_versions m o) ≡ Some v
-        → IsChosen m.sizes m.floor o i.hi (m.kept.chains o) m.image v }
+        → o < m.world.sizes.objects → chosen i.hi (all_versions m o) ≡ Some v
+        → IsChosen m.world.sizes m.floor o i.hi (m.kept.chains o) m.image v }
 {}
 
 /// The newest version stands in the slot of the newest.
 pub fn newest_version_stands<M>()
     ensures { (m : Moment M) (o : ℕ) (v : Version)
-        → IsStanding m → o < m.sizes.objects → chosen None (all_versions m o) ≡ Some v
-        → (newest_in m o < m.sizes.slots o) × (m.image o (newest_in m o) ≡ v.words) }
+        → IsStanding m → o < m.world.sizes.objects → chosen None (all_versions m o) ≡ Some v
+        → (newest_in m o < m.world.sizes.slots o) × (m.image o (newest_in m o) ≡ v.words) }
 {}
 
 /// A commit under way writes only to slots with no version that must stand, and so never to that of the newest.
 pub fn taken_slot_is_spare<M>()
     ensures { (m : Moment M) (n left : ℕ) (i : FinishRecord)
         → IsStanding m → core_in m n ≡ Core.Committing i left
-        → AllByRecursion (IsFree m.sizes m.base m.state.history m.state.cores m.kept) i.run.writes }
+        → AllByRecursion (IsFree m.world.sizes m.world.base m.state.history m.state.cores m.kept) i.run.writes }
 {}
 
 /// Its words are written in the order of its list, object by object.
@@ -83,5 +83,5 @@ pub fn words_are_listed()
 pub fn word_goes_to_place<M>()
     ensures { (m : Moment M) (n left made : ℕ) (i : FinishRecord) (t : Target)
         → IsStanding m → core_in m n ≡ Core.Committing i left
-        → target m.sizes made i.run.writes ≡ Some t → IsTarget m.sizes m.kept i.run.writes t }
+        → target m.world.sizes made i.run.writes ≡ Some t → IsTarget m.world.sizes m.kept i.run.writes t }
 {}

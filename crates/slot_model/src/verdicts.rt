@@ -24,9 +24,9 @@ ghost use Rattle.slot_model.specs.Moments.{Moment, AreTablesIn, IsLawfulIn, IsSt
 pub fn read_by_tables<M>()
     ensures { (m : Moment M) (t : Tables) (n o start : ℕ) (reads : List Read) (v : Version)
         → IsStanding m → AreTablesIn m t → interval_in m n ≡ Some (reads_in m start reads)
-        → is_empty (reads_in m start reads) ≡ false → o < m.sizes.objects
+        → is_empty (reads_in m start reads) ≡ false → o < m.world.sizes.objects
         → chosen (reads_in m start reads).hi (all_versions m o) ≡ Some v
-        → IsRead m.sizes m.base m.state.history start reads o (t.places o) m.image v }
+        → IsRead m.world.sizes m.world.base m.state.history start reads o (t.places o) m.image v }
 {}
 
 /// The place that a table chooses is that of the version that is chosen of those held.
@@ -37,8 +37,8 @@ pub fn chosen_place_is_held()
 
 /// The version at a place is needed by others just where what is kept of them says so.
 pub fn needed_by_tables<M>()
-    ensures { (m : Moment M) (n o : ℕ) → IsStanding m → o < m.sizes.objects
-        → (let needed = is_needed m.base m.state.history o (others_in m n) in
+    ensures { (m : Moment M) (n o : ℕ) → IsStanding m → o < m.world.sizes.objects
+        → (let needed = is_needed m.world.base m.state.history o (others_in m n) in
         AllByRecursion (λ h. needed h.version ≡ is_needed_at o (views_in m n) (place_of h))
         (m.kept.chains o)) }
 {}
@@ -46,18 +46,18 @@ pub fn needed_by_tables<M>()
 /// The tables give the free slot.
 pub fn free_slot_by_tables<M>()
     ensures { (m : Moment M) (t : Tables) (n o : ℕ)
-        → IsStanding m → AreTablesIn m t → o < m.sizes.objects
-        → free_place (m.sizes.slots o) o (views_in m n) (t.places o) ≡ free_in m n o }
+        → IsStanding m → AreTablesIn m t → o < m.world.sizes.objects
+        → free_place (m.world.sizes.slots o) o (views_in m n) (t.places o) ≡ free_in m n o }
 {}
 
 /// The tables give the verdict, with its cause and its point.
 pub fn verdict_by_tables<M>()
     ensures { (m : Moment M) (t : Tables) (n : ℕ) (a : Attempt M) (outcome : Outcome)
         → IsStanding m → AreTablesIn m t → core_in m n ≡ Core.Ready a outcome
-        → AllByRecursion (λ w. w.object < m.sizes.objects) (run_of a outcome).writes
+        → AllByRecursion (λ w. w.object < m.world.sizes.objects) (run_of a outcome).writes
         → (let run = run_of a outcome in
-        table_verdict m.sizes t (views_in m n) a.task (reads_in m a.start a.reads) run
-        ≡ verdict m.sizes m.base m.state.history (others_in m n) a run) }
+        table_verdict m.world.sizes t (views_in m n) a.task (reads_in m a.start a.reads) run
+        ≡ verdict m.world.sizes m.world.base m.state.history (others_in m n) a run) }
 {}
 
 /// An attempt that has opened a read has the interval that the place gives, and copies from there.
@@ -76,8 +76,8 @@ pub fn read_view_by_table<M>()
 pub fn finish_cuts_readers<M>()
     ensures { (m : Moment M) (n left start : ℕ) (i : FinishRecord) (reads : List Read)
         → IsLawfulIn m → core_in m n ≡ Core.Committing i left
-        → AreFound m.base m.state.history reads
-        → read_interval m.base (i ∷ m.state.history) start reads
+        → AreFound m.world.base m.state.history reads
+        → read_interval m.world.base (i ∷ m.state.history) start reads
         ≡ cut i.point (is_written_read i reads) (reads_in m start reads) }
 {}
 
@@ -85,7 +85,7 @@ pub fn finish_cuts_readers<M>()
 pub fn finish_changes_tables<M>()
     ensures { (m : Moment M) (t : Tables) (n left : ℕ) (i : FinishRecord)
         → IsLawfulIn m → core_in m n ≡ Core.Committing i left → AreTablesIn m t
-        → AreTables m.sizes m.base m.floor (i ∷ m.state.history) (with_finished (Some i) m.kept)
+        → AreTables m.world.sizes m.world.base m.floor (i ∷ m.state.history) (with_finished (Some i) m.kept)
         (tables_with i m.kept.plan t) }
 {}
 
@@ -93,9 +93,9 @@ pub fn finish_changes_tables<M>()
 pub fn read_finds_place<M>()
     ensures { (m : Moment M) (t : Tables) (n o : ℕ) (a : Attempt M)
         → IsStanding m → AreTablesIn m t → core_in m n ≡ Core.Running a
-        → is_empty (reads_in m a.start a.reads) ≡ false → o < m.sizes.objects
+        → is_empty (reads_in m a.start a.reads) ≡ false → o < m.world.sizes.objects
         → (v : Version) × (chosen (reads_in m a.start a.reads).hi (all_versions m o) ≡ Some v)
-        × IsRead m.sizes m.base m.state.history a.start a.reads o (t.places o) m.image v }
+        × IsRead m.world.sizes m.world.base m.state.history a.start a.reads o (t.places o) m.image v }
 {}
 
 /// The tables change at a step of a core by the finish that joins, if one does.

@@ -9,7 +9,7 @@ use Rattle.kernel_model.specs.Events.{On, Boot, State, CoreStep}
 use Rattle.slot_model.specs.Changes.{kept_turn}
 use Rattle.slot_model.specs.Standing.{IsLawful, StandsFor}
 use Rattle.device_model.specs.Words.{Words}
-use Rattle.table_machine.specs.Tables.{Setting, sizes_in}
+use Rattle.table_machine.specs.Tables.{Setting, sizes_in, world_in}
 use Rattle.table_machine.specs.Represents.{Ghost, IsFitting, held_of, slots_in}
 use Rattle.table_machine.specs.Simulates.{Follows, IsSetting, ghost_after, root_with}
 use Rattle.table_machine.proofs.OnPower.{Turned, copy_turned, idle_turned, ready_turned, run_turned, turned_follows, write_turned}
@@ -20,12 +20,12 @@ use Rattle.table_machine.proofs.PowerTurns.{same_ghost}
 abbrev pub turned_ghost : {M : Type 0} → Setting M → DeviceState → Option Entry → Ghost → State M → ℕ → Core M → Ghost
 turned_ghost x base last g s n c = record {
   floor = g.floor;
-  kept = kept_turn (sizes_in x) base s.history (all_but n s.cores) n c (core_turn x.steps (sizes_in x) base s.history (all_but n s.cores) n c).core g.kept;
+  kept = kept_turn (sizes_in x) base s.history (all_but n s.cores) n c (core_turn (world_in x base) s.history (all_but n s.cores) n c).core g.kept;
   root = root_with x (held_of x base last g s) g.kept.plan (finished_by c);
 }
 
 -- each turn of a core
-pub core_turned : {M : Type 0} → (x : Setting M) (base : DeviceState) (last : Option Entry) (g : Ghost) (words : Words) (s : State M) (n : ℕ) → IsSetting x → IsLawful x.steps (sizes_in x) base s → StandsFor (sizes_in x) base g.floor s g.kept (slots_in x words) →
+pub core_turned : {M : Type 0} → (x : Setting M) (base : DeviceState) (last : Option Entry) (g : Ghost) (words : Words) (s : State M) (n : ℕ) → IsSetting x → IsLawful (world_in x base) s → StandsFor (sizes_in x) base g.floor s g.kept (slots_in x words) →
     (c : Core M) → get_or s.cores n Idle ≡ c → IsFitting x.steps (sizes_in x) c → Turned x base last g words s n c (turned_ghost x base last g s n c)
 core_turned x base last g words s n fit h f Idle at k = idle_turned x base last g words s n
 core_turned x base last g words s n fit h f (Running a) at k = run_turned x base last g words s n a h f at
@@ -35,7 +35,7 @@ core_turned x base last g words s n fit h f (Committing i zero) at k = join_turn
 core_turned x base last g words s n fit h f (Committing i (suc left)) at k = write_turned x base last g words s n i left
 
 -- a step of a core with power on
-pub step_follows : {M : Type 0} → (x : Setting M) (base : DeviceState) (last : Option Entry) (g : Ghost) (words : Words) (s : State M) (n : ℕ) → IsSetting x → IsLawful x.steps (sizes_in x) base s → StandsFor (sizes_in x) base g.floor s g.kept (slots_in x words) →
+pub step_follows : {M : Type 0} → (x : Setting M) (base : DeviceState) (last : Option Entry) (g : Ghost) (words : Words) (s : State M) (n : ℕ) → IsSetting x → IsLawful (world_in x base) s → StandsFor (sizes_in x) base g.floor s g.kept (slots_in x words) →
     IsFitting x.steps (sizes_in x) (get_or s.cores n Idle) → s.power ≡ On → Follows x base last g words s (CoreStep n) (ghost_after x base last g s (CoreStep n))
 step_follows {M} x base last g words s n fit h f k on =
     let t = turned_follows x base last g words s n (turned_ghost x base last g s n (get_or s.cores n Idle)) on (core_turned x base last g words s n fit h f (get_or s.cores n Idle) refl k) in

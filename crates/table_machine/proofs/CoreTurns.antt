@@ -21,7 +21,7 @@ use Rattle.device_model.specs.Words.{Words, words_from}
 use Rattle.device_model.specs.Layouts.{slot_place}
 use Rattle.device_model.specs.IndexWords.{Index}
 use Rattle.device_model.proofs.Writes.{length-words_from, word_from}
-use Rattle.table_machine.specs.Tables.{Chain, Copies, Copy, Runs, Saves, Seat, Setting, Tables, Try, Vacant, Waits, sizes_in}
+use Rattle.table_machine.specs.Tables.{Chain, Copies, Copy, Runs, Saves, Seat, Setting, Tables, Try, Vacant, Waits, sizes_in, world_in}
 use Rattle.table_machine.specs.Places.{index_after, objects_of, places_at, plan_in, run_by}
 use Rattle.table_machine.specs.Seats.{SeatTurn, answered, copy_of, copy_word, fetch_version, given_words, open_copy, read_object, run_step, start_try, still, writes_in}
 use Rattle.table_machine.specs.Represents.{begun_copies, copies_of, seat_of, try_of}
@@ -121,7 +121,7 @@ begun-more words f p size copied e l =
 -- Copies, where the slot has the words of the version
 pub copy_seen : {M : Type 0} → (x : Setting M) (words : Words) (base : DeviceState) (history : List FinishRecord) (kept : Kept) (index : Index) (n : ℕ) (a : Attempt M) (copied : ℕ) (reads : List Read) → a.reads ≡ reads →
     ((r : Read) (rest : List Read) → reads ≡ r ∷ rest → (copied < (object_at x.set r.object).size) × (words_from words (slot_place x.layout x.set r.object (kept.pins n)) (object_at x.set r.object).size ≡ read_words base history r)) →
-    copy_word x words (try_of base history a (begun_copies base history copied reads)) (kept.pins n) (begun_copies base history copied reads) ≡ seen_turn base history kept index n (copy_turn x.steps (sizes_in x) base history a copied reads)
+    copy_word x words (try_of base history a (begun_copies base history copied reads)) (kept.pins n) (begun_copies base history copied reads) ≡ seen_turn base history kept index n (copy_turn (world_in x base) history a copied reads)
 copy_seen x words base history kept index n a copied [] e h = refl
 copy_seen {M} x words base history kept index n a copied (r ∷ reads) e h = go (ltb (copied + 1) size) refl
   where

@@ -13,7 +13,7 @@ use Rattle.device_model.specs.Decoding.{durable_of}
 use Rattle.device_model.specs.Decoding as decoding
 use Rattle.device_model.specs.Keeping.{KeepsIn}
 use Rattle.device_model.proofs.Writes.{made-append}
-use Rattle.table_machine.specs.Tables.{Setting, Tables, sizes_in}
+use Rattle.table_machine.specs.Tables.{Setting, Tables, world_in}
 use Rattle.table_machine.specs.Events.{Course, course, table_step}
 use Rattle.table_machine.specs.Represents.{Represents}
 use Rattle.table_machine.specs.Simulates.{IsCourse, IsSetting, Simulates}
@@ -22,11 +22,11 @@ use Rattle.table_machine.proofs.Simulated.{event_simulates}
 
 -- one event, and then others
 one_before : {M : Type 0} → (x : Setting M) (base : DeviceState) (last : Option Entry) (e : Event) (events : List Event) (t : Tables M) (words : Words) (s : State M) → Simulates x base last t words s e →
-    IsCourse x base last (table_step x words t e).tables (made (table_step x words t e).writes words) (event_step x.steps (sizes_in x) base s e).0 events → IsCourse x base last t words s (e ∷ events)
+    IsCourse x base last (table_step x words t e).tables (made (table_step x words t e).writes words) (event_step (world_in x base) s e).0 events → IsCourse x base last t words s (e ∷ events)
 one_before {M} x base last e events t words s now rest = record {
   lines = ap₂ (λ (line : Line) (lines : List Line). line ∷ lines) now.line rest.lines;
   writes = length-append log more.log ∙ ap₂ (λ (a b : ℕ). a + b) now.writes rest.writes;
-  state = subst (λ (w : Words). Represents x base last more.tables w (state_after x.steps (sizes_in x) base s (e ∷ events))) (sym (made-append log more.log words)) rest.state;
+  state = subst (λ (w : Words). Represents x base last more.tables w (state_after (world_in x base) s (e ∷ events))) (sym (made-append log more.log words)) rest.state;
 }
   where
     log : List Change
@@ -40,10 +40,10 @@ pub course_simulates : {M : Type 0} → (x : Setting M) (base : DeviceState) (la
 course_simulates x base last fit [] t words s ids r = record { lines = refl; writes = refl; state = r }
 course_simulates x base last fit (e ∷ events) t words s ids r =
     let h = r.1.lawful in
-    let few = history-step x.steps (sizes_in x) base s e in
-    let next_ids = sound-ids x.steps (sizes_in x) base h.set_up (event_step x.steps (sizes_in x) base s e).0.history (next_sound x.steps (sizes_in x) base h.set_up s h.sound h.ids e).history (omega (arith, ids, few)) in
+    let few = history-step (world_in x base) s e in
+    let next_ids = sound-ids (world_in x base) h.set_up (event_step (world_in x base) s e).0.history (next_sound (world_in x base) h.set_up s h.sound h.ids e).history (omega (arith, ids, few)) in
     let now = event_simulates x base last t words s e fit r next_ids in
-    one_before x base last e events t words s now (course_simulates x base last fit events (table_step x words t e).tables (made (table_step x words t e).writes words) (event_step x.steps (sizes_in x) base s e).0 (omega (arith, ids, few)) now.state)
+    one_before x base last e events t words s now (course_simulates x base last fit events (table_step x words t e).tables (made (table_step x words t e).writes words) (event_step (world_in x base) s e).0 (omega (arith, ids, few)) now.state)
 
 -- the words keep what is durable
 pub words_hold : {M : Type 0} → (x : Setting M) (base : DeviceState) (last : Option Entry) (t : Tables M) (words : Words) (s : State M) → IsSetting x → Represents x base last t words s →

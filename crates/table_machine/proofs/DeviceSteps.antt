@@ -24,7 +24,7 @@ use Rattle.slot_model.proofs.Steps.{granted, present}
 use Rattle.device_model.specs.Words.{Words, made}
 use Rattle.device_model.specs.Decoding as decoding
 use Rattle.device_model.specs.Keeping.{KeepsIn}
-use Rattle.table_machine.specs.Tables.{Setting, sizes_in}
+use Rattle.table_machine.specs.Tables.{Setting, sizes_in, world_in}
 use Rattle.table_machine.specs.Events.{written_by}
 use Rattle.table_machine.specs.Represents.{Ghost, IsFitting, IsOnDevice, commit_by, commit_in, held_of, index_of, seat_of, slots_in}
 use Rattle.table_machine.specs.Simulates.{IsSetting}
@@ -45,28 +45,28 @@ OnDeviceAt x base last g words s n c =
     IsOnDevice x (held_of x base last after next) after.kept.plan (commit_in next.cores) (words_at x base last g words s n c)
 
 -- a running core begins no commit
-run_calm : {M : Type 0} → (x : Setting M) (base : DeviceState) (history : List FinishRecord) (others : List (Core M)) (n : ℕ) (a : Attempt M) → commit_by (core_turn x.steps (sizes_in x) base history others n (Running a)).core ≡ None
+run_calm : {M : Type 0} → (x : Setting M) (base : DeviceState) (history : List FinishRecord) (others : List (Core M)) (n : ℕ) (a : Attempt M) → commit_by (core_turn (world_in x base) history others n (Running a)).core ≡ None
 run_calm {M} x base history others n a = run_gives (λ (d : Core M). commit_by d ≡ None) refl x.steps base history n a (λ b e f. refl) (λ b e f. refl) (λ outcome. refl) (x.steps.step a.state)
 
-copy_calm : {M : Type 0} → (x : Setting M) (base : DeviceState) (history : List FinishRecord) (others : List (Core M)) (n : ℕ) (a : Attempt M) (copied : ℕ) → commit_by (core_turn x.steps (sizes_in x) base history others n (Copying a copied)).core ≡ None
-copy_calm {M} x base history others n a copied = word_gives (λ (d : Core M). commit_by d ≡ None) refl x.steps (sizes_in x) base history a copied (λ b e f. refl) refl a.reads
+copy_calm : {M : Type 0} → (x : Setting M) (base : DeviceState) (history : List FinishRecord) (others : List (Core M)) (n : ℕ) (a : Attempt M) (copied : ℕ) → commit_by (core_turn (world_in x base) history others n (Copying a copied)).core ≡ None
+copy_calm {M} x base history others n a copied = word_gives (λ (d : Core M). commit_by d ≡ None) refl (world_in x base) history a copied (λ b e f. refl) refl a.reads
 
 start_calm : {M : Type 0} → (x : Setting M) (base : DeviceState) (history : List FinishRecord) (n : ℕ) (t : Option TaskRec) → commit_by (start_turn x.steps base history n t).core ≡ None
 start_calm x base history n None = refl
 start_calm x base history n (Some t) = refl
 
 -- each turn of a core
-pub device_turned : {M : Type 0} → (x : Setting M) (base : DeviceState) (last : Option Entry) (g : Ghost) (words : Words) (s : State M) (n : ℕ) → IsSetting x → IsLawful x.steps (sizes_in x) base s → IsLast base last → StandsFor (sizes_in x) base g.floor s g.kept (slots_in x words) →
+pub device_turned : {M : Type 0} → (x : Setting M) (base : DeviceState) (last : Option Entry) (g : Ghost) (words : Words) (s : State M) (n : ℕ) → IsSetting x → IsLawful (world_in x base) s → IsLast base last → StandsFor (sizes_in x) base g.floor s g.kept (slots_in x words) →
     IsOnDevice x (held_of x base last g s) g.kept.plan (commit_in s.cores) words → (c : Core M) → get_or s.cores n Idle ≡ c → IsFitting x.steps (sizes_in x) c →
-    IsLawful x.steps (sizes_in x) base (state_at x base s n c) → StandsFor (sizes_in x) base g.floor (state_at x base s n c) (turned_ghost x base last g s n c).kept (slots_in x (words_at x base last g words s n c)) → OnDeviceAt x base last g words s n c
+    IsLawful (world_in x base) (state_at x base s n c) → StandsFor (sizes_in x) base g.floor (state_at x base s n c) (turned_ghost x base last g s n c).kept (slots_in x (words_at x base last g words s n c)) → OnDeviceAt x base last g words s n c
 device_turned {M} x base last g words s n fit h fits f dev Idle at k l q =
-    let d : Core M = (core_turn x.steps (sizes_in x) base s.history (all_but n s.cores) n Idle).core in
+    let d : Core M = (core_turn (world_in x base) s.history (all_but n s.cores) n Idle).core in
     quiet_device x base last g words s g.kept (set s.cores n d) refl refl (commit-set s.cores n d (start_calm x base s.history n (next_task (all_but n s.cores) (open_tasks base s.history)) ∙ sym (ap commit_by at))) dev
 device_turned {M} x base last g words s n fit h fits f dev (Running a) at k l q =
     quiet_device x base last g words s kept (set s.cores n d) (chains (run_keeps base s.history n a d g.kept)) (plan (run_keeps base s.history n a d g.kept)) (commit-set s.cores n d (run_calm x base s.history (all_but n s.cores) n a ∙ sym (ap commit_by at))) dev
   where
     d : Core M
-    d = (core_turn x.steps (sizes_in x) base s.history (all_but n s.cores) n (Running a)).core
+    d = (core_turn (world_in x base) s.history (all_but n s.cores) n (Running a)).core
 
     kept : Kept
     kept = kept_run base s.history n a d g.kept
@@ -79,7 +79,7 @@ device_turned {M} x base last g words s n fit h fits f dev (Running a) at k l q 
     plan (inl e) = ap (λ (k : Kept). k.plan) e
     plan (inr e) = ap (λ (k : Kept). k.plan) e.1
 device_turned {M} x base last g words s n fit h fits f dev (Copying a copied) at k l q =
-    let d : Core M = (core_turn x.steps (sizes_in x) base s.history (all_but n s.cores) n (Copying a copied)).core in
+    let d : Core M = (core_turn (world_in x base) s.history (all_but n s.cores) n (Copying a copied)).core in
     quiet_device x base last g words s g.kept (set s.cores n d) refl refl (commit-set s.cores n d (copy_calm x base s.history (all_but n s.cores) n a copied ∙ sym (ap commit_by at))) dev
 device_turned {M} x base last g words s n fit h fits f dev (Ready a outcome) at k l q = go (is_committing others) refl (verdict sizes base s.history others a (run_of a outcome)) refl l q
   where
@@ -98,7 +98,7 @@ device_turned {M} x base last g words s n fit h fits f dev (Ready a outcome) at 
         IsOnDevice x (held_of x base last (record g { kept = kept }) (record s { cores = set s.cores n d })) kept.plan (commit_in (set s.cores n d)) words
 
     Lawful : Core M → Type 0
-    Lawful d = IsLawful x.steps sizes base (record s { cores = set s.cores n d })
+    Lawful d = IsLawful (world_in x base) (record s { cores = set s.cores n d })
 
     Stand : Core M → Type 0
     Stand d = StandsFor sizes base g.floor (record s { cores = set s.cores n d }) (kept_verdict sizes base s.history others d g.kept) (slots_in x words)

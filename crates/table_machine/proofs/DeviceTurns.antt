@@ -33,7 +33,7 @@ use Rattle.device_model.specs.Commits as commits
 use Rattle.device_model.specs.Keeping.{KeepsIn}
 use Rattle.device_model.proofs.Steps.{fit_index}
 use Rattle.device_model.proofs.UnderWay.{begins, cut, ends, one_more}
-use Rattle.table_machine.specs.Tables.{Setting, sizes_in}
+use Rattle.table_machine.specs.Tables.{Setting, sizes_in, world_in}
 use Rattle.table_machine.specs.Places.{index_after}
 use Rattle.table_machine.specs.Seats.{commit_of}
 use Rattle.table_machine.specs.Events.{next_write}
@@ -59,7 +59,7 @@ pub slot-after : {M : Type 0} → (x : Setting M) (base : DeviceState) (last : O
 slot-after x base last kept history i o l = ap (λ (y : Index). slice_index y.slots o) (joined-index x base last kept history i) ∙ slot-each (λ o. newest_slot ((with_finished (Some i) kept).chains o)) (length x.set.objects) o l
 
 -- a commit under way may follow what is held
-pub commit_next : {M : Type 0} → (x : Setting M) (base : DeviceState) (last : Option Entry) (g : Ghost) (words : Words) (s : State M) (n : ℕ) (i : FinishRecord) (left : ℕ) → IsLawful x.steps (sizes_in x) base s → IsLast base last → StandsFor (sizes_in x) base g.floor s g.kept (slots_in x words) → get_or s.cores n Idle ≡ Committing i left →
+pub commit_next : {M : Type 0} → (x : Setting M) (base : DeviceState) (last : Option Entry) (g : Ghost) (words : Words) (s : State M) (n : ℕ) (i : FinishRecord) (left : ℕ) → IsLawful (world_in x base) s → IsLast base last → StandsFor (sizes_in x) base g.floor s g.kept (slots_in x words) → get_or s.cores n Idle ≡ Committing i left →
     commits.IsNext x.set (held_of x base last g s) (commit_of i (index_after g.kept.plan (index_of x base last g.kept s.history) i))
 commit_next {M} x base last g words s n i left h fits f at = record {
   index = index;
@@ -69,14 +69,14 @@ commit_next {M} x base last g words s n i left h fits f at = record {
   same_slot = λ o l e. slot-after x base last g.kept s.history i o l ∙ ap (λ w. newest_slot (with_held i w (g.kept.plan o) (g.kept.chains o))) e ∙ sym (slot-each (λ o. newest_slot (g.kept.chains o)) (length x.set.objects) o l);
 }
   where
-    core : IsSoundCore {M = M} x.steps (sizes_in x) base s.history (Committing i left)
-    core = subst (IsSoundCore x.steps (sizes_in x) base s.history) at (h.sound.cores n)
+    core : IsSoundCore {M = M} (world_in x base) s.history (Committing i left)
+    core = subst (IsSoundCore (world_in x base) s.history) at (h.sound.cores n)
 
     run : IsRun (sizes_in x) i.run
-    run = runs_of x.steps (sizes_in x) base s h.set_up h.sound n i left at
+    run = runs_of (world_in x base) s h.set_up h.sound n i left at
 
     free : AllByRecursion (IsFree (sizes_in x) base s.history s.cores g.kept) i.run.writes
-    free = taken_free x.steps (sizes_in x) base g.floor s g.kept (slots_in x words) n i left h f at
+    free = taken_free (world_in x base) g.floor s g.kept (slots_in x words) n i left h f at
 
     later : Index
     later = index_of x base last (with_finished (Some i) g.kept) (i ∷ s.history)
@@ -90,8 +90,8 @@ commit_next {M} x base last g words s n i left h fits f at = record {
         subst (λ p. g.kept.plan p < (object_at x.set p).slots) w.2 w.1.spare.place
 
     joined : IsIndex x.set later
-    joined = fit_index x.set later (state_left base (i ∷ s.history)).objects (base-fits x (state_left base (i ∷ s.history)) (state_left-base x.steps (sizes_in x) base h.set_up (i ∷ s.history) core.0 core.1))
-        (state_left-last x.steps (sizes_in x) base h.set_up last fits (i ∷ s.history) core.0) (length-each (λ o. newest_slot ((with_finished (Some i) g.kept).chains o)) 0 (length x.set.objects))
+    joined = fit_index x.set later (state_left base (i ∷ s.history)).objects (base-fits x (state_left base (i ∷ s.history)) (state_left-base (world_in x base) h.set_up (i ∷ s.history) core.0 core.1))
+        (state_left-last (world_in x base) h.set_up last fits (i ∷ s.history) core.0) (length-each (λ o. newest_slot ((with_finished (Some i) g.kept).chains o)) 0 (length x.set.objects))
         (λ o l. subst (λ k. k < (object_at x.set o).slots) (sym (slot-each (λ o. newest_slot ((with_finished (Some i) g.kept).chains o)) (length x.set.objects) o l)) (place o l (written i.run.writes o) refl))
 
     index : IsIndex x.set (index_after g.kept.plan (index_of x base last g.kept s.history) i)
@@ -177,7 +177,7 @@ abbrev pub held_with : {M : Type 0} → Setting M → DeviceState → Option Ent
 held_with x base last g s j = held_of x base last (record { floor = g.floor; kept = with_finished j g.kept; root = root_with x (held_of x base last g s) g.kept.plan j }) (record s { history = with_finish j s.history })
 
 -- the words keep what is durable: a finish whose writes are all made counts, and a commit that is cut does not
-pub durable_device : {M : Type 0} → (x : Setting M) (base : DeviceState) (last : Option Entry) (g : Ghost) (words : Words) (s : State M) → IsSetting x → IsLawful x.steps (sizes_in x) base s → IsOnDevice x (held_of x base last g s) g.kept.plan (commit_in s.cores) words →
+pub durable_device : {M : Type 0} → (x : Setting M) (base : DeviceState) (last : Option Entry) (g : Ghost) (words : Words) (s : State M) → IsSetting x → IsLawful (world_in x base) s → IsOnDevice x (held_of x base last g s) g.kept.plan (commit_in s.cores) words →
     KeepsIn x.set x.layout (held_with x base last g s (durable_commit s.cores)) words
 durable_device {M} x base last g words s fit h dev = go (find-commit s.cores)
   where

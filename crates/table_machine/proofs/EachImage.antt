@@ -21,7 +21,7 @@ use Rattle.device_model.specs.Layouts.{IsKindOf, Kind, layout_of}
 use Rattle.device_model.specs.Places.{IsLaidOut}
 use Rattle.device_model.proofs.KeepsDecodes.{keeps_decodes}
 use Rattle.device_model.proofs.Writes.{made-append}
-use Rattle.table_machine.specs.Tables.{Setting, Tables, sizes_in}
+use Rattle.table_machine.specs.Tables.{Setting, Tables, sizes_in, world_in}
 use Rattle.table_machine.specs.Events.{Answer, Course, course, no_index, table_step, untold}
 use Rattle.table_machine.specs.Represents.{Represents, index_of, seat_of, tables_on}
 use Rattle.table_machine.specs.Simulates.{IsCourse, IsSetting, opened_tables}
@@ -81,7 +81,7 @@ holds_after d e r ids =
 
 -- each number of writes is reached
 pub image_reached : {M : Type 0} → (d : Configuration M) (events : List Event) (k : ℕ) → IsRepresented d → HasIdsFor d events → k ≤ length (course_at d events).log → (n : ℕ) × (n ≤ length events) × (writes_at d events n ≡ k)
-image_reached {M} d events k r ids l = count_reached d.setting.steps (sizes_in d.setting) d.base events d.state k (omega (arith, l, whole.writes))
+image_reached {M} d events k r ids l = count_reached (world_in d.setting d.base) events d.state k (omega (arith, l, whole.writes))
   where
     whole : IsCourse d.setting d.base d.last d.tables d.words d.state events
     whole = course_simulates d.setting d.base d.last r.setting events d.tables d.words d.state ids r.represents
@@ -126,7 +126,7 @@ tables_tell {M} x base last t words s (g, a) = subst Told (sym a.tables) (go s.p
 -- the report of some events from what is held, by tables
 pub reports : {M : Type 0} → (x : Setting M) (h : decoding.Held) (words : Words) (cores : ℕ) (power : Power) (events : List Event) → IsSetting x → IsMachine x.steps (sizes_in x) → KeepsIn x.set x.layout h words → HasIds (base_of h.index h.objects) (length events) →
     (let c = course x words (opened_tables x h cores power) events in let s = opened cores power h.boots in let base = base_of h.index h.objects in
-    (c.lines ++ found_lines (untold c.tables) ≡ report_lines x.steps (sizes_in x) base s events) × (c.tables.entries ≡ listing (state_after x.steps (sizes_in x) base s events).history))
+    (c.lines ++ found_lines (untold c.tables) ≡ report_lines (world_in x base) s events) × (c.tables.entries ≡ listing (state_after (world_in x base) s events).history))
 reports {M} x h words cores power events fit machine k ids = (ap₂ (λ (lines : List Line) (e : Option Entry). lines ++ found_lines e) whole.lines told.3, told.2)
   where
     base : DeviceState
@@ -144,5 +144,5 @@ reports {M} x h words cores power events fit machine k ids = (ap₂ (λ (lines :
     c : Course M
     c = course x words t events
 
-    told : (c.tables.power ≡ (state_after x.steps (sizes_in x) base s events).power) × (c.tables.boots ≡ (state_after x.steps (sizes_in x) base s events).boots) × (c.tables.entries ≡ listing (state_after x.steps (sizes_in x) base s events).history) × (untold c.tables ≡ unprinted (state_after x.steps (sizes_in x) base s events)) × (length c.tables.seats ≡ length (state_after x.steps (sizes_in x) base s events).cores)
-    told = tables_tell x base h.index.last c.tables (made c.log words) (state_after x.steps (sizes_in x) base s events) whole.state
+    told : (c.tables.power ≡ (state_after (world_in x base) s events).power) × (c.tables.boots ≡ (state_after (world_in x base) s events).boots) × (c.tables.entries ≡ listing (state_after (world_in x base) s events).history) × (untold c.tables ≡ unprinted (state_after (world_in x base) s events)) × (length c.tables.seats ≡ length (state_after (world_in x base) s events).cores)
+    told = tables_tell x base h.index.last c.tables (made c.log words) (state_after (world_in x base) s events) whole.state

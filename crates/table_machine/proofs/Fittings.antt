@@ -25,7 +25,7 @@ use Rattle.slot_model.specs.Standing.{IsLawful}
 use Rattle.kernel_model.proofs.CoreLaws.{IsAfter, as_before, core_at, no_core, turned_now}
 use Rattle.set_model.specs.Sets.{ObjPart}
 use Rattle.set_model.specs.Limits.{IsObject}
-use Rattle.table_machine.specs.Tables.{Setting, sizes_in}
+use Rattle.table_machine.specs.Tables.{Setting, sizes_in, world_in}
 use Rattle.table_machine.specs.Represents.{IsFitting, IsWaiting}
 use Rattle.table_machine.specs.Simulates.{IsSetting}
 
@@ -73,8 +73,8 @@ given-fits steps sizes a m o words l wait size h = go (steps.rewrites m words) r
     go (Some new) e = with_write-all (IsWrite sizes) (record { object = o; words = new }) a.writes (record { object = l; words = wait words new size e }) h
 
 -- a turn keeps it
-pub turn_fits : {M : Type 0} → (x : Setting M) (base : DeviceState) (s : State M) (n : ℕ) → IsSetting x → IsLawful x.steps (sizes_in x) base s → (c : Core M) → get_or s.cores n Idle ≡ c → IsFitting x.steps (sizes_in x) c → IsFitting x.steps (sizes_in x) (core_turn x.steps (sizes_in x) base s.history (all_but n s.cores) n c).core
-turn_fits {M} x base s n fit lawful c at h = by c (subst (IsSoundCore x.steps sizes base s.history) at (lawful.sound.cores n)) h
+pub turn_fits : {M : Type 0} → (x : Setting M) (base : DeviceState) (s : State M) (n : ℕ) → IsSetting x → IsLawful (world_in x base) s → (c : Core M) → get_or s.cores n Idle ≡ c → IsFitting x.steps (sizes_in x) c → IsFitting x.steps (sizes_in x) (core_turn (world_in x base) s.history (all_but n s.cores) n c).core
+turn_fits {M} x base s n fit lawful c at h = by c (subst (IsSoundCore (world_in x base) s.history) at (lawful.sound.cores n)) h
   where
     sizes : Sizes
     sizes = sizes_in x
@@ -86,9 +86,9 @@ turn_fits {M} x base s n fit lawful c at h = by c (subst (IsSoundCore x.steps si
     sized = base-sized sizes base lawful.set_up.based
 
     read-sizes : (reads : List Read) → AreFound base history reads → AllByRecursion (λ r. r.object < length base.objects) reads → AllByRecursion (λ r. length (read_words base history r) ≡ sizes.size r.object) reads
-    read-sizes = reads-size sizes base history sized (history-runs x.steps sizes lawful.set_up.machine base sized history lawful.sound.history.replays)
+    read-sizes = reads-size sizes base history sized (history-runs (world_in x base) lawful.set_up.machine sized history lawful.sound.history.replays)
 
-    by : (c : Core M) → IsSoundCore x.steps sizes base history c → IsFitting x.steps sizes c → IsFitting x.steps sizes (core_turn x.steps sizes base history (all_but n s.cores) n c).core
+    by : (c : Core M) → IsSoundCore (world_in x base) history c → IsFitting x.steps sizes c → IsFitting x.steps sizes (core_turn (world_in x base) history (all_but n s.cores) n c).core
     by Idle sound h = go (next_task (all_but n s.cores) (open_tasks base history))
       where
         go : (t : Option TaskRec) → IsFitting x.steps sizes (start_turn x.steps base history n t).core
@@ -121,7 +121,7 @@ turn_fits {M} x base s n fit lawful c at h = by c (subst (IsSoundCore x.steps si
         go (Reads m o) e = read m o (lawful.set_up.machine.reads a.state m o e) (λ words new f g. lawful.set_up.machine.rewrites a.state m o words new e f g) (written a.writes o) refl (read_of o a.reads) refl
     by (Copying a copied) sound h = go a.reads refl
       where
-        go : (reads : List Read) → a.reads ≡ reads → IsFitting x.steps sizes (copy_turn x.steps sizes base history a copied reads).core
+        go : (reads : List Read) → a.reads ≡ reads → IsFitting x.steps sizes (copy_turn (world_in x base) history a copied reads).core
         go [] e = tt
         go (r ∷ reads) e = more (ltb (copied + 1) (sizes.size r.object)) refl
           where

@@ -26,7 +26,7 @@ use Rattle.slot_model.proofs.Tables.{install_places}
 use Rattle.slot_model.proofs.Flips.{finish_cuts}
 use Rattle.device_model.specs.Words.{Words}
 use Rattle.device_model.specs.IndexWords.{Index}
-use Rattle.table_machine.specs.Tables.{Chain, Copies, Copy, Runs, Seat, Setting, Tables, Try, Vacant, Waits, each_from, sizes_in}
+use Rattle.table_machine.specs.Tables.{Chain, Copies, Copy, Runs, Seat, Setting, Tables, Try, Vacant, Waits, each_from, sizes_in, world_in}
 use Rattle.table_machine.specs.Places.{index_after, slots_after}
 use Rattle.table_machine.specs.Events.{all_touched, cut_seat, touched}
 use Rattle.table_machine.specs.Represents.{Ghost, begun_copies, chain_of, chains_of, copies_of, held_of, index_of, seat_of, seats_by, seats_of, slots_in, try_of}
@@ -92,23 +92,23 @@ begun-stay base i history copied [] h = refl
 begun-stay base i history copied (r ∷ reads) h = ap₂ (λ (words : List ℕ) (copies : List Copy). let c : Copy = record { object = r.object; words = take copied words } in c ∷ copies) (sym h.0) (copies-stay base i history reads h.1)
 
 -- the seat of another core
-other_seat : {M : Type 0} → (x : Setting M) (base : DeviceState) (s : State M) (n : ℕ) (i : FinishRecord) (kept after : Kept) (before index : Index) → IsLawful x.steps (sizes_in x) base s → get_or s.cores n Idle ≡ Committing i zero → after.pins ≡ kept.pins →
+other_seat : {M : Type 0} → (x : Setting M) (base : DeviceState) (s : State M) (n : ℕ) (i : FinishRecord) (kept after : Kept) (before index : Index) → IsLawful (world_in x base) s → get_or s.cores n Idle ≡ Committing i zero → after.pins ≡ kept.pins →
     (k : ℕ) → (k ≡ n → ⊥) → (c : Core M) → get_or s.cores k Idle ≡ c → cut_seat i (seat_of base s.history kept before k c) ≡ seat_of base (i ∷ s.history) after index k c
-other_seat {M} x base s n i kept after before index h at pins k ne c e = go c e (subst (IsSoundCore x.steps (sizes_in x) base s.history) e (h.sound.cores k))
+other_seat {M} x base s n i kept after before index h at pins k ne c e = go c e (subst (IsSoundCore (world_in x base) s.history) e (h.sound.cores k))
   where
-    committed : IsSoundCore {M = M} x.steps (sizes_in x) base s.history (Committing i zero)
-    committed = subst (IsSoundCore x.steps (sizes_in x) base s.history) at (h.sound.cores n)
+    committed : IsSoundCore {M = M} (world_in x base) s.history (Committing i zero)
+    committed = subst (IsSoundCore (world_in x base) s.history) at (h.sound.cores n)
 
     shrunk : (a : Attempt M) (b : Bool) (copies more : List Copy) → AreFound base s.history a.reads → b ≡ is_written_read i a.reads → copies ≡ more →
         (let t : Try M = record { task = a.task; interval = cut i.point b (read_interval base s.history a.start a.reads); copies = copies; writes = a.writes; spawns = a.spawns; state = a.state } in t) ≡ try_of base (i ∷ s.history) a more
     shrunk a b copies more found f g =
         ap₂ (λ (j : Interval) (cs : List Copy). let t : Try M = record { task = a.task; interval = j; copies = cs; writes = a.writes; spawns = a.spawns; state = a.state } in t)
-        (ap (λ (y : Bool). cut i.point y (read_interval base s.history a.start a.reads)) f ∙ sym (finish_cuts x.steps (sizes_in x) base s n zero a.start i a.reads h at found)) g
+        (ap (λ (y : Bool). cut i.point y (read_interval base s.history a.start a.reads)) f ∙ sym (finish_cuts (world_in x base) s n zero a.start i a.reads h at found)) g
 
     stays : (reads : List Read) → AreFound base s.history reads → AllByRecursion (λ r. read_words base (i ∷ s.history) r ≡ read_words base s.history r) reads
     stays reads found = (reads_kept base i s.history committed.0.numbered reads found).1
 
-    go : (c : Core M) → get_or s.cores k Idle ≡ c → IsSoundCore {M = M} x.steps (sizes_in x) base s.history c → cut_seat i (seat_of base s.history kept before k c) ≡ seat_of base (i ∷ s.history) after index k c
+    go : (c : Core M) → get_or s.cores k Idle ≡ c → IsSoundCore {M = M} (world_in x base) s.history c → cut_seat i (seat_of base s.history kept before k c) ≡ seat_of base (i ∷ s.history) after index k c
     go Idle e sound = refl
     go (Running a) e sound = ap (λ (t : Try M). Runs t) (shrunk a _ (copies_of base s.history a.reads) (copies_of base (i ∷ s.history) a.reads) sound.2.are_found (written-same i base s.history a.reads) (copies-stay base i s.history a.reads (stays a.reads sound.2.are_found)))
     go (Copying a copied) e sound =
@@ -140,7 +140,7 @@ joined-chain floor kept history i o slot None e h =
 
 -- ---- all of it
 
-pub join_turned : {M : Type 0} → (x : Setting M) (base : DeviceState) (last : Option Entry) (g : Ghost) (words : Words) (s : State M) (n : ℕ) (i : FinishRecord) → IsLawful x.steps (sizes_in x) base s → StandsFor (sizes_in x) base g.floor s g.kept (slots_in x words) → get_or s.cores n Idle ≡ Committing i zero →
+pub join_turned : {M : Type 0} → (x : Setting M) (base : DeviceState) (last : Option Entry) (g : Ghost) (words : Words) (s : State M) (n : ℕ) (i : FinishRecord) → IsLawful (world_in x base) s → StandsFor (sizes_in x) base g.floor s g.kept (slots_in x words) → get_or s.cores n Idle ≡ Committing i zero →
     Turned x base last g words s n (Committing i zero) (record { floor = g.floor; kept = with_finished (Some i) g.kept; root = root_with x (held_of x base last g s) g.kept.plan (Some i) })
 join_turned {M} x base last g words s n i h f at = record {
   line = refl;
@@ -173,4 +173,4 @@ join_turned {M} x base last g words s n i h f at = record {
     chains : all_touched i after.slots 0 (chains_of x g s.history) ≡ chains_of x (record { floor = g.floor; kept = with_finished (Some i) g.kept; root = root }) (i ∷ s.history)
     chains = chains-each i after.slots (chain_of g s.history) 0 (length x.set.objects)
         ∙ each-same _ _ (length x.set.objects) (λ o l. joined-chain g.floor g.kept s.history i o (slice_index after.slots o) (written i.run.writes o) refl
-        (λ words e. (commit_above x.steps (sizes_in x) base s g.floor n zero o i words h.sound f.since at e, slot-each (λ o. newest_slot ((with_finished (Some i) g.kept).chains o)) (length x.set.objects) o l ∙ ap (λ w. newest_slot (with_held i w (g.kept.plan o) (g.kept.chains o))) e)))
+        (λ words e. (commit_above (world_in x base) s g.floor n zero o i words h.sound f.since at e, slot-each (λ o. newest_slot ((with_finished (Some i) g.kept).chains o)) (length x.set.objects) o l ∙ ap (λ w. newest_slot (with_held i w (g.kept.plan o) (g.kept.chains o))) e)))

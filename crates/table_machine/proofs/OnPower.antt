@@ -38,7 +38,7 @@ use Rattle.device_model.specs.IndexWords.{Index}
 use Rattle.device_model.specs.Decoding as decoding
 use Rattle.device_model.specs.Commits as commits
 use Rattle.device_model.proofs.Counts.{counted_turns, length-commit}
-use Rattle.table_machine.specs.Tables.{Chain, Copies, Seat, Setting, Tables, Vacant, sizes_in, Try, Waits}
+use Rattle.table_machine.specs.Tables.{Chain, Copies, Seat, Setting, Tables, Vacant, sizes_in, Try, Waits, world_in}
 use Rattle.table_machine.specs.Places.{places_at, seen_in, slots_after, index_after, plan_in, run_by, verdict_in}
 use Rattle.table_machine.specs.Seats.{SeatTurn, seat_turn, start_try, answered, commit_of, held_in, still, writes_in}
 use Rattle.table_machine.specs.Events.{Answer, joined, written_by}
@@ -56,7 +56,7 @@ answer_at x words t n c =
 
 -- the next state, by the core
 abbrev pub state_at : {M : Type 0} → Setting M → DeviceState → State M → ℕ → Core M → State M
-state_at x base s n c = record s { history = with_finish (finished_by c) s.history; cores = set s.cores n (core_turn x.steps (sizes_in x) base s.history (all_but n s.cores) n c).core }
+state_at x base s n c = record s { history = with_finish (finished_by c) s.history; cores = set s.cores n (core_turn (world_in x base) s.history (all_but n s.cores) n c).core }
 
 -- the tables of a state with power on
 abbrev pub now_of : {M : Type 0} → Setting M → DeviceState → Option Entry → Ghost → State M → Tables M
@@ -64,7 +64,7 @@ now_of x base last g s = tables_on x base last g s On
 
 -- a step of core n that does this is seen by the tables
 pub record Turned {M : Type 0} (x : Setting M) (base : DeviceState) (last : Option Entry) (g : Ghost) (words : Words) (s : State M) (n : ℕ) (c : Core M) (after : Ghost) : Type 0 where
-  pub line : (answer_at x words (now_of x base last g s) n (seat_of base s.history g.kept (index_of x base last g.kept s.history) n c)).line ≡ (core_turn x.steps (sizes_in x) base s.history (all_but n s.cores) n c).line
+  pub line : (answer_at x words (now_of x base last g s) n (seat_of base s.history g.kept (index_of x base last g.kept s.history) n c)).line ≡ (core_turn (world_in x base) s.history (all_but n s.cores) n c).line
   pub writes : length (answer_at x words (now_of x base last g s) n (seat_of base s.history g.kept (index_of x base last g.kept s.history) n c)).writes ≡ core_writes c
   pub tables : (answer_at x words (now_of x base last g s) n (seat_of base s.history g.kept (index_of x base last g.kept s.history) n c)).tables ≡ now_of x base last after (state_at x base s n c)
 
@@ -109,7 +109,7 @@ pub quiet_turned : {M : Type 0} → (x : Setting M) (base : DeviceState) (last :
     joined x (seat_of base s.history g.kept (index_of x base last g.kept s.history) n c) (now_of x base last g s) ≡ now_of x base last g s →
     length (written_by x (now_of x base last g s) (seat_of base s.history g.kept (index_of x base last g.kept s.history) n c)) ≡ core_writes c →
     seat_turn x (now_of x base last g s) words (all_but n (seats_of base s.history g.kept (index_of x base last g.kept s.history) s.cores)) n (seat_of base s.history g.kept (index_of x base last g.kept s.history) n c)
-    ≡ seen_turn base s.history kept (index_of x base last g.kept s.history) n (core_turn x.steps (sizes_in x) base s.history (all_but n s.cores) n c) →
+    ≡ seen_turn base s.history kept (index_of x base last g.kept s.history) n (core_turn (world_in x base) s.history (all_but n s.cores) n c) →
     ((k : ℕ) → (k ≡ n → ⊥) → seat_of base s.history g.kept (index_of x base last g.kept s.history) k (get_or s.cores k Idle) ≡ seat_of base s.history kept (index_of x base last g.kept s.history) k (get_or s.cores k Idle)) →
     Turned x base last g words s n c (record g { kept = kept })
 quiet_turned {M} x base last g words s n c kept e none join writes turn stay = record {
@@ -126,7 +126,7 @@ quiet_turned {M} x base last g words s n c kept e none join writes turn stay = r
     index = index_of x base last g.kept s.history
 
     d : Core M
-    d = (core_turn x.steps (sizes_in x) base s.history (all_but n s.cores) n c).core
+    d = (core_turn (world_in x base) s.history (all_but n s.cores) n c).core
 
 -- a commit makes as many writes as the event machine counts
 pub counted : {M : Type 0} → (x : Setting M) (base : DeviceState) (last : Option Entry) (kept : Kept) (history : List FinishRecord) (h : decoding.Held) → h.index ≡ index_of x base last kept history → (plan : ℕ → ℕ) (i : FinishRecord) → AllByRecursion (IsWrite (sizes_in x)) i.run.writes →
@@ -195,8 +195,8 @@ place_slot hi chain p e = go (chosen_held hi chain) (sym (choose_places hi chain
     go None f = absurd (cc f)
     go (Some h) f = let same : place_of h ≡ p = cc f in ap (λ (q : Place). q.slot) (sym same)
 
-pub run_turned : {M : Type 0} → (x : Setting M) (base : DeviceState) (last : Option Entry) (g : Ghost) (words : Words) (s : State M) (n : ℕ) (a : Attempt M) → IsLawful x.steps (sizes_in x) base s → StandsFor (sizes_in x) base g.floor s g.kept (slots_in x words) → get_or s.cores n Idle ≡ Running a →
-    Turned x base last g words s n (Running a) (record g { kept = kept_run base s.history n a (core_turn x.steps (sizes_in x) base s.history (all_but n s.cores) n (Running a)).core g.kept })
+pub run_turned : {M : Type 0} → (x : Setting M) (base : DeviceState) (last : Option Entry) (g : Ghost) (words : Words) (s : State M) (n : ℕ) (a : Attempt M) → IsLawful (world_in x base) s → StandsFor (sizes_in x) base g.floor s g.kept (slots_in x words) → get_or s.cores n Idle ≡ Running a →
+    Turned x base last g words s n (Running a) (record g { kept = kept_run base s.history n a (core_turn (world_in x base) s.history (all_but n s.cores) n (Running a)).core g.kept })
 run_turned {M} x base last g words s n a h f at = quiet_turned x base last g words s n (Running a) kept (chains (run_keeps base s.history n a d g.kept)) refl refl refl turn (stay (run_keeps base s.history n a d g.kept))
   where
     index : Index
@@ -206,7 +206,7 @@ run_turned {M} x base last g words s n a h f at = quiet_turned x base last g wor
     i = read_interval base s.history a.start a.reads
 
     d : Core M
-    d = (core_turn x.steps (sizes_in x) base s.history (all_but n s.cores) n (Running a)).core
+    d = (core_turn (world_in x base) s.history (all_but n s.cores) n (Running a)).core
 
     kept : Kept
     kept = kept_run base s.history n a d g.kept
@@ -219,8 +219,8 @@ run_turned {M} x base last g words s n a h f at = quiet_turned x base last g wor
     stay (inl e) k ne = ap (λ (q : Kept). seat_of base s.history q index k (get_or s.cores k Idle)) (sym e)
     stay (inr e) k ne = other_pins base s.history g.kept index n e.0 k (get_or s.cores k Idle) ne ∙ ap (λ (q : Kept). seat_of base s.history q index k (get_or s.cores k Idle)) (sym e.1)
 
-    sound : IsSoundCore {M = M} x.steps (sizes_in x) base s.history (Running a)
-    sound = subst (IsSoundCore x.steps (sizes_in x) base s.history) at (h.sound.cores n)
+    sound : IsSoundCore {M = M} (world_in x base) s.history (Running a)
+    sound = subst (IsSoundCore (world_in x base) s.history) at (h.sound.cores n)
 
     fetch : (m : M) (o : ℕ) → x.steps.step a.state ≡ Reads m o → is_empty i ≡ false → (v : Version) × (p : Place) × (chosen i.hi (versions base o s.history) ≡ Some v) × (chosen_place i.hi (places_at (chains_of x g s.history) o) ≡ Some p)
         × (p.slot ≡ slot_in (chosen_held i.hi (g.kept.chains o))) × (read_interval base s.history a.start (record { object = o; writer = v.writer } ∷ a.reads) ≡ with_place p i)
@@ -230,23 +230,23 @@ run_turned {M} x base last g words s n a h f at = quiet_turned x base last g wor
         let r = read_at (sizes_in x) base g.floor s.history s.cores g.kept (slots_in x words) h.sound.history.numbered f.stands (seen_in index (chains_of x g s.history)) (are_tables x base last g s.history) n o a.start a.reads v.0 (rw at refl) ne l v.1 in
         (v.0, r.place, v.1, r.chosen_is, place_slot i.hi (g.kept.chains o) r.place (ap (chosen_place i.hi) (sym ((are_tables x base last g s.history).places o l)) ∙ r.chosen_is), r.interval)
 
-    turn : seat_turn x (now_of x base last g s) words (all_but n (seats_of base s.history g.kept index s.cores)) n (seat_of base s.history g.kept index n (Running a)) ≡ seen_turn base s.history kept index n (core_turn x.steps (sizes_in x) base s.history (all_but n s.cores) n (Running a))
+    turn : seat_turn x (now_of x base last g s) words (all_but n (seats_of base s.history g.kept index s.cores)) n (seat_of base s.history g.kept index n (Running a)) ≡ seen_turn base s.history kept index n (core_turn (world_in x base) s.history (all_but n s.cores) n (Running a))
     turn = run_seen x.steps base s.history g.kept index (chains_of x g s.history) n a (x.steps.step a.state) (λ m o e. fetch_seen base s.history g.kept index (chains_of x g s.history) n a m o (fetch m o e))
 
-pub copy_turned : {M : Type 0} → (x : Setting M) (base : DeviceState) (last : Option Entry) (g : Ghost) (words : Words) (s : State M) (n : ℕ) (a : Attempt M) (copied : ℕ) → IsLawful x.steps (sizes_in x) base s → StandsFor (sizes_in x) base g.floor s g.kept (slots_in x words) → get_or s.cores n Idle ≡ Copying a copied →
+pub copy_turned : {M : Type 0} → (x : Setting M) (base : DeviceState) (last : Option Entry) (g : Ghost) (words : Words) (s : State M) (n : ℕ) (a : Attempt M) (copied : ℕ) → IsLawful (world_in x base) s → StandsFor (sizes_in x) base g.floor s g.kept (slots_in x words) → get_or s.cores n Idle ≡ Copying a copied →
     copied < (sizes_in x).size (newest_object a.reads) → Turned x base last g words s n (Copying a copied) g
 copy_turned {M} x base last g words s n a copied h f at inside = quiet_turned x base last g words s n (Copying a copied) g.kept refl refl refl refl turn (λ k ne. refl)
   where
     index : Index
     index = index_of x base last g.kept s.history
 
-    sound : IsSoundCore {M = M} x.steps (sizes_in x) base s.history (Copying a copied)
-    sound = subst (IsSoundCore x.steps (sizes_in x) base s.history) at (h.sound.cores n)
+    sound : IsSoundCore {M = M} (world_in x base) s.history (Copying a copied)
+    sound = subst (IsSoundCore (world_in x base) s.history) at (h.sound.cores n)
 
     of_reads : (r : Read) (rest : List Read) → a.reads ≡ r ∷ rest → r.object < length x.set.objects
     of_reads r rest e = let l : r.object < length base.objects = (subst (AllByRecursion (λ (r : Read). r.object < length base.objects)) e sound.3.in_range).0 in omega (arith, l, h.set_up.based.objects)
 
-    turn : seat_turn x (now_of x base last g s) words (all_but n (seats_of base s.history g.kept index s.cores)) n (seat_of base s.history g.kept index n (Copying a copied)) ≡ seen_turn base s.history g.kept index n (core_turn x.steps (sizes_in x) base s.history (all_but n s.cores) n (Copying a copied))
+    turn : seat_turn x (now_of x base last g s) words (all_but n (seats_of base s.history g.kept index s.cores)) n (seat_of base s.history g.kept index n (Copying a copied)) ≡ seen_turn base s.history g.kept index n (core_turn (world_in x base) s.history (all_but n s.cores) n (Copying a copied))
     turn = copy_seen x words base s.history g.kept index n a copied a.reads refl
         (λ r rest e. (subst (λ reads. copied < (sizes_in x).size (newest_object reads)) e inside, (copied_stands (sizes_in x) base g.floor s.history s.cores g.kept (slots_in x words) h.sound.history.numbered f.stands n a copied r rest at e (of_reads r rest e)).1))
 
@@ -282,9 +282,9 @@ in_range : (sizes : Sizes) (ws : List Write) → AllByRecursion (IsWrite sizes) 
 in_range sizes [] h = tt
 in_range sizes (w ∷ ws) h = (h.0.object, in_range sizes ws h.1)
 
-pub ready_turned : {M : Type 0} → (x : Setting M) (base : DeviceState) (last : Option Entry) (g : Ghost) (words : Words) (s : State M) (n : ℕ) (a : Attempt M) (outcome : Outcome) → IsSetting x → IsLawful x.steps (sizes_in x) base s → StandsFor (sizes_in x) base g.floor s g.kept (slots_in x words) → get_or s.cores n Idle ≡ Ready a outcome →
+pub ready_turned : {M : Type 0} → (x : Setting M) (base : DeviceState) (last : Option Entry) (g : Ghost) (words : Words) (s : State M) (n : ℕ) (a : Attempt M) (outcome : Outcome) → IsSetting x → IsLawful (world_in x base) s → StandsFor (sizes_in x) base g.floor s g.kept (slots_in x words) → get_or s.cores n Idle ≡ Ready a outcome →
     AllByRecursion (IsWrite (sizes_in x)) a.writes →
-    Turned x base last g words s n (Ready a outcome) (record g { kept = kept_verdict (sizes_in x) base s.history (all_but n s.cores) (core_turn x.steps (sizes_in x) base s.history (all_but n s.cores) n (Ready a outcome)).core g.kept })
+    Turned x base last g words s n (Ready a outcome) (record g { kept = kept_verdict (sizes_in x) base s.history (all_but n s.cores) (core_turn (world_in x base) s.history (all_but n s.cores) n (Ready a outcome)).core g.kept })
 ready_turned {M} x base last g words s n a outcome fit h f at ws =
     quiet_turned x base last g words s n (Ready a outcome) (kept_by (is_committing others)) (verdict_chains sizes base s.history others (now (is_committing others)).core g.kept) refl refl refl turn (stay (is_committing others) refl)
   where
@@ -327,7 +327,7 @@ ready_turned {M} x base last g words s n a outcome fit h f at ws =
     same =
         ap (verdict_in sizes index t.chains seats b) (run-same base s.history a outcome)
         ∙ ap (λ views. table_verdict sizes (seen_in index t.chains) views a.task (read_interval base s.history a.start a.reads) (run_of a outcome)) (views-same base s.history g.kept index s.cores n)
-        ∙ verdict_at sizes base g.floor s.history s.cores g.kept (slots_in x words) h.sound.history.numbered (ended_of x.steps sizes base s h.sound) f.stands (seen_in index t.chains) (are_tables x base last g s.history) n a (run_of a outcome)
+        ∙ verdict_at sizes base g.floor s.history s.cores g.kept (slots_in x words) h.sound.history.numbered (ended_of (world_in x base) s h.sound) f.stands (seen_in index t.chains) (are_tables x base last g s.history) n a (run_of a outcome)
         (subst (StartsFrom g.floor) at (f.since.starts n)) (in_range sizes (run_of a outcome).writes (run_writes (IsWrite sizes) a outcome ws))
 
     plan : (o : ℕ) → o < length x.set.objects → plan_in sizes seats t.chains o ≡ (planned sizes base s.history others g.kept).plan o

@@ -23,7 +23,7 @@ use Rattle.device_model.specs.Keeping.{KeepsIn}
 use Rattle.device_model.proofs.DecodesKeeps.{held_fits}
 use Rattle.device_model.proofs.LaidOut.{laid_out_set}
 use Rattle.device_model.proofs.Writes.{length-words_from, words_are}
-use Rattle.table_machine.specs.Tables.{Chain, Seat, Setting, Tables, each_from, sizes_in}
+use Rattle.table_machine.specs.Tables.{Chain, Seat, Setting, Tables, each_from, sizes_in, world_in}
 use Rattle.table_machine.specs.Events.{no_index, one_version, reopened}
 use Rattle.table_machine.specs.Represents.{Ghost, IsFitting, IsOnDevice, Represents, chains_of, held_of, index_of, seat_of, seats_of, slots_in, tables_on}
 use Rattle.table_machine.specs.Simulates.{IsSetting, opened_tables}
@@ -59,7 +59,7 @@ pub opened_represents : {M : Type 0} → (x : Setting M) (h : Held) (words : Wor
 opened_represents {M} x h words cores power fit machine k ids = (
   g,
   record {
-    lawful = record { set_up = set_up; sound = opened_sound x.steps (sizes_in x) base set_up cores power h.boots; ids = ids };
+    lawful = record { set_up = set_up; sound = opened_sound (world_in x base) set_up cores power h.boots; ids = ids };
     last_fits = (held_fits x.set x.layout h k.held).1;
     tables = tables power;
     slots = first_stands M (sizes_in x) base cores power h.boots named (slots_in x words) (λ o j l m. length-words_from words (slot_place x.layout x.set o j) (object_at x.set o).size) (λ o l. (k.held.index.named o l, stands o l));
@@ -83,7 +83,7 @@ opened_represents {M} x h words cores power fit machine k ids = (
     idle : (j : ℕ) → get_or s.cores j Idle ≡ Idle
     idle j = get_or-replicate_idle M cores j
 
-    set_up : IsSetUp x.steps (sizes_in x) base
+    set_up : IsSetUp (world_in x base)
     set_up = record {
       machine = machine;
       sized = fit_on x.layout x.set fit.set;

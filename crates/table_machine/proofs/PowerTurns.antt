@@ -20,7 +20,7 @@ use Rattle.device_model.specs.Decoding.{index_in}
 use Rattle.device_model.specs.Keeping.{KeepsIn}
 use Rattle.device_model.specs.Places.{IsLaidOut}
 use Rattle.device_model.proofs.IndexKept.{index-kept}
-use Rattle.table_machine.specs.Tables.{Chain, Seat, Setting, Tables, Vacant, sizes_in}
+use Rattle.table_machine.specs.Tables.{Chain, Seat, Setting, Tables, Vacant, sizes_in, world_in}
 use Rattle.table_machine.specs.Events.{Answer, boot_answer, failed, no_index, reopened, saved_in, with_entry}
 use Rattle.table_machine.specs.Represents.{Ghost, chains_of, held_of, index_of, seat_of, seats_of, slots_in, tables_of, tables_on}
 use Rattle.table_machine.specs.Simulates.{Follows, fresh_ghost}
@@ -43,7 +43,7 @@ fail_follows {M} x base last g words s after = record { line = refl; writes = re
         (ap (λ (n : ℕ). replicate n Vacant) (length-seats (seat_of base s.history g.kept index) s.cores) ∙ vacant-seats (seat_of base (with_finish (durable_commit s.cores) s.history) after.kept no_index) (λ k. refl) (length s.cores))
         ∙ ap (λ (entries : List Entry). now entries (durable_commit s.cores) (seats_of base (with_finish (durable_commit s.cores) s.history) after.kept no_index (replicate (length s.cores) Idle))) (listed (durable_commit s.cores))
 
-    go : (p : Power) → failed x (tables_on x base last g s p) ≡ tables_of x base last after (event_step x.steps (sizes_in x) base s Fail).0
+    go : (p : Power) → failed x (tables_on x base last g s p) ≡ tables_of x base last after (event_step (world_in x base) s Fail).0
     go On = at (index_of x base last g.kept s.history)
     go (Boot left) = at no_index
 
@@ -92,12 +92,12 @@ same_ghost {M} x base last g words s n left off more = subst (λ p. Follows x ba
     go left b e h = let k = of left (eqb n 0) h in record { line = k.0; writes = k.1 ∙ (let z : cond (eqb n 0) (turn_boots left) 0 ≡ 0 + cond (eqb n 0) (turn_boots left) 0 = omega arith in z); tables = k.2 }
 
 -- the last turn of a boot
-pub booted_follows : {M : Type 0} → (x : Setting M) (base : DeviceState) (last : Option Entry) (g : Ghost) (words : Words) (s : State M) → IsLaidOut x.set x.layout → IsLawful x.steps (sizes_in x) base s → StandsFor (sizes_in x) base g.floor s g.kept (slots_in x words) → s.power ≡ Boot 1 →
+pub booted_follows : {M : Type 0} → (x : Setting M) (base : DeviceState) (last : Option Entry) (g : Ghost) (words : Words) (s : State M) → IsLaidOut x.set x.layout → IsLawful (world_in x base) s → StandsFor (sizes_in x) base g.floor s g.kept (slots_in x words) → s.power ≡ Boot 1 →
     KeepsIn x.set x.layout (held_of x base last g s) words → Follows x base last g words s (CoreStep 0) (fresh_ghost base g s)
 booted_follows {M} x base last g words s d h f off k = subst (λ p. Follows x base last g words (record s { power = p }) (CoreStep 0) (fresh_ghost base g s)) (sym off) (record { line = refl; writes = refl; tables = tables })
   where
     idle : (j : ℕ) → get_or s.cores j Idle ≡ Idle
-    idle = boot_idle x.steps (sizes_in x) base s 1 h off
+    idle = boot_idle (world_in x base) s 1 h off
 
     read : Index
     read = read_index (length x.set.objects) (index_in x.layout words)

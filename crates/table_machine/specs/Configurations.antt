@@ -10,7 +10,7 @@ use Rattle.slot_model.specs.Standing.{IsLawful, StandsFor}
 use Rattle.device_model.specs.Words.{Words, made}
 use Rattle.device_model.specs.Decoding.{Held, durable_of}
 use Rattle.device_model.specs.Keeping.{KeepsIn}
-use Rattle.table_machine.specs.Tables.{Setting, Tables, sizes_in}
+use Rattle.table_machine.specs.Tables.{Setting, Tables, sizes_in, world_in}
 use Rattle.table_machine.specs.Events.{Answer, Course, course, table_step}
 use Rattle.table_machine.specs.Represents.{Ghost, IsFitting, Represents, slots_in}
 use Rattle.table_machine.specs.Simulates.{Follows, IsSetting, Simulates, ghost_after}
@@ -38,14 +38,14 @@ course_at c events = course c.setting c.words c.tables events
 
 -- the state of the event machine after an event, and after the first n of some events
 abbrev pub state_by : {M : Type 0} → Configuration M → Event → State M
-state_by c e = (event_step c.setting.steps (sizes_in c.setting) c.base c.state e).0
+state_by c e = (event_step (world_in c.setting c.base) c.state e).0
 
 abbrev pub state_at : {M : Type 0} → Configuration M → List Event → (n : ℕ) → State M
-state_at c events n = state_after c.setting.steps (sizes_in c.setting) c.base c.state (take n events)
+state_at c events n = state_after (world_in c.setting c.base) c.state (take n events)
 
 -- how many device writes the first n of some events make
 abbrev pub writes_at : {M : Type 0} → Configuration M → List Event → (n : ℕ) → ℕ
-writes_at c events n = writes_after c.setting.steps (sizes_in c.setting) c.base c.state (take n events)
+writes_at c events n = writes_after (world_in c.setting c.base) c.state (take n events)
 
 -- the device after k of the writes of some events
 abbrev pub image_at : {M : Type 0} → Configuration M → List Event → (k : ℕ) → Words
@@ -84,7 +84,7 @@ pub record Moment (M : Type 0) : Type 0 where
 -- what must be true of it
 pub record IsMoment {M : Type 0} (m : Moment M) : Type 0 where
   pub setting : IsSetting m.setting
-  pub lawful : IsLawful m.setting.steps (sizes_in m.setting) m.base m.state
+  pub lawful : IsLawful (world_in m.setting m.base) m.state
   pub slots : StandsFor (sizes_in m.setting) m.base m.ghost.floor m.state m.ghost.kept (slots_in m.setting m.words)
 
 -- core n

@@ -26,7 +26,7 @@ use Rattle.device_model.specs.IndexWords.{Index}
 use Rattle.device_model.specs.Decoding.{Held}
 use Rattle.device_model.specs.Commits.{IsUnderWay, commit_writes}
 use Rattle.device_model.specs.Keeping.{KeepsIn}
-use Rattle.table_machine.specs.Tables.{Chain, Copy, Try, Seat, Vacant, Runs, Copies, Waits, Saves, Setting, Tables, sizes_in, each_from}
+use Rattle.table_machine.specs.Tables.{Chain, Copy, Try, Seat, Vacant, Runs, Copies, Waits, Saves, Setting, Tables, sizes_in, each_from, world_in}
 use Rattle.table_machine.specs.Places.{index_after}
 use Rattle.table_machine.specs.Seats.{commit_of}
 use Rattle.table_machine.specs.Events.{no_index}
@@ -139,7 +139,7 @@ IsFitting steps sizes (Committing i left) = Unit {0}
 
 -- tables and words stand for a state of the event machine over a base with this last finish
 pub record Agrees {M : Type 0} (x : Setting M) (base : DeviceState) (last : Option Entry) (g : Ghost) (t : Tables M) (words : Words) (s : State M) : Type 0 where
-  pub lawful : IsLawful x.steps (sizes_in x) base s
+  pub lawful : IsLawful (world_in x base) s
   pub last_fits : IsLast base last
   pub tables : t ≡ tables_of x base last g s
   pub slots : StandsFor (sizes_in x) base g.floor s g.kept (slots_in x words)

@@ -4,6 +4,8 @@ use Rattle.kernel_model.specs.Sizes.{Sizes}
 use Rattle.kernel_model.specs.Effects.{Outcome, Spawn, Write}
 use Rattle.kernel_model.specs.Runs.{TaskMachine}
 use Rattle.kernel_model.specs.Items.{FinishRecord, Entry}
+use Rattle.kernel_model.specs.Replay.{DeviceState}
+use Rattle.kernel_model.specs.Worlds.{World}
 use Rattle.kernel_model.specs.Intervals.{Interval}
 use Rattle.kernel_model.specs.Events.{Power}
 use Rattle.slot_model.specs.Tabled.{Place}
@@ -21,6 +23,10 @@ pub record Setting (M : Type 0) : Type 0 where
 -- the numbers that the event machine needs of it
 abbrev pub sizes_in : {M : Type 0} → Setting M → Sizes
 sizes_in x = sizes_on x.layout x.set
+
+-- what stays, where the history begins over this base
+abbrev pub world_in : {M : Type 0} → Setting M → DeviceState → World M
+world_in x base = record { steps = x.steps; sizes = sizes_in x; base = base }
 
 -- an object: the greatest point that read or wrote it, and its versions by their slots, newest first
 pub record Chain : Type 0 where

@@ -10,7 +10,7 @@ ghost use Rattle.device_model.specs.Layouts.{IsKindOf, Kind, layout_of};
 ghost use Rattle.device_model.specs.IndexWords.{base_of};
 ghost use Rattle.device_model.specs.Decoding.{Held, Stored, decode, durable_of};
 ghost use Rattle.device_model.specs.Keeping.{KeepsIn};
-ghost use Rattle.table_machine.specs.Tables.{Setting, Tables, sizes_in};
+ghost use Rattle.table_machine.specs.Tables.{Setting, Tables, sizes_in, world_in};
 ghost use Rattle.table_machine.specs.Events.{course, table_step, untold};
 ghost use Rattle.table_machine.specs.Simulates.{IsSetting, opened_tables};
 ghost use Rattle.table_machine.specs.Configurations.{Configuration, HasIdsBy, HasIdsFor, Holds, IsRepresented, answer_at, course_at, durable_in, image_at, state_at, state_by, writes_at};
@@ -53,6 +53,6 @@ pub fn report_by_tables<M>()
         → IsMachine x.steps (sizes_in x) → KeepsIn x.set x.layout h words → HasIds (base_of h.index h.objects) (length events)
         → (let c = course x words (opened_tables x h cores power) events in
         let s = opened cores power h.boots in let base = base_of h.index h.objects in
-        (c.lines ++ found_lines (untold c.tables) ≡ report_lines x.steps (sizes_in x) base s events)
-        × (c.tables.entries ≡ listing (state_after x.steps (sizes_in x) base s events).history)) }
+        (c.lines ++ found_lines (untold c.tables) ≡ report_lines (world_in x base) s events)
+        × (c.tables.entries ≡ listing (state_after (world_in x base) s events).history)) }
 {}

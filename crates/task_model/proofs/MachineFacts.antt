@@ -5,7 +5,7 @@ use Rattle.std.proofs.lemmas.Bool.{leb-true, ltb-true}
 use Rattle.nv_base.specs.declared.causes.TrapCause.{TrapCause}
 use Rattle.nv_base.specs.declared.causes.TrapCause.TheVariants.{Illegal, Jump, Fetch, LoadAlign, Load, StoreAlign, Store, Break, Call, Object, CallAlign, CallRange, Program, Spawns, Fuel}
 use Rattle.rv_core.specs.State.{MachineState, StepResult, Next, Calls, Traps}
-use Rattle.rv_core.specs.Machine.{step_of, misfit, service_of, words_at}
+use Rattle.rv_core.specs.Machine.{step_of, place_refusal, service_of, words_at}
 use Rattle.rv_core.specs.declared.services.Service.{Service}
 use Rattle.rv_core.specs.declared.services.Service.TheVariants as service
 use Rattle.kernel_model.specs.Runs as run
@@ -67,8 +67,8 @@ unless_refused set m s o at step h = by_test (nat_lt o (length set.objects)) ref
     either None k = k
     either (Some failed) k = cause_is_outcome failed
 
-    by_test : (b : Bool) → nat_lt o (length set.objects) ≡ b → IsFit set m (unless (if b then misfit s at (object_at set o).size else Some Object) step)
-    by_test true e = either (misfit s at (object_at set o).size) (h (ltb-true o (length set.objects) e))
+    by_test : (b : Bool) → nat_lt o (length set.objects) ≡ b → IsFit set m (unless (if b then place_refusal s at (object_at set o).size else Some Object) step)
+    by_test true e = either (place_refusal s at (object_at set o).size) (h (ltb-true o (length set.objects) e))
     by_test false e = (omega arith, omega arith)
 
 -- the tests of a part; where none fails, it lies in the object
@@ -82,12 +82,12 @@ part_fits set m s o at first count h = by_object (nat_lt o (length set.objects))
     either None k = k
     either (Some failed) k = cause_is_outcome failed
 
-    by_range : o < length set.objects → (a b : Bool) → nat_le (first + count) size ≡ b → IsFit set m (unless (if a && b then misfit s at count else Some CallRange) (run.Reads s o))
+    by_range : o < length set.objects → (a b : Bool) → nat_le (first + count) size ≡ b → IsFit set m (unless (if a && b then place_refusal s at count else Some CallRange) (run.Reads s o))
     by_range l false b e = (omega arith, omega arith)
-    by_range l true true e = either (misfit s at count) (h l (leb-true (first + count) size e))
+    by_range l true true e = either (place_refusal s at count) (h l (leb-true (first + count) size e))
     by_range l true false e = (omega arith, omega arith)
 
-    by_object : (b : Bool) → nat_lt o (length set.objects) ≡ b → IsFit set m (unless (if b then (if nat_lt 0 count && nat_le (first + count) size then misfit s at count else Some CallRange) else Some Object) (run.Reads s o))
+    by_object : (b : Bool) → nat_lt o (length set.objects) ≡ b → IsFit set m (unless (if b then (if nat_lt 0 count && nat_le (first + count) size then place_refusal s at count else Some CallRange) else Some Object) (run.Reads s o))
     by_object true e = by_range (ltb-true o (length set.objects) e) (nat_lt 0 count) (nat_le (first + count) size) refl
     by_object false e = (omega arith, omega arith)
 

@@ -6,11 +6,14 @@ use Rattle.rv_core.specs.declared.services.Service.TheVariants as service
 use Rattle.nv_base.specs.declared.causes.TrapCause.{TrapCause}
 use Rattle.nv_base.specs.declared.causes.TrapCause.TheVariants as cause
 use Rattle.rv_core.specs.State.{MachineState, StepResult, Next, Calls, Traps}
-use Rattle.rv_core.specs.Machine.{step_of, first_state, misfit, service_of, words_at, with_register}
+use Rattle.rv_core.specs.Machine.{step_of, first_state, place_refusal, service_of, words_at, with_register}
 use Rattle.kernel_model.specs.Effects.{Exit}
 use Rattle.kernel_model.specs.Runs.{Step, TaskMachine, Went, Reads, Writes, Spawns, Ends}
+use Rattle.kernel_model.specs.Worlds.{World}
 use Rattle.set_model.specs.Sets.{TaskSet, object_at, program_at}
 use Rattle.set_model.specs.Views.{trap_of}
+use Rattle.set_model.specs.Numbers.{sizes_of}
+use Rattle.set_model.specs.Formatted.{formatted}
 
 -- behind the ECALL
 abbrev pub past : MachineState → MachineState
@@ -18,13 +21,13 @@ past s = record s { pc = s.pc + 4 }
 
 -- the first test of a READ or a WRITE that fails: Object, CallAlign, CallRange
 abbrev pub refusal : TaskSet → MachineState → ℕ → ℕ → Option TrapCause
-refusal set s o at = if nat_lt o (length set.objects) then misfit s at (object_at set o).size else Some cause.Object
+refusal set s o at = if nat_lt o (length set.objects) then place_refusal s at (object_at set o).size else Some cause.Object
 
 -- the first test of a READPART or a WRITEPART that fails: Object, CallRange of the object's words, CallAlign, CallRange of memory. The sums are whole numbers, and do not wrap
 abbrev pub part_refusal : TaskSet → MachineState → (object at first count : ℕ) → Option TrapCause
 part_refusal set s o at first count =
     if nat_lt o (length set.objects)
-    then (if nat_lt 0 count && nat_le (first + count) (object_at set o).size then misfit s at count else Some cause.CallRange)
+    then (if nat_lt 0 count && nat_le (first + count) (object_at set o).size then place_refusal s at count else Some cause.CallRange)
     else Some cause.Object
 
 -- the service, unless a test fails
@@ -99,3 +102,7 @@ task_steps set = record {
   spawned = given_index;
   left = λ s. s.fuel - s.count;
 }
+
+-- what stays in a run of a set from its formatted state
+abbrev pub world_of : TaskSet → World MachineState
+world_of set = record { steps = task_steps set; sizes = sizes_of set; base = formatted set }

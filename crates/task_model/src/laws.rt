@@ -9,8 +9,7 @@ ghost use Rattle.kernel_model.specs.Runs.{max_spawns};
 ghost use Rattle.set_model.specs.Sets.{TaskSet};
 ghost use Rattle.set_model.specs.Limits.{IsTaskSet};
 ghost use Rattle.set_model.specs.Numbers.{sizes_of};
-ghost use Rattle.set_model.specs.Formatted.{formatted};
-ghost use Rattle.task_model.specs.TaskSteps.{task_steps};
+ghost use Rattle.task_model.specs.TaskSteps.{task_steps, world_of};
 ghost use Rattle.task_model.specs.WorkedRuns.{AddsToObject, AsksForAnother, PartOfOwnWrite, PartsRefused, ReadsPart, SpawnsOn, SpawnsTwo, SumsUp, TrapsAfterWrite, WritesPart};
 
 use nv_base::limits::MAX_SPAWNS;
@@ -28,7 +27,7 @@ pub fn tasks_are_a_machine()
 
 /// So all laws of the kernel's model hold of the tasks of a set within the limits.
 pub fn task_set_is_set_up()
-    ensures { (set : TaskSet) → IsTaskSet set → IsSetUp (task_steps set) (sizes_of set) (formatted set) }
+    ensures { (set : TaskSet) → IsTaskSet set → IsSetUp (world_of set) }
 {
     tasks_are_a_machine();
     numbers_are_fit();

@@ -2,9 +2,9 @@
 use Rattle.std.proofs.Common.{◌≡◌, ℕ, ◌≤◌, Bool, true, false, cond, List, ◌∷◌, get_or, Option, Some, None, refl, ap, ◌∙◌, subst, arith}
 use Rattle.kernel_model.specs.Sizes.{Sizes}
 use Rattle.kernel_model.specs.Effects.{Programs, Run, written}
-use Rattle.kernel_model.specs.Runs.{TaskMachine}
 use Rattle.kernel_model.specs.Items.{FinishRecord}
 use Rattle.kernel_model.specs.Replay.{DeviceState}
+use Rattle.kernel_model.specs.Worlds.{World}
 use Rattle.kernel_model.specs.Versions.{Version}
 use Rattle.kernel_model.specs.Intervals.{touches}
 use Rattle.kernel_model.specs.Cores.{Committing, Idle, finished_by}
@@ -34,11 +34,11 @@ joining_commits {M} s (CoreStep n) i e = go s.power e
     go On e = (n, (finishes (get_or s.cores n Idle) i e).1)
     go (Boot left) e = absurd (cc e)
 
-pub above_bound : {M : Type 0} → (steps : TaskMachine M) (sizes : Sizes) (base : DeviceState) (s : State M) (floor o : ℕ) (e : Event) (i : FinishRecord) (words : List ℕ) (c : Chain) (held : List Held) → IsSound steps sizes base s → IsFloor base floor s
-    → StandsIn floor base s o c held → joining s e ≡ Some i → written i.run.writes o ≡ Some words → c.bound ≤ i.point
-above_bound steps sizes base s floor o e i words c held h f st g w =
+pub above_bound : {M : Type 0} → (world : World M) (s : State M) (floor o : ℕ) (e : Event) (i : FinishRecord) (words : List ℕ) (c : Chain) (held : List Held) → IsSound world s → IsFloor world.base floor s
+    → StandsIn floor world.base s o c held → joining s e ≡ Some i → written i.run.writes o ≡ Some words → c.bound ≤ i.point
+above_bound world s floor o e i words c held h f st g w =
     let k = joining_commits s e i g in
-    let low = commit_above steps sizes base s floor k.0 0 o i words h f k.1 w in
+    let low = commit_above world s floor k.0 0 o i words h f k.1 w in
     omega (arith, low, st.bound)
 
 -- with a step that keeps chains and bounds
@@ -57,13 +57,13 @@ step_on floor n m base o plan (Some i) g h c held joined low st p = wrote (writt
     wrote (Some words) w p = joins_installed floor n m base o (plan o) i words g h c held joined st w p.older (low i words refl w) p.spare
 
 -- with each event
-pub goes_on : {M : Type 0} → (steps : TaskMachine M) (sizes : Sizes) (base : DeviceState) (s : State M) (floor o : ℕ) (e : Event) (plan : ℕ → ℕ) (c : Chain) (held : List Held) → IsSound steps sizes base s → IsFloor base floor s
-    → StandsIn floor base s o c held → IsPlanned (is_needed base s.history o s.cores) plan (joining s e) o c held
-    → StandsIn floor base (event_step steps sizes base s e).0 o (after_joining plan (joining s e) o c) (held_joining plan (joining s e) o held)
-goes_on steps sizes base s floor o e plan c held h f st planned =
-    let t = (event_step steps sizes base s e).0 in
-    step_on floor (is_needed base s.history o s.cores) (is_needed base t.history o t.cores) base o plan (joining s e) s.history t.history c held (at_event steps sizes base s floor o e (joining s e) h f refl)
-    (λ i words g w. above_bound steps sizes base s floor o e i words c held h f st g w) st planned
+pub goes_on : {M : Type 0} → (world : World M) (s : State M) (floor o : ℕ) (e : Event) (plan : ℕ → ℕ) (c : Chain) (held : List Held) → IsSound world s → IsFloor world.base floor s
+    → StandsIn floor world.base s o c held → IsPlanned (is_needed world.base s.history o s.cores) plan (joining s e) o c held
+    → StandsIn floor world.base (event_step world s e).0 o (after_joining plan (joining s e) o c) (held_joining plan (joining s e) o held)
+goes_on world s floor o e plan c held h f st planned =
+    let t = (event_step world s e).0 in
+    step_on floor (is_needed world.base s.history o s.cores) (is_needed world.base t.history o t.cores) world.base o plan (joining s e) s.history t.history c held (at_event world s floor o e (joining s e) h f refl)
+    (λ i words g w. above_bound world s floor o e i words c held h f st g w) st planned
 
 -- a finish by a call stands at or after what touched the objects that it wrote
 pub call_above_bound : (whole : Programs) (sizes : Sizes) (base : DeviceState) (s : CallState) (n : ℕ) (m : Mark) (run : Run) (device : Option ℕ) (o : ℕ) (i : FinishRecord) (words : List ℕ) (c : Chain) (held : List Held)

@@ -1,10 +1,9 @@
 -- A spare slot stays spare until the finish joins.
 use Rattle.std.proofs.Common.{◌≡◌, ℕ, zero, suc, ◌<◌, inl, inr, Bool, true, false, eqb, ◌||◌, List, [], ◌∷◌, length, set, map, refl, sym, ap, ◌∙◌, subst, arith}
 use Rattle.std.specs.List.{AllByRecursion, list_any}
-use Rattle.kernel_model.specs.Sizes.{Sizes}
-use Rattle.kernel_model.specs.Runs.{TaskMachine}
 use Rattle.kernel_model.specs.Items.{FinishRecord}
 use Rattle.kernel_model.specs.Replay.{DeviceState}
+use Rattle.kernel_model.specs.Worlds.{World}
 use Rattle.kernel_model.specs.Versions.{Version, older, versions}
 use Rattle.kernel_model.specs.Cores.{Committing, Core, all_but}
 use Rattle.kernel_model.specs.Room.{is_needed, is_needed_by}
@@ -44,13 +43,13 @@ chain_spare floor a b f g k (h ∷ held) (v ∷ vs) o less c s =
     let tails : versions_of held ≡ c.0 = let e = c.1 in cc e in
     (λ e. absurd (cc (e, o)), part_spare floor a b f g k held vs less (subst (λ (p : List Version). IsPart floor a p vs) (sym tails) c.2) s.1)
 
-pub spare_kept : {M : Type 0} → (steps : TaskMachine M) (sizes : Sizes) (base : DeviceState) (s : State M) (floor o k : ℕ) (e : Event) (c : Chain) (held : List Held) → IsSound steps sizes base s → IsFloor base floor s
-    → StandsIn floor base s o c held → holds_newest k c.stored ≡ false → IsSpare base s.history o s.cores k held
-    → (let t = (event_step steps sizes base s e).0 in IsSpare base t.history o t.cores k held)
-spare_kept steps sizes base s floor o k e c held h f st n spare =
-    let t = (event_step steps sizes base s e).0 in
-    chain_spare floor (is_needed base s.history o s.cores) (is_needed base t.history o t.cores) (λ v. floor_needs base s.history floor o s.cores v f.starts)
-    (λ v. floor_needs base t.history floor o t.cores v (floor_kept steps sizes base s h floor f e).starts) k held (versions base o s.history) (ap (holds_newest k) (sym st.stored) ∙ n) (never_needed_again steps sizes base s h e o) st.chain spare
+pub spare_kept : {M : Type 0} → (world : World M) (s : State M) (floor o k : ℕ) (e : Event) (c : Chain) (held : List Held) → IsSound world s → IsFloor world.base floor s
+    → StandsIn floor world.base s o c held → holds_newest k c.stored ≡ false → IsSpare world.base s.history o s.cores k held
+    → (let t = (event_step world s e).0 in IsSpare world.base t.history o t.cores k held)
+spare_kept world s floor o k e c held h f st n spare =
+    let t = (event_step world s e).0 in
+    chain_spare floor (is_needed world.base s.history o s.cores) (is_needed world.base t.history o t.cores) (λ v. floor_needs world.base s.history floor o s.cores v f.starts)
+    (λ v. floor_needs world.base t.history floor o t.cores v (floor_kept world s h floor f e).starts) k held (versions world.base o s.history) (ap (holds_newest k) (sym st.stored) ∙ n) (never_needed_again world s h e o) st.chain spare
 
 -- one that needs nothing counts for nothing
 others_alone : {M : Type 0} → (p : Core M → Bool) (cores : List (Core M)) (n : ℕ) (c : Core M) → p c ≡ false → n < length cores → list_any p (set cores n c) ≡ list_any p (all_but n cores)

@@ -5,9 +5,9 @@ use Rattle.std.specs.List.{AllByRecursion}
 use Rattle.object_sets.specs.ObjectSets.{is_among}
 use Rattle.kernel_model.specs.Sizes.{Sizes}
 use Rattle.kernel_model.specs.Effects.{Programs, Run, Write, written}
-use Rattle.kernel_model.specs.Runs.{TaskMachine}
 use Rattle.kernel_model.specs.Items.{FinishRecord}
 use Rattle.kernel_model.specs.Replay.{DeviceState, clock_of}
+use Rattle.kernel_model.specs.Worlds.{World}
 use Rattle.kernel_model.specs.Versions.{Version, chosen, versions}
 use Rattle.kernel_model.specs.Intervals.{Interval, touches}
 use Rattle.kernel_model.specs.Cores.{Idle}
@@ -87,14 +87,14 @@ pub record HasJoined (floor : ℕ) (n m : Version → Bool) (base : DeviceState)
   pub bound : bound_of floor o h ≡ with_touch j o (bound_of floor o g)
 
 -- at an event
-pub at_event : {M : Type 0} → (steps : TaskMachine M) (sizes : Sizes) (base : DeviceState) (s : State M) (floor o : ℕ) (e : Event) (j : Option FinishRecord) → IsSound steps sizes base s → IsFloor base floor s → joining s e ≡ j
-    → (let t = (event_step steps sizes base s e).0 in HasJoined floor (is_needed base s.history o s.cores) (is_needed base t.history o t.cores) base o j s.history t.history)
-at_event steps sizes base s floor o e j h f g =
-    let t = (event_step steps sizes base s e).0 in
-    subst (λ (i : Option FinishRecord). HasJoined floor (is_needed base s.history o s.cores) (is_needed base t.history o t.cores) base o i s.history t.history) g (record {
-      same = λ v. floor_needs base s.history floor o s.cores v f.starts;
-      chain = λ chain c. chain_kept steps sizes base s h floor f e o chain c;
-      bound = bound_next steps sizes base s floor o e;
+pub at_event : {M : Type 0} → (world : World M) (s : State M) (floor o : ℕ) (e : Event) (j : Option FinishRecord) → IsSound world s → IsFloor world.base floor s → joining s e ≡ j
+    → (let t = (event_step world s e).0 in HasJoined floor (is_needed world.base s.history o s.cores) (is_needed world.base t.history o t.cores) world.base o j s.history t.history)
+at_event world s floor o e j h f g =
+    let t = (event_step world s e).0 in
+    subst (λ (i : Option FinishRecord). HasJoined floor (is_needed world.base s.history o s.cores) (is_needed world.base t.history o t.cores) world.base o i s.history t.history) g (record {
+      same = λ v. floor_needs world.base s.history floor o s.cores v f.starts;
+      chain = λ chain c. chain_kept world s h floor f e o chain c;
+      bound = bound_next world s floor o e;
     })
 
 -- at a begin

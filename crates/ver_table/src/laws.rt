@@ -4,11 +4,10 @@ ghost use Rattle.std.specs.Prelude.{ℕ, ◌≡◌, ◌≤◌, ◌<◌, ◌∷�
 ghost use Rattle.std.specs.List.{AllByRecursion};
 ghost use Rattle.interval.specs.declared.version.Pin.{Pin};
 ghost use Rattle.interval.specs.Ranges.{cut_to, raised_to};
-ghost use Rattle.kernel_model.specs.Sizes.{Sizes};
 ghost use Rattle.kernel_model.specs.Effects.{Run, object_words, written};
-ghost use Rattle.kernel_model.specs.Runs.{TaskMachine};
 ghost use Rattle.kernel_model.specs.Items.{FinishRecord};
 ghost use Rattle.kernel_model.specs.Replay.{DeviceState, clock_of};
+ghost use Rattle.kernel_model.specs.Worlds.{World};
 ghost use Rattle.kernel_model.specs.Versions.{Read, Version, chosen, versions};
 ghost use Rattle.kernel_model.specs.Intervals.{Interval, finish_interval, is_empty, read_interval, within};
 ghost use Rattle.kernel_model.specs.Cores.{Attempt, Core, all_but};
@@ -63,9 +62,9 @@ pub fn pin_stays<M>()
 
 /// An object has a place in the table exactly where it has room.
 pub fn place_is_room<M>()
-    ensures { (steps : TaskMachine M) (sizes : Sizes) (base : DeviceState) (s : State M) (floor o n : ℕ) (c : Chain) (held : List Held) (others : List Interval) (pins : List Pin)
-        → IsSound steps sizes base s → IsFloor base floor s → StandsIn floor base s o c held → AreOthers base s.history o held (all_but n s.cores) others pins → c.slots ≡ sizes.slots o
-        → has_place (is_needed o others pins) c ≡ has_room sizes base s.history (all_but n s.cores) o }
+    ensures { (world : World M) (s : State M) (floor o n : ℕ) (c : Chain) (held : List Held) (others : List Interval) (pins : List Pin)
+        → IsSound world s → IsFloor world.base floor s → StandsIn floor world.base s o c held → AreOthers world.base s.history o held (all_but n s.cores) others pins → c.slots ≡ world.sizes.slots o
+        → has_place (is_needed o others pins) c ≡ has_room world.sizes world.base s.history (all_but n s.cores) o }
 {}
 
 /// A free slot does not hold the newest version, and the others need nothing that it holds.
@@ -83,9 +82,9 @@ pub fn spare_when_committing<M>()
 
 /// A spare slot stays spare through an event.
 pub fn spare_slot_stays<M>()
-    ensures { (steps : TaskMachine M) (sizes : Sizes) (base : DeviceState) (s : State M) (floor o k : ℕ) (e : Event) (c : Chain) (held : List Held) → IsSound steps sizes base s → IsFloor base floor s
-        → StandsIn floor base s o c held → holds_newest k c.stored ≡ false → IsSpare base s.history o s.cores k held
-        → (let t = (event_step steps sizes base s e).0 in IsSpare base t.history o t.cores k held) }
+    ensures { (world : World M) (s : State M) (floor o k : ℕ) (e : Event) (c : Chain) (held : List Held) → IsSound world s → IsFloor world.base floor s
+        → StandsIn floor world.base s o c held → holds_newest k c.stored ≡ false → IsSpare world.base s.history o s.cores k held
+        → (let t = (event_step world s e).0 in IsSpare world.base t.history o t.cores k held) }
 {}
 
 /// A table that was opened at the base's clock stands for the base.
@@ -96,15 +95,15 @@ pub fn opened_table_stands()
 
 /// A finish that joins stands at or after the bound of each object that it wrote.
 pub fn finish_is_above_bound<M>()
-    ensures { (steps : TaskMachine M) (sizes : Sizes) (base : DeviceState) (s : State M) (floor o : ℕ) (e : Event) (i : FinishRecord) (words : List ℕ) (c : Chain) (held : List Held) → IsSound steps sizes base s → IsFloor base floor s
-        → StandsIn floor base s o c held → joining s e ≡ Some i → written i.run.writes o ≡ Some words → c.bound ≤ i.point }
+    ensures { (world : World M) (s : State M) (floor o : ℕ) (e : Event) (i : FinishRecord) (words : List ℕ) (c : Chain) (held : List Held) → IsSound world s → IsFloor world.base floor s
+        → StandsIn floor world.base s o c held → joining s e ≡ Some i → written i.run.writes o ≡ Some words → c.bound ≤ i.point }
 {}
 
 /// With each event the table goes on, where the plan has a free slot for what a finish that joins writes.
 pub fn table_goes_on<M>()
-    ensures { (steps : TaskMachine M) (sizes : Sizes) (base : DeviceState) (s : State M) (floor o : ℕ) (e : Event) (plan : ℕ → ℕ) (c : Chain) (held : List Held) → IsSound steps sizes base s → IsFloor base floor s
-        → StandsIn floor base s o c held → IsPlanned (needed_in base s.history o s.cores) plan (joining s e) o c held
-        → StandsIn floor base (event_step steps sizes base s e).0 o (after_joining plan (joining s e) o c) (held_joining plan (joining s e) o held) }
+    ensures { (world : World M) (s : State M) (floor o : ℕ) (e : Event) (plan : ℕ → ℕ) (c : Chain) (held : List Held) → IsSound world s → IsFloor world.base floor s
+        → StandsIn floor world.base s o c held → IsPlanned (needed_in world.base s.history o s.cores) plan (joining s e) o c held
+        → StandsIn floor world.base (event_step world s e).0 o (after_joining plan (joining s e) o c) (held_joining plan (joining s e) o held) }
 {}
 
 /// While all cores are idle, one version of each object, begun at the clock, stands for the history, with the clock as the floor.

@@ -2,4 +2,4 @@ use Rattle.kernel_model.proofs.Found.{programs_of_set}
 use Rattle.kernel_model.proofs.machine.open_task_has_program.Goals as goal
 
 pub returns : goal.returns
-returns g c = λ steps sizes base s set_up h. programs_of_set steps sizes base set_up s.history h.history
+returns g c = λ world s set_up h. programs_of_set world set_up s.history h.history

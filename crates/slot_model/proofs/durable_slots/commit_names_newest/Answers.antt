@@ -2,4 +2,4 @@ use Rattle.slot_model.proofs.Flips.{commit_names}
 use Rattle.slot_model.proofs.durable_slots.commit_names_newest.Goals as goal
 
 pub returns : goal.returns
-returns g c = λ m n left o i h e. commit_names m.steps m.sizes m.base m.state m.kept n left o i h e
+returns g c = λ m n left o i h e. commit_names m.world m.state m.kept n left o i h e

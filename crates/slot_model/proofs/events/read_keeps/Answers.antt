@@ -7,4 +7,4 @@ use Rattle.slot_model.specs.Moments.{StandsIn, stepped}
 use Rattle.slot_model.proofs.events.read_keeps.Goals as goal
 
 pub returns : goal.returns
-returns g c = λ m n copied a b r h on at turn e. subst (λ (k : Kept). StandsIn (record (stepped m n) { kept = k })) (ap (λ rs. pinned m.base m.state.history n a rs m.kept) e) (turn_stands m.steps m.sizes m.base m.floor m.state m.kept m.image n (Running a) (Copying b copied) h.lawful h.stands on at turn)
+returns g c = λ m n copied a b r h on at turn e. subst (λ (k : Kept). StandsIn (record (stepped m n) { kept = k })) (ap (λ rs. pinned m.world.base m.state.history n a rs m.kept) e) (turn_stands m.world m.floor m.state m.kept m.image n (Running a) (Copying b copied) h.lawful h.stands on at turn)

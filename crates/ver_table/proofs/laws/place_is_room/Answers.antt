@@ -8,10 +8,10 @@ use Rattle.ver_table.proofs.HeldLaws.{count_older, needs_of}
 use Rattle.ver_table.proofs.laws.place_is_room.Goals as goal
 
 pub returns : goal.returns
-returns g c = λ steps sizes base s floor o n x held others pins h f st are same.
-    let needs = needs_of base s.history o (all_but n s.cores) others pins held are.intervals_are are.pins_are in
+returns g c = λ world s floor o n x held others pins h f st are same.
+    let needs = needs_of world.base s.history o (all_but n s.cores) others pins held are.intervals_are are.pins_are in
     let counts =
     ap (λ (vs : List Stored). count (is_needed o others pins) (all_older vs)) st.stored
-    ∙ count_older base s.history o (all_but n s.cores) (is_needed o others pins) held needs
-    ∙ room_from_chain steps sizes base s h floor f o n (versions_of held) st.chain in
+    ∙ count_older world.base s.history o (all_but n s.cores) (is_needed o others pins) held needs
+    ∙ room_from_chain world s h floor f o n (versions_of held) st.chain in
     ap₂ (λ (a b : ℕ). leb (1 + a + 1) b) counts same
