@@ -1,9 +1,9 @@
 -- How the program ends. This project's own.
 use Rattle.std.specs.Prelude.{◌≡◌, ℕ, Option}
-use Rattle.sim_run.specs.Answers.{Answered, Exchange, HasReadFew, IsComplete, TellsReadFault}
+use Rattle.sim_run.specs.Answers.{Answered, Exchange, HasReadFew, IsComplete, NeverFalls, TellsReadFault}
 use Rattle.sim_run.specs.Promises.{KeepsHeadline}
-use Rattle.script.specs.Exits.{exit_of}
-use Rattle.script.specs.declared.status.Status.{Status}
+use Rattle.answers.specs.Exits.{exit_of}
+use Rattle.answers.specs.declared.status.Status.{Status}
 use Rattle.sim_run.specs.declared.command.Command.{Command}
 
 -- the exit number is that of an answer that the call may have
@@ -13,5 +13,6 @@ pub record EndsAs (command : Option Command) (x : Exchange) (exit : ℕ) : Type 
   pub answer : Answered command x status
   pub headline : KeepsHeadline command x status
   pub complete : IsComplete command x status
-  pub few : HasReadFew x status
-  pub told : TellsReadFault x status
+  pub few : HasReadFew x.source x.source_now status
+  pub told : TellsReadFault x.source x.source_now status
+  pub never_falls : NeverFalls x

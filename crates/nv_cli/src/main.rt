@@ -2,26 +2,30 @@
 //! What std says of the process is taken on trust: its words, what is read and written, and the status that it ends with.
 #![tactic(auto)]
 
-ghost use Rattle.std.specs.Prelude.{◌≡◌, IfOk, OnErr, drop, map, string_bytes};
+ghost use Rattle.std.specs.Prelude.{◌≡◌, ◌↔◌, [], IfErr, IfOk, IsErr, OnErr, drop, map, string_bytes};
+ghost use Rattle.std_io.specs.IoError.{error_kind};
+ghost use Rattle.std_io.specs.declared.io.kind.ErrorKind.TheVariants.{OutOfMemory};
 ghost use Rattle.std.specs.Process.{exit_status};
 ghost use Rattle.std.specs.Rc.{rc_str_bytes};
 ghost use Rattle.std.specs.Vec.Iter.{into_iter_items};
-ghost use Rattle.script.specs.Exits.{exit_of};
+ghost use Rattle.answers.specs.Exits.{exit_of};
 ghost use Rattle.sim_run.specs.Answers.{exchange};
 ghost use Rattle.sim_run.specs.Commands.{command_of};
 ghost use Rattle.nv_cli.specs.Calls.{EndsAs};
 
+use answers::Status;
 use nv_base::{NoMemory, Sink, Source, StdSink, StdSource};
-use sim_run::{Status, simulate};
+use sim_run::simulate;
 use std::alloc::Global;
-use std::env::{Args, Env};
+use std::env::Args;
 use std::process::ExitCode;
 use std::rc::RcStr;
 use std::{env, io};
 
 /// The words of a call: the arguments behind the program's name.
 fn command_words(alloc: Global, mut arguments: Args) -> Result<Vec<RcStr>, NoMemory>
-    ensures { IfOk result (λ words. map rc_str_bytes words.items ≡ drop 1 (map string_bytes (into_iter_items arguments))) }
+    ensures { let given = drop 1 (map string_bytes (into_iter_items arguments)) in
+        IfOk result (λ words. map rc_str_bytes words.items ≡ given) }
 {
     let _name = arguments.next();
     let mut words = Vec::new(alloc);
@@ -31,12 +35,18 @@ fn command_words(alloc: Global, mut arguments: Args) -> Result<Vec<RcStr>, NoMem
     Ok(words)
 }
 
-/// The words that the program was called with. Words that are not all text are no command, as no words are.
-fn given_words<R: Env + AllocGlobal>(rt: &R) -> Result<Vec<RcStr>, NoMemory> {
-    match env::args(rt) {
-        Ok(arguments) => command_words(rt.alloc(), arguments),
+/// The words that the program was called with, by what std answers. Words that are not all text are
+/// no command, as no words are.
+fn given_words(alloc: Global, given: io::Result<Args>) -> Result<Vec<RcStr>, NoMemory>
+    ensures words { IfOk given (λ all. IfOk result (λ words. map rc_str_bytes words.items
+        ≡ drop 1 (map string_bytes (into_iter_items all)))) }
+    ensures none { IfErr given (λ e. IfOk result (λ words. words.items ≡ [])) }
+    ensures memory { IfErr given (λ e. IsErr result ↔ (error_kind e ≡ OutOfMemory)) }
+{
+    match given {
+        Ok(arguments) => command_words(alloc, arguments),
         Err(error) if error.kind() == io::ErrorKind::OutOfMemory => Err(NoMemory),
-        Err(_) => Ok(Vec::new(rt.alloc())),
+        Err(_) => Ok(Vec::new(alloc)),
     }
 }
 
@@ -54,9 +64,11 @@ fn call<S: Source, K: Sink>(
     src: &mut S,
     out: &mut K,
 ) -> ExitCode
-    ensures answered { IfOk words (λ ws. EndsAs (command_of (map rc_str_bytes ws.items)) (exchange S.left S.faults K.taken K.faults src.old src.new out.old out.new) (exit_status result)) }
-    ensures unread { OnErr words (exit_status result ≡ exit_of Status.NoMemory) }
-    ensures untouched { OnErr words ((S.left src.new ≡ S.left src.old) × (K.taken out.new ≡ K.taken out.old)) }
+    ensures answered { let x = exchange S.seen K.seen src.old src.new out.old out.new in
+        IfOk words (λ ws. EndsAs (command_of (map rc_str_bytes ws.items)) x (exit_status result)) }
+    ensures no_memory { OnErr words (exit_status result ≡ exit_of Status.NoMemory) }
+    ensures nothing_read { OnErr words (S.seen src.new ≡ S.seen src.old) }
+    ensures nothing_put { OnErr words (K.seen out.new ≡ K.seen out.old) }
 {
     match words {
         Ok(words) => exit_code(simulate(alloc, words.as_slice(), src, out)),
@@ -65,7 +77,7 @@ fn call<S: Source, K: Sink>(
 }
 
 fn main(rt: HostRuntime) -> ExitCode {
-    let words = given_words(&rt);
+    let words = given_words(rt.alloc(), env::args(&rt));
     if words.is_err() {
         // a failure to say so changes no status
         let _ = rt.eprintln("error memory");

@@ -12,5 +12,5 @@ pub mod Reading
 pub mod Laws
 -- How the code meets them.
 pub mod Causes
+pub mod CauseWords
 pub mod Views
-pub mod Exits

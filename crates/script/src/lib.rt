@@ -2,6 +2,7 @@
 #![tactic(auto)]
 
 mod block;
+mod cause_words;
 mod draft;
 mod items;
 mod keyword;
@@ -11,14 +12,12 @@ mod reading;
 mod refusals;
 mod section;
 mod set_lines;
-mod status;
 mod timeline;
 mod words;
 
 pub use keyword::{BlockKind, Keyword, Stage};
 pub use reading::{Script, read_script};
 pub use refusals::{ScriptCause, ScriptError, ScriptRefusal};
-pub use status::{ImageFault, Status};
 
 #[cfg(test)]
 mod tests;

@@ -1,13 +1,17 @@
 -- From what was read, or not read, to what a call has done.
-use Rattle.std.proofs.Common.{◌≡◌, ℕ, ◌+◌, ◌≤◌, cond, true, List, [], length, Option, Some, None, inl, inr, ap, sym, subst, arith, ltb}
+use Rattle.std.proofs.Common.{◌≡◌, ℕ, ◌+◌, ◌≤◌, cond, true, List, [], length, Option, Some, None, inl, inr, ap, sym, subst, refl, arith, ltb}
 use Rattle.std.proofs.lemmas.Bool.{lt-ltb}
-use Rattle.nv_base.specs.Streams.{AreGone, GaveAll}
+use Rattle.nv_base.specs.Streams.{AreGone, GaveAll, ReadsAll, Stream}
 use Rattle.sim_run.specs.Replies.{Refuses, reply, reply_within, too_long, most_input}
-use Rattle.sim_run.specs.Answers.{Exchange, IsCutOff, IsDone, OfInput, ReadFailed, WriteFailed}
-use Rattle.sim_run.specs.Carried.{CarriedOutTo, Replied, Unread}
+use Rattle.sim_run.specs.Answers.{Exchange, HasReadFew, IsCutOff, IsDone, OfInput, TellsReadFault}
+use Rattle.sim_run.specs.BeforeAnswerLine.{BeforeAnswerLine, PutReply, Unread}
 use Rattle.sim_run.specs.declared.command.Command.{Command}
-use Rattle.script.specs.declared.status.Status.{Status}
-use Rattle.script.specs.declared.status.Status.TheVariants.{Done, Usage, ReadFault, WriteFault, NoMemory, NotBuilt, Script, Packed}
+use Rattle.answers.specs.declared.status.Status.{Status}
+use Rattle.answers.specs.declared.status.Status.TheVariants.{Done, Usage, ReadFault, WriteFault, NoMemory, NotBuilt, Script, Packed}
+use Rattle.sim_run.proofs.Answering.{stood}
+use Rattle.sim_run.proofs.Gone.{all_gone}
+
+-- ---- an input that was not read
 
 -- more bytes than a call reads
 refuses_long : (c : Command) (input : List ℕ) → most_input + 1 ≤ length input → reply c input ≡ Refuses (Script too_long)
@@ -20,15 +24,47 @@ long_input : (c : Command) (left now : Option (List ℕ)) → AreGone left now (
 long_input c None now h = tt
 long_input c (Some input) now h = refuses_long c input h.0
 
-pub unread : (c : Command) (x : Exchange) (status : Status) → x.taken_now ≡ x.taken → Unread x.left x.left_now (ReadFailed x) status → CarriedOutTo c x status
-unread c x ReadFault e h = (h, e)
-unread c x (Script s) e h = (inr h.1, subst (λ t. OfInput x.left (λ input. reply c input ≡ Refuses (Script t))) (sym h.0) (long_input c x.left x.left_now h.1), e)
+pub unread : (c : Command) (x : Exchange) (status : Status) → x.sink_now ≡ x.sink → Unread x.source x.source_now status → BeforeAnswerLine (Some c) x status
+unread c x ReadFault e h = (h.1, e)
+unread c x (Script s) e h = (inr h.1.0, subst (λ t. OfInput x.source.bytes (λ input. reply c input ≡ Refuses (Script t))) (sym h.0) (long_input c x.source.bytes x.source_now.bytes h.1.0), e)
 unread c x NoMemory e h = e
 unread c x Done e h = absurd h
 unread c x Usage e h = absurd h
 unread c x WriteFault e h = absurd h
 unread c x NotBuilt e h = absurd h
 unread c x (Packed p) e h = absurd h
+
+pub unread_few : (old new : Stream) (status : Status) → Unread old new status → HasReadFew old new status
+unread_few old new ReadFault h = inl h.0
+unread_few old new (Script s) h = inr (ap (λ t. Script t) h.0, h.1.0)
+unread_few old new NoMemory h = inl h.0
+unread_few old new Done h = absurd h
+unread_few old new Usage h = absurd h
+unread_few old new WriteFault h = absurd h
+unread_few old new NotBuilt h = absurd h
+unread_few old new (Packed p) h = absurd h
+
+pub unread_told : (old new : Stream) (status : Status) → Unread old new status → TellsReadFault old new status
+unread_told old new ReadFault h = inr refl
+unread_told old new (Script s) h = inl h.1.1
+unread_told old new NoMemory h = inl h.1
+unread_told old new Done h = absurd h
+unread_told old new Usage h = absurd h
+unread_told old new WriteFault h = absurd h
+unread_told old new NotBuilt h = absurd h
+unread_told old new (Packed p) h = absurd h
+
+pub unread_counts : (old new : Stream) (status : Status) → Unread old new status → old.faults ≤ new.faults
+unread_counts old new ReadFault h = h.1.0
+unread_counts old new (Script s) h = stood old.faults new.faults h.1.1
+unread_counts old new NoMemory h = stood old.faults new.faults h.1
+unread_counts old new Done h = absurd h
+unread_counts old new Usage h = absurd h
+unread_counts old new WriteFault h = absurd h
+unread_counts old new NotBuilt h = absurd h
+unread_counts old new (Packed p) h = absurd h
+
+-- ---- an input that was read
 
 all_read : (left now : Option (List ℕ)) (bytes : List ℕ) → GaveAll left now bytes → OfInput left (λ input. now ≡ Some [])
 all_read None now bytes h = tt
@@ -38,16 +74,29 @@ of_given : (left now : Option (List ℕ)) (bytes : List ℕ) (P : List ℕ → T
 of_given None now bytes P h p = tt
 of_given (Some input) now bytes P h p = subst P (sym h.0) p
 
-pub replied : (c : Command) (x : Exchange) (bytes : List ℕ) (status : Status) → GaveAll x.left x.left_now bytes → Replied (reply c bytes) (WriteFailed x) x.taken x.taken_now status → CarriedOutTo c x status
-replied c x bytes Done g h = (all_read _ _ _ g, of_given x.left x.left_now bytes (IsDone c x) g (record { text = h.0; replies = h.1; put = h.2 }))
-replied c x bytes Usage g h = absurd h
-replied c x bytes ReadFault g h = absurd h
-replied c x bytes WriteFault g h = (h.0, all_read _ _ _ g, of_given x.left x.left_now bytes (IsCutOff c x) g (record { text = h.1.0; replies = h.1.1; put = h.1.2 }))
-replied c x bytes NoMemory g h = h
-replied c x bytes NotBuilt g h = (inl (all_read _ _ _ g), of_given x.left x.left_now bytes (λ input. reply c input ≡ Refuses NotBuilt) g h.0, h.1)
-replied c x bytes (Script s) g h = (inl (all_read _ _ _ g), of_given x.left x.left_now bytes (λ input. reply c input ≡ Refuses (Script s)) g h.0, h.1)
-replied c x bytes (Packed p) g h = (inl (all_read _ _ _ g), of_given x.left x.left_now bytes (λ input. reply c input ≡ Refuses (Packed p)) g h.0, h.1)
+refused : (c : Command) (x : Exchange) (bytes : List ℕ) (status : Status) → GaveAll x.source.bytes x.source_now.bytes bytes → reply c bytes ≡ Refuses status
+    → OfInput x.source.bytes (λ input. reply c input ≡ Refuses status)
+refused c x bytes status g e = of_given x.source.bytes x.source_now.bytes bytes (λ input. reply c input ≡ Refuses status) g e
+
+replied_to : (c : Command) (x : Exchange) (bytes : List ℕ) (status : Status) → GaveAll x.source.bytes x.source_now.bytes bytes → PutReply (reply c bytes) x.sink x.sink_now status
+    → BeforeAnswerLine (Some c) x status
+replied_to c x bytes Done g h = (all_read _ _ _ g, of_given x.source.bytes x.source_now.bytes bytes (IsDone c x) g (record { text = h.0; replies = h.1; put = h.2 }))
+replied_to c x bytes Usage g h = absurd h
+replied_to c x bytes ReadFault g h = absurd h
+replied_to c x bytes WriteFault g h =
+    (h.2.counted, all_read _ _ _ g, of_given x.source.bytes x.source_now.bytes bytes (IsCutOff c x) g (record { text = h.0; replies = h.1; put = h.2 }))
+replied_to c x bytes NoMemory g h = h
+replied_to c x bytes NotBuilt g h = (inl (all_read _ _ _ g), refused c x bytes NotBuilt g h.0, h.1)
+replied_to c x bytes (Script s) g h = (inl (all_read _ _ _ g), refused c x bytes (Script s) g h.0, h.1)
+replied_to c x bytes (Packed p) g h = (inl (all_read _ _ _ g), refused c x bytes (Packed p) g h.0, h.1)
+
+pub replied : (c : Command) (x : Exchange) (bytes : List ℕ) (status : Status) → ReadsAll bytes x.source x.source_now → PutReply (reply c bytes) x.sink x.sink_now status
+    → BeforeAnswerLine (Some c) x status
+replied c x bytes status g h = replied_to c x bytes status g.gave h
+
+pub read_few : (old new : Stream) (bytes : List ℕ) (status : Status) → ReadsAll bytes old new → length bytes ≤ most_input → HasReadFew old new status
+read_few old new bytes status g l = inl (all_gone old.bytes new.bytes bytes most_input g.gave l)
 
 -- what is promised of the input
-pub promised : (P : List ℕ → Type 0) (left now : Option (List ℕ)) (bytes : List ℕ) → GaveAll left now bytes → P bytes → OfInput left P
-promised P left now bytes g p = of_given left now bytes P g p
+pub promised : (P : List ℕ → Type 0) (old new : Stream) (bytes : List ℕ) → ReadsAll bytes old new → P bytes → OfInput old.bytes P
+promised P old new bytes g p = of_given old.bytes new.bytes bytes P g.gave p

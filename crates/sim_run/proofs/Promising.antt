@@ -5,8 +5,8 @@ use Rattle.headline.specs.Headline.{Headline}
 use Rattle.headline.specs.Report.{report_text}
 use Rattle.script.specs.Parts as scripts
 use Rattle.script.specs.Reading.{read}
-use Rattle.script.specs.declared.status.Status.{Status}
-use Rattle.script.specs.declared.status.Status.TheVariants.{Done, NotBuilt, Script}
+use Rattle.answers.specs.declared.status.Status.{Status}
+use Rattle.answers.specs.declared.status.Status.TheVariants.{Done, NotBuilt, Script}
 use Rattle.sim_run.specs.declared.command.Command.{Command}
 use Rattle.sim_run.specs.declared.command.Command.TheVariants.{Run}
 use Rattle.sim_run.specs.Replies.{Puts, Refuses, is_built, most_input, reply, run_reply, too_long}
@@ -41,7 +41,7 @@ both : (x : Exchange) (left : Option (List ℕ)) → OfInput left IsPromised →
 both x None p d = tt
 both x (Some input) p d = headlined x input p d
 
-pub keeps_headline : (command : Option Command) (x : Exchange) (status : Status) → (command ≡ Some Run → status ≡ Done → OfInput x.left IsPromised) → Answered command x status → KeepsHeadline command x status
+pub keeps_headline : (command : Option Command) (x : Exchange) (status : Status) → (command ≡ Some Run → status ≡ Done → OfInput x.source.bytes IsPromised) → Answered command x status → KeepsHeadline command x status
 keeps_headline command x status p h = λ run done.
     let at : Answered (Some Run) x Done = subst (λ s. Answered (Some Run) x s) done (subst (λ c. Answered c x status) run h) in
-    both x x.left (p run done) at.1
+    both x x.source.bytes (p run done) at.1

@@ -1,15 +1,15 @@
 -- The parts of what is read back, line by line.
-use Rattle.std.proofs.Common.{◌≡◌, ℕ, zero, suc, ◌+◌, ◌≤◌, ◌<◌, List, [], ◌∷◌, ◌++◌, length, take, drop, get_or, map, Option, refl, ap, sym, ◌∙◌, append_assoc, add-one, arith}
+use Rattle.std.proofs.Common.{◌≡◌, ℕ, zero, suc, ◌+◌, ◌≤◌, ◌<◌, List, [], ◌∷◌, ◌++◌, length, take, drop, get_or, map, refl, ap, sym, subst, ◌∙◌, append_assoc, add-one, arith}
 use Rattle.std.specs.List.{AllByRecursion, flat_map}
 use Rattle.std.proofs.lemmas.Grind.{flat_map-append}
 use Rattle.std.proofs.lemmas.List.Concat.{flat_map-cons}
 use Rattle.std.proofs.lemmas.List.{append-nil, take_all, take_more, take-append-drop}
-use Rattle.nv_base.specs.Streams.{PutFront, appended}
+use Rattle.nv_base.specs.Streams.{PutsFront, PutsText, Stream}
 use Rattle.kernel_model.specs.Effects.{Objects}
 use Rattle.set_model.specs.Sets.{ObjPart}
 use Rattle.report_text.specs.Lines.{object_text}
 use Rattle.report_text.specs.Report.{objects_text}
-use Rattle.sim_run.proofs.Fronts.{front_here, front_later, front_next, put_more}
+use Rattle.sim_run.proofs.Fronts.{front_here, front_later, front_next, puts_more}
 
 -- ---- texts of a list, one after another
 
@@ -20,16 +20,16 @@ module _ {A : Type 0} (text : A → List ℕ) where
   pub text_split : (xs : List A) (i : ℕ) → flat_map text xs ≡ flat_map text (take i xs) ++ flat_map text (drop i xs)
   text_split xs i = ap (flat_map text) (sym (take-append-drop i xs)) ∙ flat_map-append text (take i xs) (drop i xs)
 
-  pub next_text : (xs : List A) (i : ℕ) (d : A) (o p q : Option (List ℕ)) → i < length xs → p ≡ appended o (flat_map text (take i xs)) → q ≡ appended p (text (get_or xs i d)) → q ≡ appended o (flat_map text (take (i + 1) xs))
-  next_text xs i d o p q l e f = put_more o p q _ _ e f ∙ ap (appended o) (sym (text_more xs i d l))
+  pub next_text : (xs : List A) (i : ℕ) (d : A) (o p q : Stream) → i < length xs → PutsText (flat_map text (take i xs)) o p → PutsText (text (get_or xs i d)) p q → PutsText (flat_map text (take (i + 1) xs)) o q
+  next_text xs i d o p q l e f = subst (λ t. PutsText t o q) (sym (text_more xs i d l)) (puts_more o p q _ _ e f)
 
-  pub cut_text : (xs : List A) (i : ℕ) (d : A) (o p q : Option (List ℕ)) → i < length xs → p ≡ appended o (flat_map text (take i xs)) → PutFront p q (text (get_or xs i d)) → PutFront o q (flat_map text xs)
+  pub cut_text : (xs : List A) (i : ℕ) (d : A) (o p q : Stream) → i < length xs → PutsText (flat_map text (take i xs)) o p → PutsFront (text (get_or xs i d)) p q → PutsFront (flat_map text xs) o q
   cut_text xs i d o p q l e f =
       front_later o p q (flat_map text (take i xs)) (text (get_or xs i d)) (flat_map text (drop (i + 1) xs)) (flat_map text xs)
       (text_split xs (i + 1) ∙ ap (λ t. t ++ flat_map text (drop (i + 1) xs)) (text_more xs i d l)) e f
 
-  pub last_text : (xs : List A) (i : ℕ) (o p : Option (List ℕ)) → length xs ≤ i → p ≡ appended o (flat_map text (take i xs)) → p ≡ appended o (flat_map text xs)
-  last_text xs i o p l e = e ∙ ap (λ x. appended o (flat_map text x)) (take_all i xs l)
+  pub last_text : (xs : List A) (i : ℕ) (o p : Stream) → length xs ≤ i → PutsText (flat_map text (take i xs)) o p → PutsText (flat_map text xs) o p
+  last_text xs i o p l e = subst (λ x. PutsText (flat_map text x) o p) (take_all i xs l) e
 
 -- ---- objects
 
@@ -62,19 +62,20 @@ objects_split (p ∷ parts) (w ∷ objects) (suc i) =
     ap (λ t. object_text p.name w ++ t) (objects_split parts objects i)
     ∙ sym (append_assoc (object_text p.name w) (objects_text (take i parts) (take i objects)) (objects_text (drop i parts) (drop i objects)))
 
-pub next_object : (parts : List ObjPart) (objects : Objects) (none : ObjPart) (i : ℕ) (o p q : Option (List ℕ)) → i < length parts → length objects ≡ length parts
-    → p ≡ appended o (objects_text (take i parts) (take i objects)) → q ≡ appended p (object_line parts objects none i) → q ≡ appended o (objects_text (take (i + 1) parts) (take (i + 1) objects))
-next_object parts objects none i o p q l s e f = put_more o p q _ _ e f ∙ ap (appended o) (sym (objects_more parts objects none i l s))
+pub next_object : (parts : List ObjPart) (objects : Objects) (none : ObjPart) (i : ℕ) (o p q : Stream) → i < length parts → length objects ≡ length parts
+    → PutsText (objects_text (take i parts) (take i objects)) o p → PutsText (object_line parts objects none i) p q → PutsText (objects_text (take (i + 1) parts) (take (i + 1) objects)) o q
+next_object parts objects none i o p q l s e f = subst (λ t. PutsText t o q) (sym (objects_more parts objects none i l s)) (puts_more o p q _ _ e f)
 
-pub cut_object : (parts : List ObjPart) (objects : Objects) (none : ObjPart) (i : ℕ) (o p q : Option (List ℕ)) → i < length parts → length objects ≡ length parts
-    → p ≡ appended o (objects_text (take i parts) (take i objects)) → PutFront p q (object_line parts objects none i) → PutFront o q (objects_text parts objects)
+pub cut_object : (parts : List ObjPart) (objects : Objects) (none : ObjPart) (i : ℕ) (o p q : Stream) → i < length parts → length objects ≡ length parts
+    → PutsText (objects_text (take i parts) (take i objects)) o p → PutsFront (object_line parts objects none i) p q → PutsFront (objects_text parts objects) o q
 cut_object parts objects none i o p q l s e f =
     front_later o p q (objects_text (take i parts) (take i objects)) (object_line parts objects none i) (objects_text (drop (i + 1) parts) (drop (i + 1) objects)) (objects_text parts objects)
     (objects_split parts objects (i + 1) ∙ ap (λ t. t ++ objects_text (drop (i + 1) parts) (drop (i + 1) objects)) (objects_more parts objects none i l s)) e f
 
-pub last_object : (parts : List ObjPart) (objects : Objects) (i : ℕ) (o p : Option (List ℕ)) → length parts ≤ i → length objects ≡ length parts
-    → p ≡ appended o (objects_text (take i parts) (take i objects)) → p ≡ appended o (objects_text parts objects)
-last_object parts objects i o p l s e = e ∙ ap (λ x. appended o (objects_text x (take i objects))) (take_all i parts l) ∙ ap (λ x. appended o (objects_text parts x)) (take_all i objects (omega arith))
+pub last_object : (parts : List ObjPart) (objects : Objects) (i : ℕ) (o p : Stream) → length parts ≤ i → length objects ≡ length parts
+    → PutsText (objects_text (take i parts) (take i objects)) o p → PutsText (objects_text parts objects) o p
+last_object parts objects i o p l s e =
+    subst (λ x. PutsText (objects_text parts x) o p) (take_all i objects (omega arith)) (subst (λ x. PutsText (objects_text x (take i objects)) o p) (take_all i parts l) e)
 
 pub of_mapped : {A B : Type 0} (f : B → List ℕ) (g : A → B) (xs : List A) → flat_map f (map g xs) ≡ flat_map (λ x. f (g x)) xs
 of_mapped f g [] = refl
@@ -87,17 +88,17 @@ at_place P (x ∷ xs) (suc i) d h l = at_place P xs i d h.1 (omega arith)
 
 -- ---- four parts, one after another
 
-pub cut_first : (o q : Option (List ℕ)) (a b c d : List ℕ) → PutFront o q a → PutFront o q (((a ++ b) ++ c) ++ d)
+pub cut_first : (o q : Stream) (a b c d : List ℕ) → PutsFront a o q → PutsFront (((a ++ b) ++ c) ++ d) o q
 cut_first o q a b c d h = front_here o q ((a ++ b) ++ c) d (front_here o q (a ++ b) c (front_here o q a b h))
 
-pub cut_second : (o p q : Option (List ℕ)) (a b c d : List ℕ) → p ≡ appended o a → PutFront p q b → PutFront o q (((a ++ b) ++ c) ++ d)
+pub cut_second : (o p q : Stream) (a b c d : List ℕ) → PutsText a o p → PutsFront b p q → PutsFront (((a ++ b) ++ c) ++ d) o q
 cut_second o p q a b c d e h = front_here o q ((a ++ b) ++ c) d (front_here o q (a ++ b) c (front_next o p q a b e h))
 
-pub cut_third : (o p q r : Option (List ℕ)) (a b c d : List ℕ) → p ≡ appended o a → q ≡ appended p b → PutFront q r c → PutFront o r (((a ++ b) ++ c) ++ d)
-cut_third o p q r a b c d e f h = front_here o r ((a ++ b) ++ c) d (front_next o q r (a ++ b) c (put_more o p q a b e f) h)
+pub cut_third : (o p q r : Stream) (a b c d : List ℕ) → PutsText a o p → PutsText b p q → PutsFront c q r → PutsFront (((a ++ b) ++ c) ++ d) o r
+cut_third o p q r a b c d e f h = front_here o r ((a ++ b) ++ c) d (front_next o q r (a ++ b) c (puts_more o p q a b e f) h)
 
-pub cut_fourth : (o p q r t : Option (List ℕ)) (a b c d : List ℕ) → p ≡ appended o a → q ≡ appended p b → r ≡ appended q c → PutFront r t d → PutFront o t (((a ++ b) ++ c) ++ d)
-cut_fourth o p q r t a b c d e f g h = front_next o r t ((a ++ b) ++ c) d (put_more o q r (a ++ b) c (put_more o p q a b e f) g) h
+pub cut_fourth : (o p q r t : Stream) (a b c d : List ℕ) → PutsText a o p → PutsText b p q → PutsText c q r → PutsFront d r t → PutsFront (((a ++ b) ++ c) ++ d) o t
+cut_fourth o p q r t a b c d e f g h = front_next o r t ((a ++ b) ++ c) d (puts_more o q r (a ++ b) c (puts_more o p q a b e f) g) h
 
-pub all_four : (o p q r t : Option (List ℕ)) (a b c d : List ℕ) → p ≡ appended o a → q ≡ appended p b → r ≡ appended q c → t ≡ appended r d → t ≡ appended o (((a ++ b) ++ c) ++ d)
-all_four o p q r t a b c d e f g h = put_more o r t ((a ++ b) ++ c) d (put_more o q r (a ++ b) c (put_more o p q a b e f) g) h
+pub all_four : (o p q r t : Stream) (a b c d : List ℕ) → PutsText a o p → PutsText b p q → PutsText c q r → PutsText d r t → PutsText (((a ++ b) ++ c) ++ d) o t
+all_four o p q r t a b c d e f g h = puts_more o r t ((a ++ b) ++ c) d (puts_more o q r (a ++ b) c (puts_more o p q a b e f) g) h

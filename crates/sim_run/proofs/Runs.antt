@@ -1,10 +1,10 @@
 -- A run of the kernel, event by event.
-use Rattle.std.proofs.Common.{◌≡◌, ℕ, zero, suc, ◌+◌, ◌<◌, ◌≤◌, List, [], ◌∷◌, ◌++◌, length, take, drop, Option, Some, ap, sym, ◌∙◌, subst, append_assoc, arith}
+use Rattle.std.proofs.Common.{◌≡◌, ℕ, zero, suc, ◌+◌, ◌<◌, ◌≤◌, List, [], ◌∷◌, ◌++◌, length, take, drop, Some, ap, sym, ◌∙◌, subst, append_assoc, arith}
 use Rattle.std.specs.List.{AllByRecursion}
 use Rattle.std.specs.Prelude.{slice_get}
 use Rattle.std.proofs.lemmas.Grind.{flat_map-append}
 use Rattle.std.proofs.lemmas.List.{append-nil, take_all, take-append-drop}
-use Rattle.nv_base.specs.Streams.{PutFront, appended}
+use Rattle.nv_base.specs.Streams.{PutsFront, PutsText, Stream}
 use Rattle.rv_core.specs.State.{MachineState}
 use Rattle.nv_base.specs.declared.lines.Line as base
 use Rattle.kernel_model.specs.Turns.{Line}
@@ -25,7 +25,7 @@ use Rattle.kernel_core.specs.Invariant.{IsValid, finishes}
 use Rattle.kernel_core.specs.Represents.{Simulates, Represents, durable_of, left_in}
 use Rattle.kernel_core.specs.declared.kernel.Kernel.{Kernel}
 use Rattle.sim_run.specs.Runs.{Carries, first_lines_text, tail_of}
-use Rattle.sim_run.proofs.Fronts.{front_later, front_next, put_more}
+use Rattle.sim_run.proofs.Fronts.{front_later, front_next, puts_more}
 
 -- without failures, each event of one core is its step
 pub each_is_step : (events : List Event) (n : ℕ) → failure_count events ≡ 0 → AllByRecursion (λ core. core < 1) (cores_stepped events) → n < length events → slice_get events n ≡ Some (CoreStep 0)
@@ -65,12 +65,12 @@ one_line_more set events k j n l c e h =
     let t = leads_to set events k j n l c e h in
     ap (lines_text set) t.lines ∙ flat_map-append (line_text set) (event_lines set (take n events)) (line_of l ∷ []) ∙ ap (λ x. first_lines_text set events n ++ x) (append-nil (line_text set (line_of l)))
 
-pub line_put : (set : TaskSet) (events : List Event) (k j : Kernel) (n : ℕ) (l : base.Line) (o p q : Option (List ℕ)) (at : TaskSet)
+pub line_put : (set : TaskSet) (events : List Event) (k j : Kernel) (n : ℕ) (l : base.Line) (o p q : Stream) (at : TaskSet)
     → Carries set events k n → slice_get events n ≡ Some (CoreStep 0) → Simulates k j l → at ≡ set
-    → p ≡ appended o (first_lines_text set events n) → q ≡ appended p (line_text at (line_of l)) → q ≡ appended o (first_lines_text set events (n + 1))
+    → PutsText (first_lines_text set events n) o p → PutsText (line_text at (line_of l)) p q → PutsText (first_lines_text set events (n + 1)) o q
 line_put set events k j n l o p q at c e h s f g =
-    put_more o p q (first_lines_text set events n) (line_text set (line_of l)) f (subst (λ x. q ≡ appended p (line_text x (line_of l))) s g)
-    ∙ ap (appended o) (sym (one_line_more set events k j n l c e h))
+    subst (λ t. PutsText t o q) (sym (one_line_more set events k j n l c e h))
+    (puts_more o p q (first_lines_text set events n) (line_text set (line_of l)) f (subst (λ x. PutsText (line_text x (line_of l)) p q) s g))
 
 -- the report is the lines of all events, and then what comes after them
 whole_report : (set : TaskSet) (events : List Event)
@@ -95,13 +95,13 @@ split_report set events n =
           ∙ append_assoc (first_lines_text set events n) (lines_text set more) tail,
     )
 
-pub line_cut : (set : TaskSet) (events : List Event) (k j : Kernel) (n : ℕ) (l : base.Line) (o p q : Option (List ℕ)) (at : TaskSet)
+pub line_cut : (set : TaskSet) (events : List Event) (k j : Kernel) (n : ℕ) (l : base.Line) (o p q : Stream) (at : TaskSet)
     → Carries set events k n → slice_get events n ≡ Some (CoreStep 0) → Simulates k j l → at ≡ set
-    → p ≡ appended o (first_lines_text set events n) → PutFront p q (line_text at (line_of l)) → PutFront o q (report_text set events)
+    → PutsText (first_lines_text set events n) o p → PutsFront (line_text at (line_of l)) p q → PutsFront (report_text set events) o q
 line_cut set events k j n l o p q at c e h s f g =
     let rest = split_report set events (n + 1) in
     front_later o p q (first_lines_text set events n) (line_text set (line_of l)) rest.0 (report_text set events)
-    (rest.1 ∙ ap (λ t. t ++ rest.0) (one_line_more set events k j n l c e h)) f (subst (λ x. PutFront p q (line_text x (line_of l))) s g)
+    (rest.1 ∙ ap (λ t. t ++ rest.0) (one_line_more set events k j n l c e h)) f (subst (λ x. PutsFront (line_text x (line_of l)) p q) s g)
 
 -- at the end, the report is the lines so far and what comes after them
 ended : (set : TaskSet) (events : List Event) (k : Kernel) (n : ℕ) → length events ≤ n → (c : Carries set events k n)
@@ -117,14 +117,15 @@ ended set events k n l c left boots =
     ∙ ap (λ x. first_lines_text set events n ++ (lines_text set (found_lines (unprinted s)) ++ end_part set x 0)) read
     ∙ ap (λ x. first_lines_text set events n ++ (lines_text x (found_lines (unprinted s)) ++ end_part x (durable_of k) 0)) (sym c.set_is)
 
-pub all_put : (set : TaskSet) (events : List Event) (k : Kernel) (n : ℕ) (o p q : Option (List ℕ)) → length events ≤ n → Carries set events k n
+pub all_put : (set : TaskSet) (events : List Event) (k : Kernel) (n : ℕ) (o p q : Stream) → length events ≤ n → Carries set events k n
     → ((s : State MachineState) → Represents k s → left_in k s ≡ durable_of k) → ((s : State MachineState) → Represents k s → s.boots ≡ 0)
-    → p ≡ appended o (first_lines_text set events n) → ((s : State MachineState) → Represents k s → q ≡ appended p (tail_of k s)) → q ≡ appended o (report_text set events)
+    → PutsText (first_lines_text set events n) o p → ((s : State MachineState) → Represents k s → PutsText (tail_of k s) p q) → PutsText (report_text set events) o q
 all_put set events k n o p q l c left boots f g =
-    put_more o p q (first_lines_text set events n) (tail_of k (after set (take n events))) f (g (after set (take n events)) c.stands) ∙ ap (appended o) (sym (ended set events k n l c left boots))
+    subst (λ t. PutsText t o q) (sym (ended set events k n l c left boots))
+    (puts_more o p q (first_lines_text set events n) (tail_of k (after set (take n events))) f (g (after set (take n events)) c.stands))
 
-pub tail_cut : (set : TaskSet) (events : List Event) (k : Kernel) (n : ℕ) (o p q : Option (List ℕ)) → length events ≤ n → Carries set events k n
+pub tail_cut : (set : TaskSet) (events : List Event) (k : Kernel) (n : ℕ) (o p q : Stream) → length events ≤ n → Carries set events k n
     → ((s : State MachineState) → Represents k s → left_in k s ≡ durable_of k) → ((s : State MachineState) → Represents k s → s.boots ≡ 0)
-    → p ≡ appended o (first_lines_text set events n) → ((s : State MachineState) → Represents k s → PutFront p q (tail_of k s)) → PutFront o q (report_text set events)
+    → PutsText (first_lines_text set events n) o p → ((s : State MachineState) → Represents k s → PutsFront (tail_of k s) p q) → PutsFront (report_text set events) o q
 tail_cut set events k n o p q l c left boots f g =
-    subst (PutFront o q) (sym (ended set events k n l c left boots)) (front_next o p q (first_lines_text set events n) (tail_of k (after set (take n events))) f (g (after set (take n events)) c.stands))
+    subst (λ t. PutsFront t o q) (sym (ended set events k n l c left boots)) (front_next o p q (first_lines_text set events n) (tail_of k (after set (take n events))) f (g (after set (take n events)) c.stands))

@@ -1,9 +1,8 @@
 pub mod Commands
 pub mod Replies
-pub mod Refusals
 pub mod Answers
 pub mod Promises
-pub mod Carried
+pub mod BeforeAnswerLine
 pub mod Runs
 -- Worked runs.
 pub mod Set

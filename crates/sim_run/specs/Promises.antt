@@ -1,13 +1,13 @@
 -- What the headline promises of the answer to a run. This project's own.
 use Rattle.std.specs.Prelude.{◌≡◌, ℕ, List, Option, Some, Ok}
-use Rattle.nv_base.specs.Streams.{appended}
+use Rattle.nv_base.specs.Streams.{PutsText}
 use Rattle.schedule_model.specs.Failures.{events_of}
 use Rattle.headline.specs.Headline.{Headline}
 use Rattle.headline.specs.Report.{report_text}
 use Rattle.script.specs.Parts.{Script}
 use Rattle.script.specs.Reading.{read}
-use Rattle.script.specs.declared.status.Status.{Status}
-use Rattle.script.specs.declared.status.Status.TheVariants.{Done}
+use Rattle.answers.specs.declared.status.Status.{Status}
+use Rattle.answers.specs.declared.status.Status.TheVariants.{Done}
 use Rattle.sim_run.specs.declared.command.Command.{Command}
 use Rattle.sim_run.specs.declared.command.Command.TheVariants.{Run}
 use Rattle.sim_run.specs.Answers.{Exchange, OfInput}
@@ -24,8 +24,8 @@ pub record IsHeadlined (x : Exchange) (input : List ℕ) : Type 0 where
   pub reads : read input ≡ Ok script
   pub text : List ℕ
   pub promise : Headline script.set (events_of script.schedule) text
-  pub put : x.taken_now ≡ appended x.taken text
+  pub put : PutsText text x.sink x.sink_now
 
 -- `run` that is answered by Done
 abbrev pub KeepsHeadline : Option Command → Exchange → Status → Type 0
-KeepsHeadline command x status = command ≡ Some Run → status ≡ Done → OfInput x.left (IsHeadlined x)
+KeepsHeadline command x status = command ≡ Some Run → status ≡ Done → OfInput x.source.bytes (IsHeadlined x)

@@ -18,8 +18,8 @@ use Rattle.script.specs.Reading.{read}
 use Rattle.script_text.specs.ScriptText.{script_text}
 use Rattle.script.specs.declared.refusals.ScriptCause.TheVariants.{Long, Byte, Code}
 use Rattle.script.specs.Causes.{ScriptError}
-use Rattle.script.specs.declared.status.Status.{Status}
-use Rattle.script.specs.declared.status.Status.TheVariants.{Done, Script, Packed, NotBuilt}
+use Rattle.answers.specs.declared.status.Status.{Status}
+use Rattle.answers.specs.declared.status.Status.TheVariants.{Done, Script, Packed, NotBuilt}
 use Rattle.sim_run.specs.declared.command.Command.{Command}
 use Rattle.sim_run.specs.declared.command.Command.TheVariants.{Run, Asm, Dis, Pack}
 

@@ -1,7 +1,6 @@
 -- What a run puts: the lines of its events, and then what is read back.
-use Rattle.std.specs.Prelude.{◌≡◌, ℕ, List, ◌++◌, Option, take}
+use Rattle.std.specs.Prelude.{◌≡◌, ◌≤◌, ℕ, List, ◌++◌, take}
 use Rattle.std.specs.List.{flat_map}
-use Rattle.nv_base.specs.Streams.{PutFront, appended}
 use Rattle.rv_core.specs.State.{MachineState}
 use Rattle.kernel_model.specs.Effects.{object_words}
 use Rattle.kernel_model.specs.Events.{Event, State}
@@ -14,9 +13,6 @@ use Rattle.headline.specs.Report.{report_text}
 use Rattle.kernel_core.specs.Invariant.{IsValid, finishes}
 use Rattle.kernel_core.specs.Represents.{Represents, durable_of}
 use Rattle.kernel_core.specs.declared.kernel.Kernel.{Kernel}
-use Rattle.script.specs.declared.status.Status.{Status}
-use Rattle.script.specs.declared.status.Status.TheVariants.{Done, WriteFault, NoMemory}
-use Rattle.std.specs.Prelude.{◌≤◌}
 
 -- the lines of the first n events
 abbrev pub first_lines_text : TaskSet → List Event → ℕ → List ℕ
@@ -56,10 +52,3 @@ pub record Carries (set : TaskSet) (events : List Event) (k : Kernel) (n : ℕ) 
   pub kept : IsValid k
   pub stands : Represents k (after set (take n events))
   pub few : finishes k ≤ n
-
--- what a run of these events puts; rose: the sink's count of faults rose
-abbrev pub RunAnswers : TaskSet → List Event → Type 0 → Option (List ℕ) → Option (List ℕ) → Status → Type 0
-RunAnswers set events rose old new Done = new ≡ appended old (report_text set events)
-RunAnswers set events rose old new WriteFault = rose × PutFront old new (report_text set events)
-RunAnswers set events rose old new NoMemory = new ≡ old
-RunAnswers set events rose old new _ = ⊥

@@ -2,19 +2,18 @@
 
 ghost use Rattle.std.specs.Prelude.{◌≡◌, ◌≤◌, IfOk, length, map, string_bytes};
 ghost use Rattle.std.specs.Str.Lines.{lines};
-ghost use Rattle.nv_base.specs.Streams.{FaultCounted};
 ghost use Rattle.rv_asm.specs.Assembly.{assembled};
-ghost use Rattle.sim_run.specs.Carried.{Replied};
+ghost use Rattle.sim_run.specs.BeforeAnswerLine.{PutReply};
 ghost use Rattle.sim_run.specs.Replies.{Puts, asm_reply, assembly_reply, words_text};
 
-use crate::refusals;
 use crate::texts::put_text;
+use answers::{Status, of_assembly};
 use nv_base::limits::MAX_INPUT;
 use nv_base::{NoMemory, Sink};
 use plain_text::{first_bad, lines_of};
 use rv_asm::assemble_lines;
 use rv_isa::push_hexadecimal;
-use script::{ScriptCause, ScriptError, Status};
+use script::{ScriptCause, ScriptError};
 use std::alloc::Global;
 
 /// Words as text: each a line of 8 hexadecimal digits.
@@ -31,8 +30,8 @@ fn text_of(alloc: Global, words: &[u32]) -> Result<String, NoMemory>
 
 /// Puts words, each on a line.
 fn put_words<K: Sink>(alloc: Global, words: &[u32], out: &mut K) -> Status
-    ensures replied { Replied (Puts (words_text words.now)) (FaultCounted (K.faults out.old) (K.faults out.new)) (K.taken out.old) (K.taken out.new) result }
-    ensures never_falls { K.faults out.old ≤ K.faults out.new }
+    ensures replied { let reply = Puts (words_text words.now) in
+        PutReply reply (K.seen out.old) (K.seen out.new) result }
 {
     let Ok(text) = text_of(alloc, words) else {
         return Status::NoMemory;
@@ -43,12 +42,12 @@ fn put_words<K: Sink>(alloc: Global, words: &[u32], out: &mut K) -> Status
 /// Puts the words of lines none of which has a bad byte, or answers with the first faulty line.
 fn assemble<K: Sink>(alloc: Global, lines: &[&[u8]], out: &mut K) -> Status
     requires { length lines.now ≤ MAX_INPUT }
-    ensures replied { Replied (assembly_reply (assembled (map (λ line. line.now) lines.now))) (FaultCounted (K.faults out.old) (K.faults out.new)) (K.taken out.old) (K.taken out.new) result }
-    ensures never_falls { K.faults out.old ≤ K.faults out.new }
+    ensures replied { let reply = assembly_reply (assembled (map (λ line. line.now) lines.now)) in
+        PutReply reply (K.seen out.old) (K.seen out.new) result }
 {
     match assemble_lines(alloc, lines) {
         Ok(words) => put_words(alloc, words.as_slice(), out),
-        Err(refusal) => refusals::of_assembly(refusal),
+        Err(refusal) => of_assembly(refusal),
     }
 }
 
@@ -56,8 +55,8 @@ fn assemble<K: Sink>(alloc: Global, lines: &[&[u8]], out: &mut K) -> Status
 /// allowed, before each fault of an instruction.
 pub(crate) fn asm<K: Sink>(alloc: Global, input: &[u8], out: &mut K) -> Status
     requires { length input.now ≤ MAX_INPUT }
-    ensures replied { Replied (asm_reply (lines input.now)) (FaultCounted (K.faults out.old) (K.faults out.new)) (K.taken out.old) (K.taken out.new) result }
-    ensures never_falls { K.faults out.old ≤ K.faults out.new }
+    ensures replied { let reply = asm_reply (lines input.now) in
+        PutReply reply (K.seen out.old) (K.seen out.new) result }
 {
     let Ok(lines) = lines_of(alloc, input) else {
         return Status::NoMemory;

@@ -2,14 +2,13 @@
 
 ghost use Rattle.std.specs.Prelude.{◌≡◌, ◌≤◌, Some, length, map};
 ghost use Rattle.std.specs.Rc.{rc_str_bytes};
-ghost use Rattle.nv_base.specs.Streams.{FaultCounted};
 ghost use Rattle.sim_run.specs.Commands.{command_of};
 ghost use Rattle.sim_run.specs.Replies.{reply};
-ghost use Rattle.sim_run.specs.Answers.{Answered, HasReadFew, IsComplete, OfInput, TellsReadFault, exchange};
-ghost use Rattle.script.specs.declared.status.Status.TheVariants as Status;
+ghost use Rattle.sim_run.specs.Answers.{Answered, HasReadFew, IsComplete, NeverFalls, OfInput, TellsReadFault, exchange};
+ghost use Rattle.answers.specs.declared.status.Status.TheVariants as Status;
 ghost use Rattle.sim_run.specs.declared.command.Command.TheVariants as Command;
 ghost use Rattle.sim_run.specs.Promises.{IsPromised, KeepsHeadline};
-ghost use Rattle.sim_run.specs.Carried.{CarriedOut, Replied};
+ghost use Rattle.sim_run.specs.BeforeAnswerLine.{BeforeAnswerLine, PutReply};
 
 use crate::answer_line::put_name;
 use crate::assembly::asm;
@@ -17,9 +16,9 @@ use crate::command::{Command, words_of};
 use crate::input::read_input;
 use crate::packing::{dis, pack};
 use crate::run::run;
+use answers::{Status, put_name};
 use nv_base::limits::MAX_INPUT;
 use nv_base::{Sink, Source};
-use script::Status;
 use std::alloc::Global;
 use std::rc::RcStr;
 
@@ -27,9 +26,8 @@ use std::rc::RcStr;
 #[tactic(auto, unfolding(crate::specs::Replies::reply))]
 fn answer<K: Sink>(alloc: Global, command: Command, input: &[u8], out: &mut K) -> Status
     requires { length input.now ≤ MAX_INPUT }
-    ensures replied { Replied (reply command input.now) (FaultCounted (K.faults out.old) (K.faults out.new)) (K.taken out.old) (K.taken out.new) result }
+    ensures replied { PutReply (reply command input.now) (K.seen out.old) (K.seen out.new) result }
     ensures headline { command ≡ Command.Run → result ≡ Status.Done → IsPromised input.now }
-    ensures never_falls { K.faults out.old ≤ K.faults out.new }
 {
     match command {
         Command::Run => run(alloc, input, out),
@@ -42,12 +40,14 @@ fn answer<K: Sink>(alloc: Global, command: Command, input: &[u8], out: &mut K) -
 /// All of a call but the line that names its answer.
 #[tactic(auto, using(crate::proofs::Gone::none_gone))]
 fn carry_out<S: Source, K: Sink>(alloc: Global, words: &[RcStr], src: &mut S, out: &mut K) -> Status
-    ensures answer { CarriedOut (command_of (map rc_str_bytes words.now)) (exchange S.left S.faults K.taken K.faults src.old src.new out.old out.new) result }
-    ensures headline { command_of (map rc_str_bytes words.now) ≡ Some Command.Run → result ≡ Status.Done → OfInput (S.left src.old) IsPromised }
-    ensures few { HasReadFew (exchange S.left S.faults K.taken K.faults src.old src.new out.old out.new) result }
-    ensures told { TellsReadFault (exchange S.left S.faults K.taken K.faults src.old src.new out.old out.new) result }
-    ensures source_never_falls { S.faults src.old ≤ S.faults src.new }
-    ensures sink_never_falls { K.faults out.old ≤ K.faults out.new }
+    ensures answer { let x = exchange S.seen K.seen src.old src.new out.old out.new in
+        BeforeAnswerLine (command_of (map rc_str_bytes words.now)) x result }
+    ensures headline { let command = command_of (map rc_str_bytes words.now) in
+        command ≡ Some Command.Run → result ≡ Status.Done
+        → OfInput (S.seen src.old).bytes IsPromised }
+    ensures few { HasReadFew (S.seen src.old) (S.seen src.new) result }
+    ensures told { TellsReadFault (S.seen src.old) (S.seen src.new) result }
+    ensures never_falls { NeverFalls (exchange S.seen K.seen src.old src.new out.old out.new) }
 {
     let Ok(command) = words_of(words) else {
         return Status::Usage;
@@ -68,13 +68,15 @@ pub fn simulate<S: Source, K: Sink>(
     src: &mut S,
     out: &mut K,
 ) -> Status
-    ensures answer { Answered (command_of (map rc_str_bytes words.now)) (exchange S.left S.faults K.taken K.faults src.old src.new out.old out.new) result }
-    ensures headline { KeepsHeadline (command_of (map rc_str_bytes words.now)) (exchange S.left S.faults K.taken K.faults src.old src.new out.old out.new) result }
-    ensures complete { IsComplete (command_of (map rc_str_bytes words.now)) (exchange S.left S.faults K.taken K.faults src.old src.new out.old out.new) result }
-    ensures few { HasReadFew (exchange S.left S.faults K.taken K.faults src.old src.new out.old out.new) result }
-    ensures told { TellsReadFault (exchange S.left S.faults K.taken K.faults src.old src.new out.old out.new) result }
-    ensures source_never_falls { S.faults src.old ≤ S.faults src.new }
-    ensures sink_never_falls { K.faults out.old ≤ K.faults out.new }
+    ensures answer { let x = exchange S.seen K.seen src.old src.new out.old out.new in
+        Answered (command_of (map rc_str_bytes words.now)) x result }
+    ensures headline { let x = exchange S.seen K.seen src.old src.new out.old out.new in
+        KeepsHeadline (command_of (map rc_str_bytes words.now)) x result }
+    ensures complete { let x = exchange S.seen K.seen src.old src.new out.old out.new in
+        IsComplete (command_of (map rc_str_bytes words.now)) x result }
+    ensures few { HasReadFew (S.seen src.old) (S.seen src.new) result }
+    ensures told { TellsReadFault (S.seen src.old) (S.seen src.new) result }
+    ensures never_falls { NeverFalls (exchange S.seen K.seen src.old src.new out.old out.new) }
 {
     let status = carry_out(alloc, words, src, out);
     put_name(out, status);

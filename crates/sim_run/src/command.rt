@@ -44,7 +44,8 @@ fn named(word: &str) -> Option<Command>
 
 /// The command that these words name. `Usage` exactly where they name none. Takes no memory.
 pub fn words_of(words: &[RcStr]) -> Result<Command, WordsRefusal>
-    ensures { MatchResult result (λ c. command_of (map rc_str_bytes words.now) ≡ Some c) (λ e. command_of (map rc_str_bytes words.now) ≡ None) }
+    ensures { let named = command_of (map rc_str_bytes words.now) in
+        MatchResult result (λ c. named ≡ Some c) (λ e. named ≡ None) }
 {
     let [word] = words else {
         return Err(WordsRefusal::Usage);

@@ -8,14 +8,13 @@ mod command;
 mod input;
 mod packing;
 mod read_back;
-mod refusals;
 pub mod rows;
 mod run;
 mod texts;
 
+pub use answers::Status;
 pub use call::simulate;
 pub use command::{Command, WordsRefusal, words_of};
-pub use script::Status;
 
 #[cfg(test)]
 mod tests;

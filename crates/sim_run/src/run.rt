@@ -1,21 +1,20 @@
 //! A run of a script: its events, one after another, and then what is read back.
 
-ghost use Rattle.std.specs.Prelude.{◌≡◌, ◌≤◌, Ok};
-ghost use Rattle.nv_base.specs.Streams.{FaultCounted};
+ghost use Rattle.std.specs.Prelude.{◌≡◌, Ok};
 ghost use Rattle.schedule_model.specs.Failures.{events_of};
 ghost use Rattle.schedule_model.specs.Parts.{failure_count};
 ghost use Rattle.headline.specs.Headline.{Headline};
 ghost use Rattle.headline.specs.Report.{report_text};
 ghost use Rattle.script.specs.Reading.{read};
-ghost use Rattle.script.specs.declared.status.Status.TheVariants as Status;
+ghost use Rattle.answers.specs.declared.status.Status.TheVariants as Status;
 ghost use Rattle.script.specs.Views.{script_of};
-ghost use Rattle.sim_run.specs.Carried.{Replied};
-ghost use Rattle.sim_run.specs.Replies.{run_reply};
+ghost use Rattle.sim_run.specs.BeforeAnswerLine.{PutReply};
+ghost use Rattle.sim_run.specs.Replies.{Puts, run_reply};
 ghost use Rattle.sim_run.specs.Promises.{IsPromised};
-ghost use Rattle.sim_run.specs.Runs.{Carries, RunAnswers};
+ghost use Rattle.sim_run.specs.Runs.{Carries};
 
 use crate::read_back::{put_line, put_tail};
-use crate::refusals;
+use answers::{Status, of_script};
 use headline::laws::report_keeps_headline;
 use kernel_core::Kernel;
 use kernel_core::laws::durable_is_left;
@@ -23,7 +22,7 @@ use nv_base::Sink;
 use power_trace::Schedule;
 use report::LineBuf;
 use schedule_model::laws::events_are_within_limits;
-use script::{Script, Status, read_script};
+use script::{Script, read_script};
 use std::alloc::Global;
 use task_set::TaskSet;
 
@@ -38,8 +37,8 @@ fn put_events<K: Sink>(
     requires begins { Carries kernel.set (events_of schedule.now) kernel 0 }
     requires same_cores { schedule.now.cores ≡ 1 }
     requires powered { failure_count (events_of schedule.now) ≡ 0 }
-    ensures answers { RunAnswers kernel.set (events_of schedule.now) (FaultCounted (K.faults out.old) (K.faults out.new)) (K.taken out.old) (K.taken out.new) result }
-    ensures never_falls { K.faults out.old ≤ K.faults out.new }
+    ensures replied { let reply = Puts (report_text kernel.set (events_of schedule.now)) in
+        PutReply reply (K.seen out.old) (K.seen out.new) result }
 {
     // what the kernel keeps is what is durable, and events are few
     durable_is_left();
@@ -68,8 +67,8 @@ pub(crate) fn run_events<K: Sink>(
     requires one_core { set.cores ≡ 1 }
     requires same_cores { schedule.now.cores ≡ 1 }
     requires powered { failure_count (events_of schedule.now) ≡ 0 }
-    ensures answers { RunAnswers set (events_of schedule.now) (FaultCounted (K.faults out.old) (K.faults out.new)) (K.taken out.old) (K.taken out.new) result }
-    ensures never_falls { K.faults out.old ≤ K.faults out.new }
+    ensures replied { let reply = Puts (report_text set (events_of schedule.now)) in
+        PutReply reply (K.seen out.old) (K.seen out.new) result }
 {
     let Ok(text) = LineBuf::new(alloc) else {
         return Status::NoMemory;
@@ -84,9 +83,10 @@ pub(crate) fn run_events<K: Sink>(
 /// format than 1, or it has more than one core or a failure of power.
 fn run_script<K: Sink>(alloc: Global, script: Script, out: &mut K) -> Status
     requires { script.schedule.cores ≡ script.set.cores }
-    ensures replied { Replied (run_reply (Ok (script_of script))) (FaultCounted (K.faults out.old) (K.faults out.new)) (K.taken out.old) (K.taken out.new) result }
-    ensures headline { Headline script.set (events_of script.schedule) (report_text script.set (events_of script.schedule)) }
-    ensures never_falls { K.faults out.old ≤ K.faults out.new }
+    ensures replied { let reply = run_reply (Ok (script_of script)) in
+        PutReply reply (K.seen out.old) (K.seen out.new) result }
+    ensures headline { let events = events_of script.schedule in
+        Headline script.set events (report_text script.set events) }
 {
     // what the headline promises of each report
     report_keeps_headline();
@@ -100,12 +100,12 @@ fn run_script<K: Sink>(alloc: Global, script: Script, out: &mut K) -> Status
 
 /// Runs the script that an input is, or answers with the first line that is refused.
 pub(crate) fn run<K: Sink>(alloc: Global, input: &[u8], out: &mut K) -> Status
-    ensures replied { Replied (run_reply (read input.now)) (FaultCounted (K.faults out.old) (K.faults out.new)) (K.taken out.old) (K.taken out.new) result }
+    ensures replied { let reply = run_reply (read input.now) in
+        PutReply reply (K.seen out.old) (K.seen out.new) result }
     ensures headline { result ≡ Status.Done → IsPromised input.now }
-    ensures never_falls { K.faults out.old ≤ K.faults out.new }
 {
     match read_script(alloc, input) {
         Ok(script) => run_script(alloc, script, out),
-        Err(refusal) => refusals::of_script(refusal),
+        Err(refusal) => of_script(refusal),
     }
 }

@@ -1,14 +1,32 @@
-use Rattle.std.proofs.Common.{refl, subst}
-use Rattle.nv_base.specs.Streams.{FaultCounted}
+use Rattle.std.proofs.Common.{inl, refl, subst}
 use Rattle.sim_run.specs.Replies.{reply}
-use Rattle.sim_run.specs.Carried.{Replied}
-use Rattle.sim_run.proofs.Inputs.{replied, unread}
+use Rattle.sim_run.specs.BeforeAnswerLine.{PutReply}
+use Rattle.sim_run.proofs.Answering.{reply_counts, stood}
+use Rattle.sim_run.proofs.Inputs.{read_few, replied, unread, unread_counts, unread_few, unread_told}
 use Rattle.sim_run.proofs.call.carry_out.Goals as goal
 
 pub returns-in-Err-clause-answer : goal.returns-in-Err-clause-answer
 returns-in-Err-clause-answer g c = rw c.in-Ok.ensures (unread c.in-Ok.command _ c.in-Err.status refl c.in-Err.ensures.unread)
 
+pub returns-in-Err-clause-few : goal.returns-in-Err-clause-few
+returns-in-Err-clause-few g c = unread_few _ _ c.in-Err.status c.in-Err.ensures.unread
+
+pub returns-in-Err-clause-told : goal.returns-in-Err-clause-told
+returns-in-Err-clause-told g c = unread_told _ _ c.in-Err.status c.in-Err.ensures.unread
+
+pub returns-in-Err-clause-never_falls : goal.returns-in-Err-clause-never_falls
+returns-in-Err-clause-never_falls g c = record { source = unread_counts _ _ c.in-Err.status c.in-Err.ensures.unread; sink = stood _ _ refl }
+
 pub returns-in-Ok-read_input-clause-answer : goal.returns-in-Ok-read_input-clause-answer
 returns-in-Ok-read_input-clause-answer g c =
     rw c.in-Ok.ensures (replied c.in-Ok.command _ c.in-Ok-read_input.input.items c.answer.result c.in-Ok-read_input.ensures.given
-    (subst (λ b. Replied (reply c.in-Ok.command b) (FaultCounted (g.K.Sink.faults c.args.out.now) (g.K.Sink.faults c.answer.new.out)) (g.K.Sink.taken c.args.out.now) (g.K.Sink.taken c.answer.new.out) c.answer.result) c.as_slice.ensures.value c.answer.ensures.replied))
+    (subst (λ b. PutReply (reply c.in-Ok.command b) (g.K.Sink.seen c.args.out.now) (g.K.Sink.seen c.answer.new.out) c.answer.result) c.as_slice.ensures.value c.answer.ensures.replied))
+
+pub returns-in-Ok-read_input-clause-few : goal.returns-in-Ok-read_input-clause-few
+returns-in-Ok-read_input-clause-few g c = read_few _ _ c.in-Ok-read_input.input.items c.answer.result c.in-Ok-read_input.ensures.given c.in-Ok-read_input.ensures.within
+
+pub returns-in-Ok-read_input-clause-told : goal.returns-in-Ok-read_input-clause-told
+returns-in-Ok-read_input-clause-told g c = inl c.in-Ok-read_input.ensures.given.still
+
+pub returns-in-Ok-read_input-clause-never_falls : goal.returns-in-Ok-read_input-clause-never_falls
+returns-in-Ok-read_input-clause-never_falls g c = record { source = stood _ _ c.in-Ok-read_input.ensures.given.still; sink = reply_counts _ _ _ _ c.answer.ensures.replied }

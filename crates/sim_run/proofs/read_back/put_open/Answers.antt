@@ -1,6 +1,6 @@
-use Rattle.std.proofs.Common.{◌≡◌, ◌<◌, length, subst, sym}
+use Rattle.std.proofs.Common.{◌<◌, length, subst, sym}
 use Rattle.std.specs.List.{AllByRecursion, flat_map}
-use Rattle.nv_base.specs.Streams.{PutFront, appended}
+use Rattle.nv_base.specs.Streams.{PutsFront, PutsText}
 use Rattle.report_text.specs.Lines.{open_text}
 use Rattle.kernel_core.specs.Represents.{durable_of}
 use Rattle.sim_run.proofs.read_back.put_open.Goals as goal
@@ -11,10 +11,10 @@ put_open_tasks-requires g c =
 
 pub returns-in_default-clause-front : goal.returns-in_default-clause-front
 returns-in_default-clause-front g c =
-    subst (λ s. PutFront (g.K.Sink.taken c.args.out.now) (g.K.Sink.taken c.put_open_tasks.new.out) (flat_map (open_text s) (durable_of c.args.kernel.now).tasks)) c.set.ensures
-    (subst (λ ts. PutFront (g.K.Sink.taken c.args.out.now) (g.K.Sink.taken c.put_open_tasks.new.out) (flat_map (open_text c.set.result.now) ts)) c.open_tasks.ensures.exact c.in_default.ensures.front)
+    subst (λ s. PutsFront (flat_map (open_text s) (durable_of c.args.kernel.now).tasks) (g.K.Sink.seen c.args.out.now) (g.K.Sink.seen c.put_open_tasks.new.out)) c.set.ensures
+    (subst (λ ts. PutsFront (flat_map (open_text c.set.result.now) ts) (g.K.Sink.seen c.args.out.now) (g.K.Sink.seen c.put_open_tasks.new.out)) c.open_tasks.ensures.exact c.in_default.ensures.front)
 
 pub returns-clause-all : goal.returns-clause-all
 returns-clause-all g c =
-    subst (λ s. g.K.Sink.taken c.put_open_tasks.new.out ≡ appended (g.K.Sink.taken c.args.out.now) (flat_map (open_text s) (durable_of c.args.kernel.now).tasks)) c.set.ensures
-    (subst (λ ts. g.K.Sink.taken c.put_open_tasks.new.out ≡ appended (g.K.Sink.taken c.args.out.now) (flat_map (open_text c.set.result.now) ts)) c.open_tasks.ensures.exact c.in-Ok.ensures.all)
+    subst (λ s. PutsText (flat_map (open_text s) (durable_of c.args.kernel.now).tasks) (g.K.Sink.seen c.args.out.now) (g.K.Sink.seen c.put_open_tasks.new.out)) c.set.ensures
+    (subst (λ ts. PutsText (flat_map (open_text c.set.result.now) ts) (g.K.Sink.seen c.args.out.now) (g.K.Sink.seen c.put_open_tasks.new.out)) c.open_tasks.ensures.exact c.in-Ok.ensures.all)

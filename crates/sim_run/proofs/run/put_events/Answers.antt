@@ -1,18 +1,18 @@
-use Rattle.std.proofs.Common.{◌≡◌, ◌<◌, Some, subst, ◌∙◌, arith}
+use Rattle.std.proofs.Common.{◌≡◌, ◌<◌, Some, refl, subst, ◌∙◌, arith}
 use Rattle.std.specs.List.{AllByRecursion}
 use Rattle.std.specs.Prelude.{slice_get}
 use Rattle.kernel_model.specs.Events.{CoreStep}
 use Rattle.schedule_model.specs.Failures.{events_of}
 use Rattle.schedule_model.specs.Parts.{cores_stepped}
-use Rattle.sim_run.proofs.Fronts.{grown_nothing, rose_later}
+use Rattle.headline.specs.Report.{report_text}
+use Rattle.sim_run.proofs.Fronts.{puts_nothing}
 use Rattle.sim_run.proofs.Runs.{all_put, carries_on, each_is_step, line_cut, line_put, tail_cut}
 use Rattle.sim_run.proofs.run.put_events.Goals as goal
 
 pub loop-init : goal.loop-init
 loop-init g c = record {
   carries = c.requires.begins;
-  put = grown_nothing _;
-  never_falls = omega arith;
+  puts = puts_nothing _;
 }
 
 pub turn-line-requires-clause-kept : goal.turn-line-requires-clause-kept
@@ -22,18 +22,18 @@ pub turn-line-requires-clause-few : goal.turn-line-requires-clause-few
 turn-line-requires-clause-few g c =
     omega (arith, c.loop.invariant.carries.few, c.loop-test.true, c.len-steps.ensures.count, c.events_are_within_limits.ensures.short c.args.schedule.now c.len-steps.ensures.proper)
 
-pub returns-in_default-clause-answers : goal.returns-in_default-clause-answers
-returns-in_default-clause-answers g c =
+pub returns-in_default : goal.returns-in_default
+returns-in_default g c =
     let events = events_of c.args.schedule.now in
     let cores = subst (λ n. AllByRecursion (λ core. core < n) (cores_stepped events)) c.requires.same_cores (c.events_are_within_limits.ensures.cores c.args.schedule.now c.len-steps.ensures.proper) in
-    let step : slice_get events c.loop.counter ≡ Some (CoreStep 0) = each_is_step events c.loop.counter c.requires.powered cores (omega (arith, c.loop-test.true, c.len-steps.ensures.count)) in (
-      rose_later _ _ _ c.loop.invariant.never_falls c.in_default.ensures.fault,
-      line_cut c.args.kernel.set events c.loop.kernel c.turn-line.new.self c.loop.counter c.turn-line.result _ _ _ c.set.result.now c.loop.invariant.carries step c.turn-line.ensures.leads
-          (c.set.ensures ∙ c.turn-line.ensures.set ∙ c.loop.invariant.carries.set_is) c.loop.invariant.put c.in_default.ensures.front,
-    )
-
-pub returns-in_default-clause-never_falls : goal.returns-in_default-clause-never_falls
-returns-in_default-clause-never_falls g c = omega (arith, c.loop.invariant.never_falls, c.in_default.ensures.never_falls)
+    let step : slice_get events c.loop.counter ≡ Some (CoreStep 0) = each_is_step events c.loop.counter c.requires.powered cores (omega (arith, c.loop-test.true, c.len-steps.ensures.count)) in record {
+      replied = (
+        report_text c.args.kernel.set events,
+        refl,
+        line_cut c.args.kernel.set events c.loop.kernel c.turn-line.new.self c.loop.counter c.turn-line.result _ _ _ c.set.result.now c.loop.invariant.carries step c.turn-line.ensures.leads
+            (c.set.ensures ∙ c.turn-line.ensures.set ∙ c.loop.invariant.carries.set_is) c.loop.invariant.puts c.in_default.ensures.front,
+      );
+    }
 
 pub loop-preserved : goal.loop-preserved
 loop-preserved g c =
@@ -44,29 +44,30 @@ loop-preserved g c =
       carries =
           carries_on c.args.kernel.set events c.loop.kernel c.turn-line.new.self c.loop.counter c.turn-line.result c.loop.invariant.carries step c.turn-line.ensures.kept c.turn-line.ensures.set
           c.turn-line.ensures.counted c.turn-line.ensures.leads;
-      put =
+      puts =
           line_put c.args.kernel.set events c.loop.kernel c.turn-line.new.self c.loop.counter c.turn-line.result _ _ _ c.set.result.now c.loop.invariant.carries step c.turn-line.ensures.leads
-          (c.set.ensures ∙ c.turn-line.ensures.set ∙ c.loop.invariant.carries.set_is) c.loop.invariant.put c.in-Ok.ensures.all;
-      never_falls = omega (arith, c.loop.invariant.never_falls, c.in-Ok.ensures.never_falls);
+          (c.set.ensures ∙ c.turn-line.ensures.set ∙ c.loop.invariant.carries.set_is) c.loop.invariant.puts c.in-Ok.ensures.all;
     }
 
 pub put_tail-requires : goal.put_tail-requires
 put_tail-requires g c = c.loop.invariant.carries.kept
 
-pub returns-in-Ok-put_tail-clause-answers : goal.returns-in-Ok-put_tail-clause-answers
-returns-in-Ok-put_tail-clause-answers g c =
+pub returns-in-Ok-put_tail : goal.returns-in-Ok-put_tail
+returns-in-Ok-put_tail g c = record {
+  replied = (
+    report_text c.args.kernel.set (events_of c.args.schedule.now),
+    refl,
     all_put c.args.kernel.set (events_of c.args.schedule.now) c.loop.kernel c.loop.counter _ _ _ (omega (arith, c.loop-test.false, c.len-steps.ensures.count)) c.loop.invariant.carries
-    (c.durable_is_left.ensures.left c.loop.kernel) (c.durable_is_left.ensures.boots c.loop.kernel) c.loop.invariant.put c.in-Ok-put_tail.ensures.all
+        (c.durable_is_left.ensures.left c.loop.kernel) (c.durable_is_left.ensures.boots c.loop.kernel) c.loop.invariant.puts c.in-Ok-put_tail.ensures.all,
+  );
+}
 
-pub returns-in-Ok-put_tail-clause-never_falls : goal.returns-in-Ok-put_tail-clause-never_falls
-returns-in-Ok-put_tail-clause-never_falls g c = omega (arith, c.loop.invariant.never_falls, c.in-Ok-put_tail.ensures.never_falls)
-
-pub returns-clause-answers : goal.returns-clause-answers
-returns-clause-answers g c = (
-  rose_later _ _ _ c.loop.invariant.never_falls c.in-Err.ensures.fault,
-  tail_cut c.args.kernel.set (events_of c.args.schedule.now) c.loop.kernel c.loop.counter _ _ _ (omega (arith, c.loop-test.false, c.len-steps.ensures.count)) c.loop.invariant.carries
-      (c.durable_is_left.ensures.left c.loop.kernel) (c.durable_is_left.ensures.boots c.loop.kernel) c.loop.invariant.put c.in-Err.ensures.front,
-)
-
-pub returns-clause-never_falls : goal.returns-clause-never_falls
-returns-clause-never_falls g c = omega (arith, c.loop.invariant.never_falls, c.in-Err.ensures.never_falls)
+pub returns : goal.returns
+returns g c = record {
+  replied = (
+    report_text c.args.kernel.set (events_of c.args.schedule.now),
+    refl,
+    tail_cut c.args.kernel.set (events_of c.args.schedule.now) c.loop.kernel c.loop.counter _ _ _ (omega (arith, c.loop-test.false, c.len-steps.ensures.count)) c.loop.invariant.carries
+        (c.durable_is_left.ensures.left c.loop.kernel) (c.durable_is_left.ensures.boots c.loop.kernel) c.loop.invariant.puts c.in-Err.ensures.front,
+  );
+}

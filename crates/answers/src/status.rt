@@ -1,10 +1,9 @@
 //! How a command ended.
 
 ghost use Rattle.std.specs.Prelude.{◌≡◌};
-ghost use Rattle.script.specs.Exits.{exit_of, cause_word};
+ghost use Rattle.answers.specs.Exits.{exit_of};
 
-use crate::refusals::{ScriptCause, ScriptError};
-use rv_asm::AsmCause;
+use script::ScriptError;
 
 /// How `simulate` ended. Beside each: its exit number, and the line that names it on the output, if there is one.
 #[derive(Clone, Copy, PartialEq, Eq, Debug)]
@@ -52,33 +51,6 @@ impl Status {
             Status::WriteFault => 5,
             Status::NoMemory => 6,
             Status::NotBuilt => 11,
-        }
-    }
-}
-
-impl ScriptCause {
-    /// The words that name the cause in the line of an answer.
-    pub fn words(self) -> &'static str
-        ensures { result.now ≡ cause_word self }
-    {
-        match self {
-            ScriptCause::Long => "long",
-            ScriptCause::Byte => "byte",
-            ScriptCause::Word => "word",
-            ScriptCause::Count => "count",
-            ScriptCause::Name => "name",
-            ScriptCause::Twice => "twice",
-            ScriptCause::Unknown => "unknown",
-            ScriptCause::Number => "number",
-            ScriptCause::Range => "range",
-            ScriptCause::Code(AsmCause::Mnemonic) => "code mnemonic",
-            ScriptCause::Code(AsmCause::Operand) => "code operand",
-            ScriptCause::Code(AsmCause::Range) => "code range",
-            ScriptCause::Code(AsmCause::Label) => "code label",
-            ScriptCause::Code(AsmCause::Twice) => "code twice",
-            ScriptCause::Code(AsmCause::TooLong) => "code toolong",
-            ScriptCause::Many => "many",
-            ScriptCause::End => "end",
         }
     }
 }

@@ -4,8 +4,8 @@ use Rattle.nv_base.specs.declared.refusals.Refusal.TheVariants as refusal
 use Rattle.rv_asm.specs.Causes.{AsmError}
 use Rattle.script.specs.Causes.{ScriptError}
 use Rattle.script.specs.declared.refusals.ScriptCause.TheVariants.{Code}
-use Rattle.script.specs.declared.status.Status.{Status}
-use Rattle.script.specs.declared.status.Status.TheVariants.{Script, Packed, NoMemory}
+use Rattle.answers.specs.declared.status.Status.{Status}
+use Rattle.answers.specs.declared.status.Status.TheVariants.{Script, Packed, NoMemory}
 use Rattle.task_image.specs.declared.refusal.ImageRefusal.{ImageRefusal}
 use Rattle.task_image.specs.declared.refusal.ImageRefusal.TheVariants as image
 

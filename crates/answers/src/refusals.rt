@@ -1,14 +1,15 @@
 //! The answers that tell why an input was not taken. Only want of memory is told as want of memory.
 
 ghost use Rattle.std.specs.Prelude.{◌≡◌};
-ghost use Rattle.sim_run.specs.Refusals.{assembly_answer, packed_answer, script_answer};
+ghost use Rattle.answers.specs.Refusals.{assembly_answer, packed_answer, script_answer};
 
+use crate::status::Status;
 use rv_asm::AsmRefusal;
-use script::{ScriptCause, ScriptError, ScriptRefusal, Status};
+use script::{ScriptCause, ScriptError, ScriptRefusal};
 use task_image::ImageRefusal;
 
 /// Why a script was not read.
-pub(crate) fn of_script(refusal: ScriptRefusal) -> Status
+pub fn of_script(refusal: ScriptRefusal) -> Status
     ensures { result ≡ script_answer refusal }
 {
     match refusal {
@@ -18,7 +19,7 @@ pub(crate) fn of_script(refusal: ScriptRefusal) -> Status
 }
 
 /// Why lines were not assembled.
-pub(crate) fn of_assembly(refusal: AsmRefusal) -> Status
+pub fn of_assembly(refusal: AsmRefusal) -> Status
     ensures { result ≡ assembly_answer refusal }
 {
     match refusal {
@@ -31,7 +32,7 @@ pub(crate) fn of_assembly(refusal: AsmRefusal) -> Status
 }
 
 /// Why bytes are no packed set.
-pub(crate) fn of_packed(refusal: ImageRefusal) -> Status
+pub fn of_packed(refusal: ImageRefusal) -> Status
     ensures { result ≡ packed_answer refusal }
 {
     match refusal {

@@ -3,13 +3,12 @@
 ghost use Rattle.std.specs.Prelude.{◌≡◌, ◌≤◌, ◌+◌, ◌++◌, length};
 ghost use Rattle.std.specs.Fmt.{decimal};
 ghost use Rattle.arrayvec.specs.ArrayString.{array_string_len};
-ghost use Rattle.nv_base.specs.Streams.{PutFront, FaultCounted, appended};
-ghost use Rattle.sim_run.specs.Carried.{PutsName};
-ghost use Rattle.script.specs.Exits.{line_for};
+ghost use Rattle.answers.specs.Exits.{line_for};
+ghost use Rattle.answers.specs.Names.{PutsName};
 
+use crate::status::Status;
 use arrayvec::ArrayString;
 use nv_base::{Sink, put_all};
-use script::Status;
 
 /// Room for the longest such line, which has 38 bytes.
 const ROOM: usize = 64;
@@ -62,9 +61,8 @@ fn line_for(status: Status) -> ArrayString<ROOM>
 }
 
 /// Puts the line that names an answer. A sink that fails here does not change the answer.
-pub(crate) fn put_name<K: Sink>(out: &mut K, status: Status)
-    ensures named { PutsName (K.taken out.old) (K.taken out.new) (FaultCounted (K.faults out.old) (K.faults out.new)) (line_for status) }
-    ensures never_falls { K.faults out.old ≤ K.faults out.new }
+pub fn put_name<K: Sink>(out: &mut K, status: Status)
+    ensures { PutsName status (K.seen out.old) (K.seen out.new) }
 {
     let line = line_for(status);
     let _ = put_all(out, line.as_bytes());

@@ -1,0 +1,27 @@
+-- The exit number of each answer, and the line that names it on the output. This project's own.
+use Rattle.std.specs.Prelude.{ℕ, List, [], ◌++◌, codes}
+use Rattle.std.specs.Fmt.{decimal}
+use Rattle.script.specs.CauseWords.{cause_word}
+use Rattle.answers.specs.declared.status.Status.{Status}
+use Rattle.answers.specs.declared.status.Status.TheVariants.{Done, Usage, Script, Packed, ReadFault, WriteFault, NoMemory, NotBuilt}
+
+abbrev pub exit_of : Status → ℕ
+exit_of Done = 0
+exit_of Usage = 2
+exit_of (Script e) = 3
+exit_of (Packed place) = 3
+exit_of ReadFault = 4
+exit_of WriteFault = 5
+exit_of NoMemory = 6
+exit_of NotBuilt = 11
+
+-- with its line feed
+abbrev pub line_for : Status → List ℕ
+line_for Done = []
+line_for WriteFault = []
+line_for Usage = codes "error usage\n"
+line_for (Script e) = codes "error script " ++ decimal e.line ++ codes " " ++ cause_word e.cause ++ codes "\n"
+line_for (Packed place) = codes "error packed " ++ decimal place ++ codes "\n"
+line_for ReadFault = codes "error read\n"
+line_for NoMemory = codes "error memory\n"
+line_for NotBuilt = codes "error notbuilt\n"

@@ -1,0 +1,30 @@
+-- What a call has done before the line that names its answer.
+use Rattle.std.specs.Prelude.{◌≡◌, List, ℕ, Option}
+use Rattle.nv_base.specs.Streams.{PutsFront, PutsText, Stream}
+use Rattle.nv_base.specs.WholeInputs.{Stops}
+use Rattle.nv_base.specs.declared.whole.ReadRefusal.TheVariants as reading
+use Rattle.sim_run.specs.Replies.{Reply, Puts, Refuses, too_long, most_input}
+use Rattle.sim_run.specs.Answers.{AnsweredBy, Exchange}
+use Rattle.sim_run.specs.declared.command.Command.{Command}
+use Rattle.answers.specs.declared.status.Status.{Status}
+use Rattle.answers.specs.declared.status.Status.TheVariants.{Done, Usage, ReadFault, WriteFault, NoMemory, Script}
+
+-- the answer stands, and nothing was put to name it
+abbrev pub BeforeAnswerLine : Option Command → Exchange → Status → Type 0
+BeforeAnswerLine command x status = AnsweredBy (λ named. x.sink_now ≡ x.sink) command x status
+
+-- why no input was read
+abbrev pub Unread : Stream → Stream → Status → Type 0
+Unread old new ReadFault = Stops most_input old new reading.ReadFault
+Unread old new (Script e) = (e ≡ too_long) × Stops most_input old new reading.TooLong
+Unread old new NoMemory = Stops most_input old new reading.NoMemory
+Unread old new _ = ⊥
+
+-- what was put by way of a reply
+abbrev pub PutReply : Reply → Stream → Stream → Status → Type 0
+PutReply r old new Done = (text : List ℕ) × (r ≡ Puts text) × PutsText text old new
+PutReply r old new Usage = ⊥
+PutReply r old new ReadFault = ⊥
+PutReply r old new WriteFault = (text : List ℕ) × (r ≡ Puts text) × PutsFront text old new
+PutReply r old new NoMemory = new ≡ old
+PutReply r old new status = (r ≡ Refuses status) × (new ≡ old)
