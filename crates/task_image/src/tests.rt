@@ -90,31 +90,30 @@ fn a_set_is_written_as_its_bytes(rt: HostRuntime) -> Result<(), Fail> {
     Ok(())
 }
 
-// whether the numbers are those of the parts
-fn has_numbers(set: &TaskSet) -> bool {
-    let numbers = set.format() == 1 && set.cores() == 1 && set.memory() == 1024;
-    numbers && set.records() == 1 && set.objects() == 1 && set.programs() == 1
-}
-
-// whether the object and the program are those of the parts
-fn has_things(set: &TaskSet) -> bool {
-    if set.objects() < 1 || set.programs() < 1 {
-        return false;
-    }
-    let (x, add) = (ObjId(0), ProgId(0));
-    let object = set.size(x) == 1 && set.slots(x) == 2 && set.first(x) == [5].as_slice();
-    let program = set.fuel(add) == 100 && set.code(add) == CODE.as_slice();
-    let names = set.object_name(x) == b"x".as_slice() && set.program_name(add) == b"add".as_slice();
-    object && program && names
-}
-
 #[test]
 fn the_bytes_are_read_as_the_set(rt: HostRuntime) -> Result<(), Fail> {
     let Ok(set) = read_set(rt.alloc(), &PACKED) else {
-        return Err("refused")?;
+        assert!(rt; false);
+        return Ok(());
     };
-    let tasks = set.tasks();
-    assert!(rt; has_numbers(&set) && has_things(&set) && tasks.len() == 1 && tasks[0].arg == 7);
+    assert_eq!(rt; set.format(), 1);
+    assert_eq!(rt; set.cores(), 1);
+    assert_eq!(rt; set.memory(), 1024);
+    assert_eq!(rt; set.records(), 1);
+    assert_eq!(rt; set.objects(), 1);
+    assert_eq!(rt; set.programs(), 1);
+    assert!(rt; set.tasks().len() == 1 && set.tasks()[0].program.0 == 0 && set.tasks()[0].arg == 7);
+    if 0 < set.objects() {
+        assert!(rt; set.object_name(ObjId(0)) == b"x".as_slice());
+        assert_eq!(rt; set.size(ObjId(0)), 1);
+        assert_eq!(rt; set.slots(ObjId(0)), 2);
+        assert!(rt; set.first(ObjId(0)) == [5].as_slice());
+    }
+    if 0 < set.programs() {
+        assert!(rt; set.program_name(ProgId(0)) == b"add".as_slice());
+        assert_eq!(rt; set.fuel(ProgId(0)), 100);
+        assert!(rt; set.code(ProgId(0)) == CODE.as_slice());
+    }
     Ok(())
 }
 
