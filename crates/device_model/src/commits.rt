@@ -47,12 +47,14 @@ pub fn commit_has_turns()
     ensures writes { (l : Layout) (set : TaskSet) (h : Held) (c : Commit)
         → length (commit_writes l set h c) ≡ commit_turns l set h c }
     ensures counted { (l : Layout) (set : TaskSet) (h : Held) (i : FinishRecord) (slots : List ℕ)
-        → (base : DeviceState) (history : List FinishRecord) → h.index.tasks ≡ open_tasks base history
+        → (base : DeviceState) (history : List FinishRecord)
+        → h.index.tasks ≡ open_tasks base history
         → length h.index.slots ≡ length set.objects → length slots ≡ length set.objects
         → AllByRecursion (IsWrite (sizes_on l set)) i.run.writes
         → commit_turns l set h (commit_of h i slots)
         ≡ turns.commit_writes (sizes_on l set) base history i }
-    ensures format_1 { (set : TaskSet) (h : Held) (i : FinishRecord) (slots : List ℕ) (base : DeviceState)
+    ensures format_1 { (set : TaskSet) (h : Held) (i : FinishRecord) (slots : List ℕ)
+        → (base : DeviceState)
         → (history : List FinishRecord) → AllByRecursion (IsWrite (sizes_of set)) i.run.writes
         → commit_turns (layout_of Kind.Plain set) set h (commit_of h i slots)
         ≡ turns.commit_writes (sizes_of set) base history i }
@@ -101,7 +103,8 @@ pub fn write_changes_one_slot()
 
 /// The commit of a finish leaves what is durable after that finish.
 pub fn commit_lists_finish()
-    ensures { (l : Layout) (set : TaskSet) (h : Held) (i : FinishRecord) (slots : List ℕ) (base : DeviceState)
+    ensures { (l : Layout) (set : TaskSet) (h : Held) (i : FinishRecord) (slots : List ℕ)
+        → (base : DeviceState)
         → (last : Option Entry) (history : List FinishRecord) (boots : ℕ)
         → durable_of h ≡ left_after base last boots history
         → durable_of (committed l set h (commit_of h i slots))

@@ -29,7 +29,8 @@ pub trait Fram {
     /// The word at a place. A lost read changes nothing.
     fn read(&mut self, at: u32) -> Result<u32, Lost>
         requires { at < length (start self.old) }
-        ensures word { IfOk result (λ word. word ≡ slice_index (made_in (log self.old) (start self.old)) at) }
+        ensures word { IfOk result (λ word. word
+            ≡ slice_index (made_in (log self.old) (start self.old)) at) }
         ensures kept { log self.new ≡ log self.old }
         ensures same { start self.new ≡ start self.old }
         ensures failed { OnErr result (FaultCounted (lost self.old) (lost self.new)) }
@@ -39,7 +40,8 @@ pub trait Fram {
     fn write(&mut self, at: u32, word: u32) -> Result<(), Lost>
         requires { at < length (start self.old) }
         ensures written { OnOk result (log self.new ≡ log self.old ++ (at, word) ∷ []) }
-        ensures either { OnErr result ((log self.new ≡ log self.old) ⊎ (log self.new ≡ log self.old ++ (at, word) ∷ [])) }
+        ensures either { OnErr result ((log self.new ≡ log self.old)
+            ⊎ (log self.new ≡ log self.old ++ (at, word) ∷ [])) }
         ensures same { start self.new ≡ start self.old }
         ensures failed { OnErr result (FaultCounted (lost self.old) (lost self.new)) }
         ensures never_falls { lost self.old ≤ lost self.new };

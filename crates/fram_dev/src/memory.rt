@@ -71,7 +71,8 @@ impl MemFram {
         ensures words { words_in self.new ≡ slice_set (words_in self.old) at v }
         ensures start { ⟦<MemFram as Fram>⟧.start self.new ≡ words_in self.new }
         ensures log { ⟦<MemFram as Fram>⟧.log self.new ≡ [] }
-        ensures passes { (self.new.passes ≡ self.old.passes) × (self.new.fused ≡ self.old.fused) × (self.new.makes_lost ≡ self.old.makes_lost) }
+        ensures passes { (self.new.passes ≡ self.old.passes) × (self.new.fused ≡ self.old.fused)
+            × (self.new.makes_lost ≡ self.old.makes_lost) }
         ensures lost { ⟦<MemFram as Fram>⟧.lost self.new ≡ ⟦<MemFram as Fram>⟧.lost self.old }
     {
         self.words[at as usize] = v;
@@ -133,14 +134,16 @@ impl Fram for MemFram {
 
     fn read(&mut self, at: u32) -> Result<u32, Lost>
         requires { at < length (self.old.start.items) }
-        ensures word { IfOk result (λ word. word ≡ slice_index (made_in (self.old.log.items) (self.old.start.items)) at) }
+        ensures word { IfOk result (λ word. word
+            ≡ slice_index (made_in (self.old.log.items) (self.old.start.items)) at) }
         ensures kept { self.new.log.items ≡ self.old.log.items }
         ensures same { self.new.start.items ≡ self.old.start.items }
         ensures failed { OnErr result (FaultCounted (self.old.lost) (self.new.lost)) }
         ensures never_falls { self.old.lost ≤ self.new.lost }
         ensures alive { IsAlive self.old → IsOk result }
         ensures dead { self.old.passes ≡ 0 → self.old.fused ≡ false → IsErr result }
-        ensures passes { (self.new.passes ≡ self.old.passes) × (self.new.fused ≡ self.old.fused) × (self.new.makes_lost ≡ self.old.makes_lost) }
+        ensures passes { (self.new.passes ≡ self.old.passes) × (self.new.fused ≡ self.old.fused)
+            × (self.new.makes_lost ≡ self.old.makes_lost) }
     {
         if self.passes == 0 && !self.fused {
             return Err(self.lose());
@@ -151,12 +154,17 @@ impl Fram for MemFram {
     fn write(&mut self, at: u32, word: u32) -> Result<(), Lost>
         requires { at < length (self.old.start.items) }
         ensures written { OnOk result (self.new.log.items ≡ self.old.log.items ++ (at, word) ∷ []) }
-        ensures either { OnErr result ((self.new.log.items ≡ self.old.log.items) ⊎ (self.new.log.items ≡ self.old.log.items ++ (at, word) ∷ [])) }
+        ensures either { OnErr result ((self.new.log.items ≡ self.old.log.items)
+            ⊎ (self.new.log.items ≡ self.old.log.items ++ (at, word) ∷ [])) }
         ensures same { self.new.start.items ≡ self.old.start.items }
         ensures failed { OnErr result (FaultCounted (self.old.lost) (self.new.lost)) }
         ensures never_falls { self.old.lost ≤ self.new.lost }
-        ensures alive { 0 < self.old.passes → (IsOk result) × (self.new.passes ≡ self.old.passes - 1) × (self.new.fused ≡ self.old.fused) × (self.new.makes_lost ≡ self.old.makes_lost) }
-        ensures dead { self.old.passes ≡ 0 → (IsErr result) × (self.new.passes ≡ 0) × (self.new.fused ≡ false) × (self.new.makes_lost ≡ false) }
+        ensures alive { 0 < self.old.passes
+            → (IsOk result) × (self.new.passes ≡ self.old.passes - 1)
+            × (self.new.fused ≡ self.old.fused) × (self.new.makes_lost ≡ self.old.makes_lost) }
+        ensures dead { self.old.passes ≡ 0
+            → (IsErr result) × (self.new.passes ≡ 0) × (self.new.fused ≡ false)
+            × (self.new.makes_lost ≡ false) }
         ensures lost_one { self.old.passes ≡ 0 → self.new.log.items ≡ lost_log self.old (at, word) }
     {
         if self.passes > 0 {

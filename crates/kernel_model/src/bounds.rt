@@ -34,7 +34,8 @@ pub fn bound_goes_on<M>()
 
 /// The bounds give the interval of a finish whose attempt began at the floor or later.
 pub fn bounds_give_interval()
-    ensures { (base : DeviceState) (history : List FinishRecord) (floor start : ℕ) (reads : List Read) (run : Run)
+    ensures { (base : DeviceState) (history : List FinishRecord) (floor start : ℕ)
+        → (reads : List Read) (run : Run)
         → floor ≤ start
         → (let before = read_interval base history start reads in
         raised_by (λ o. bound_of floor o history) run.writes before
@@ -53,7 +54,8 @@ pub fn bounds_give_ready_interval<M>()
 
 /// The point of a finish that commits is at least the bound of each object that it writes.
 pub fn commit_is_above_bounds<M>()
-    ensures { (world : World M) (s : State M) (floor k left o : ℕ) (i : FinishRecord) (words : List ℕ)
+    ensures { (world : World M) (s : State M) (floor k left o : ℕ) (i : FinishRecord)
+        → (words : List ℕ)
         → IsSound world s → IsFloor world.base floor s
         → get_or s.cores k Core.Idle ≡ Core.Committing i left
         → written i.run.writes o ≡ Option.Some words → bound_of floor o s.history ≤ i.point }

@@ -35,8 +35,10 @@ pub fn sorted_entries_are_in_order()
 /// The finish of an entry is the whole run of its task on these tables that has this entry, and there is none where no run has.
 pub fn item_has_entry()
     ensures { (whole : Programs) (t : Tables) (e : Entry)
-        → ((i : FinishRecord) → item_on whole t e ≡ Option.Some i → IsRunOn whole i t × (entry_of i ≡ e))
-        × (item_on whole t e ≡ Option.None → (i : FinishRecord) → IsRunOn whole i t → entry_of i ≡ e → ⊥) }
+        → ((i : FinishRecord) → item_on whole t e ≡ Option.Some i
+        → IsRunOn whole i t × (entry_of i ≡ e))
+        × (item_on whole t e ≡ Option.None → (i : FinishRecord) → IsRunOn whole i t
+        → entry_of i ≡ e → ⊥) }
 {}
 
 /// The next entry in serial order stands at its place in the listing, and only its own finish has this place.
@@ -99,7 +101,8 @@ pub fn serial_entries_are_replayed()
 
 /// A listing with a wrong place is serial with no state.
 pub fn wrong_entries_are_not_serial()
-    ensures { (whole : Programs) (base : DeviceState) (entries : List Entry) (place : ℕ) (f : DeviceState)
+    ensures { (whole : Programs) (base : DeviceState) (entries : List Entry) (place : ℕ)
+        → (f : DeviceState)
         → replay whole base entries ≡ Replayed.Wrong place → Serial whole base entries f → ⊥ }
 {}
 

@@ -10,7 +10,8 @@ ghost use Rattle.kernel_model.specs.Fit.{HasOldTasks};
 
 /// No finish leaves the base as it is.
 pub fn no_finish_is_serial()
-    ensures { (whole : Programs) (base : DeviceState) → InIdOrder base.tasks → Serial whole base [] base }
+    ensures { (whole : Programs) (base : DeviceState) → InIdOrder base.tasks
+        → Serial whole base [] base }
 {}
 
 /// A serial listing goes on with the whole run of an open task on the state that it left, at that state's clock or later.

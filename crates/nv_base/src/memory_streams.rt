@@ -53,10 +53,12 @@ impl Source for MemSource {
     /// Fails exactly at a call that is listed, and otherwise takes as many bytes as are left and
     /// the buffer has room for.
     fn take(&mut self, buf: &mut [u8]) -> Result<usize, SourceFailed>
-        ensures took { IfOk result (λ n. Takes n buf.new (source_seen self.old) (source_seen self.new)) }
+        ensures took { IfOk result
+            (λ n. Takes n buf.new (source_seen self.old) (source_seen self.new)) }
         ensures failed { OnErr result (Fails (source_seen self.old) (source_seen self.new)) }
         ensures errs { IsErr result ↔ Contains (source_fails self.old) (source_calls self.new) }
-        ensures count { IfOk result (λ n. n ≡ min (length (source_left self.old)) (length buf.new)) }
+        ensures count { IfOk result (λ n. n
+            ≡ min (length (source_left self.old)) (length buf.new)) }
         ensures calls { source_calls self.new ≡ next_call (source_calls self.old) }
         ensures fails { source_fails self.new ≡ source_fails self.old }
     {
@@ -127,10 +129,13 @@ impl Sink for MemSink {
     /// Fails exactly at a call that is listed or where the sink is full, and otherwise takes as
     /// many bytes as the piece has and the sink has room for.
     fn put(&mut self, piece: &[u8]) -> Result<usize, SinkFailed>
-        ensures put { IfOk result (λ n. PutsText (front n piece.now) (sink_seen self.old) (sink_seen self.new)) }
+        ensures put { IfOk result
+            (λ n. PutsText (front n piece.now) (sink_seen self.old) (sink_seen self.new)) }
         ensures failed { OnErr result (Fails (sink_seen self.old) (sink_seen self.new)) }
-        ensures errs { IsErr result ↔ ((room_of self.old ≡ length (sink_bytes self.old)) ⊎ Contains (sink_fails self.old) (sink_calls self.new)) }
-        ensures count { IfOk result (λ n. n ≡ min (length piece.now) (room_of self.old - length (sink_bytes self.old))) }
+        ensures errs { IsErr result ↔ ((room_of self.old ≡ length (sink_bytes self.old))
+            ⊎ Contains (sink_fails self.old) (sink_calls self.new)) }
+        ensures count { IfOk result (λ n. n
+            ≡ min (length piece.now) (room_of self.old - length (sink_bytes self.old))) }
         ensures calls { sink_calls self.new ≡ next_call (sink_calls self.old) }
         ensures fails { sink_fails self.new ≡ sink_fails self.old }
         ensures room { room_of self.new ≡ room_of self.old }

@@ -70,7 +70,8 @@ impl<R: Read> Source for StdSource<R> {
 
     fn take(&mut self, buf: &mut [u8]) -> Result<usize, SourceFailed>
         ensures within { IfOk result (λ n. n ≤ length buf.new) }
-        ensures bytes { ReadConsumes (R.remaining (reader_of self.old)) (R.remaining (reader_of self.new)) result buf.new }
+        ensures bytes { ReadConsumes (R.remaining (reader_of self.old))
+            (R.remaining (reader_of self.new)) result buf.new }
         ensures still { OnOk result (read_faults self.new ≡ read_faults self.old) }
         ensures failed { OnErr result (FaultCounted (read_faults self.old) (read_faults self.new)) }
         ensures never_falls { read_faults self.old ≤ read_faults self.new }
@@ -102,9 +103,11 @@ impl<W: Write> Sink for StdSink<W> {
     fn put(&mut self, piece: &[u8]) -> Result<usize, SinkFailed>
         ensures within { IfOk result (λ n. n ≤ length piece.now) }
         ensures some { IfOk result (λ n. 0 < length piece.now → 0 < n) }
-        ensures bytes { WriteAppends (W.contents (writer_of self.old)) (W.contents (writer_of self.new)) result piece.now }
+        ensures bytes { WriteAppends (W.contents (writer_of self.old))
+            (W.contents (writer_of self.new)) result piece.now }
         ensures still { OnOk result (write_faults self.new ≡ write_faults self.old) }
-        ensures failed { OnErr result (FaultCounted (write_faults self.old) (write_faults self.new)) }
+        ensures failed { OnErr result
+            (FaultCounted (write_faults self.old) (write_faults self.new)) }
         ensures never_falls { write_faults self.old ≤ write_faults self.new }
     {
         write_some(&mut self.writer, &mut self.count, piece)

@@ -42,7 +42,8 @@ pub trait Sink {
     fn put(&mut self, piece: &[u8]) -> Result<usize, SinkFailed>
         ensures within { IfOk result (λ n. n ≤ length piece.now) }
         ensures some { IfOk result (λ n. 0 < length piece.now → 0 < n) }
-        ensures put { IfOk result (λ n. PutsText (take n piece.now) (seen self.old) (seen self.new)) }
+        ensures put { IfOk result
+            (λ n. PutsText (take n piece.now) (seen self.old) (seen self.new)) }
         ensures failed { OnErr result (Fails (seen self.old) (seen self.new)) }
         ensures never_falls { (seen self.old).faults ≤ (seen self.new).faults };
 }

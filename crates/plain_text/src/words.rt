@@ -82,7 +82,8 @@ pub fn without_comment(line: &[u8]) -> &[u8]
 /// The first word, and what stands after it. None where there is no word.
 pub fn first_word(bytes: &[u8]) -> Option<(&[u8], &[u8])>
     ensures parts { option_map (λ p. (p.0.now, p.1.now)) result ≡ word_and_rest bytes.now }
-    ensures words { MatchOption result (words_in bytes.now ≡ []) (λ p. words_in bytes.now ≡ p.0.now ∷ words_in p.1.now) }
+    ensures words { MatchOption result (words_in bytes.now ≡ []) (λ p. words_in bytes.now
+        ≡ p.0.now ∷ words_in p.1.now) }
 {
     let rest = &bytes[first_other(bytes)?..];
     Some(rest.split_at(first_blank(rest).unwrap_or(rest.len())))

@@ -11,7 +11,8 @@ use std::marker::Model;
 /// Step n of those that a seed draws: a jump ahead, and one word.
 pub(crate) fn drawn_core(seed: u32, cores: u8, n: u32) -> u8
     requires { 1 ≤ cores }
-    ensures { (count : ℕ) → n < count → slice_get (map (core_of_word cores) (words count (generator_of seed))) n ≡ Some result }
+    ensures { (count : ℕ) → n < count
+        → slice_get (map (core_of_word cores) (words count (generator_of seed))) n ≡ Some result }
 {
     let mut generator = Lcg64Xsh32::new(u64::from(seed), 0);
     generator.advance(u64::from(n));

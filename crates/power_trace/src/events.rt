@@ -39,7 +39,8 @@ impl<'a> Events<'a> {
     // The events of these items and on-times.
     pub(crate) fn new(cores: u8, items: &'a [StepItem], on: &'a [u32]) -> Events<'a>
         requires { 1 ≤ cores }
-        ensures { result ≡ with_failures on.entry.now (core_steps cores (map item_of items.entry.now)) }
+        ensures { result ≡ with_failures on.entry.now
+            (core_steps cores (map item_of items.entry.now)) }
     {
         let (due, later) = first_due(on);
         Events {

@@ -72,7 +72,8 @@ pub(crate) fn failures_of(alloc: Global, on: &[u32], steps: u32) -> Result<Vec<u
 fn last_start(starts: &[u32], step: u32) -> usize
     requires some { 0 < length starts.now }
     requires first { slice_index starts.now 0 ≡ 0 }
-    requires rising { (i j : ℕ) → i < j → j < length starts.now → slice_index starts.now i < slice_index starts.now j }
+    requires rising { (i j : ℕ) → i < j → j < length starts.now
+        → slice_index starts.now i < slice_index starts.now j }
     ensures within { result < length starts.now }
     ensures low { slice_index starts.now result ≤ step }
     ensures high { (k : ℕ) → result < k → k < length starts.now → step < slice_index starts.now k }

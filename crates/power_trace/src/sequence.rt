@@ -9,7 +9,8 @@ use std::marker::Model;
 /// Step n of a sequence that is repeated often enough.
 pub(crate) fn core_in_order(order: &[u8], n: u32) -> u8
     requires { 0 < length order.now }
-    ensures { (times : ℕ) → n < length order.now * times → slice_get (repeated times order.now) n ≡ Some result }
+    ensures { (times : ℕ) → n < length order.now * times
+        → slice_get (repeated times order.now) n ≡ Some result }
 {
     order[n as usize % order.len()]
 }

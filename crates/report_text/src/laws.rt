@@ -15,9 +15,11 @@ use nv_base::TrapCause;
 
 /// The trap of a run has a word, that of the cause with its number; 0, which is no cause's number, has none.
 pub fn trap_has_word()
-    ensures own { (cause : TrapCause) → numbered_cause_word (cause_number cause) ≡ cause_word cause }
+    ensures own { (cause : TrapCause)
+        → numbered_cause_word (cause_number cause) ≡ cause_word cause }
     ensures each { (n : ℕ) → IsOutcome (Trap n)
-        → (cause : TrapCause) × (cause_number cause ≡ n) × (numbered_cause_word n ≡ cause_word cause) }
+        → (cause : TrapCause) × (cause_number cause ≡ n)
+        × (numbered_cause_word n ≡ cause_word cause) }
     ensures zero { numbered_cause_word 0 ≡ [] }
 {}
 

@@ -24,8 +24,10 @@ fn note_line<'a>(
     place: u32,
     bytes: &'a [u8],
 ) -> Result<u32, AllocError>
-    ensures labels { OnOk result (find_in labels.new ≡ noted (find_in labels.old) (parsed bytes.entry.now).label (spot number place)) }
-    ensures count { IfOk result (λ n. (n ≡ line_count (find_in labels.old) (parsed bytes.entry.now)) × (n ≤ 2)) }
+    ensures labels { OnOk result (find_in labels.new
+        ≡ noted (find_in labels.old) (parsed bytes.entry.now).label (spot number place)) }
+    ensures count { IfOk result (λ n. (n
+        ≡ line_count (find_in labels.old) (parsed bytes.entry.now)) × (n ≤ 2)) }
 {
     let line = parse(bytes);
     match line.label {
@@ -48,7 +50,8 @@ fn note_line<'a>(
 #[tactic(auto, unfolding(crate::specs::Labels::labels_from))]
 fn labels_of<'a>(alloc: Global, lines: &[&'a [u8]]) -> Result<Labels<'a>, AllocError>
     requires { length lines.now ≤ MAX_INPUT }
-    ensures { IfOk result (λ labels. find_in labels ≡ labels_in (map parsed (map (λ line. line.now) lines.now))) }
+    ensures { IfOk result (λ labels. find_in labels
+        ≡ labels_in (map parsed (map (λ line. line.now) lines.now))) }
 {
     let mut labels = Labels::new(alloc);
     let mut number = 1;
@@ -62,7 +65,8 @@ fn labels_of<'a>(alloc: Global, lines: &[&'a [u8]]) -> Result<Labels<'a>, AllocE
 
 /// Whether a label did not stand on an earlier line.
 fn check_label(labels: &Labels<'_>, number: u32, label: Option<&[u8]>) -> Result<(), AsmCause>
-    ensures { result ≡ label_taken (find_in labels.now) number (option_map (λ name. name.now) label.entry) }
+    ensures { result ≡ label_taken (find_in labels.now) number
+        (option_map (λ name. name.now) label.entry) }
 {
     let Some(name) = label else {
         return Ok(());
@@ -96,7 +100,8 @@ fn take_line(
     bytes: &[u8],
 ) -> Result<(), LineRefusal>
     requires { vec_len words.old ≤ MAX_CODE }
-    ensures line { Leaves words.new.items result (line_after (find_in labels.now) number words.old.items (parsed bytes.now)) }
+    ensures line { Leaves words.new.items result
+        (line_after (find_in labels.now) number words.old.items (parsed bytes.now)) }
     ensures few { OnOk result (vec_len words.new ≤ MAX_CODE) }
 {
     let line = parse(bytes);
@@ -113,7 +118,8 @@ fn take_line(
 #[tactic(auto, unfolding(crate::specs::Assembly::lines_after))]
 fn encode_lines(alloc: Global, labels: &Labels<'_>, lines: &[&[u8]]) -> Result<Vec<u32>, AsmRefusal>
     requires { length lines.now ≤ MAX_INPUT }
-    ensures { Gives (λ words. words.items) result (lines_after (find_in labels.now) 1 [] (map parsed (map (λ line. line.now) lines.now))) }
+    ensures { Gives (λ words. words.items) result
+        (lines_after (find_in labels.now) 1 [] (map parsed (map (λ line. line.now) lines.now))) }
 {
     let mut words = Vec::new(alloc);
     let mut number = 1;

@@ -27,7 +27,8 @@ pub fn disassemble(alloc: Global, words: &[u32]) -> Result<String, NoMemory>
 /// The lines of at most 1,024 words, as `disassemble` writes them, are assembled to these words: by the
 /// contracts of the two, `assemble` of what `disassemble` gave answers the words, or that memory ran out.
 pub fn disassembled_is_assembled_back()
-    ensures { (words : List ℕ) → AllByRecursion (λ word. word < 2 ^ 32) words → length words ≤ MAX_CODE → assembled (lines (disassembled words)) ≡ Ok words }
+    ensures { (words : List ℕ) → AllByRecursion (λ word. word < 2 ^ 32) words
+        → length words ≤ MAX_CODE → assembled (lines (disassembled words)) ≡ Ok words }
 {
     rv_isa::laws::reading_is_written_back();
 }

@@ -247,7 +247,8 @@ fn indirect_jump(rs1: Reg) -> Instr
 
 #[tactic(auto, unfolding(crate::specs::Forms::pseudo_forms))]
 fn pseudo_form(word: &[u8]) -> Option<Form>
-    ensures { option_map form_seen result ≡ option_map form_parts (form_among pseudo_forms word.now) }
+    ensures { option_map form_seen result
+        ≡ option_map form_parts (form_among pseudo_forms word.now) }
 {
     if word == b"nop".as_slice() {
         Some(make_form(&[], imm_template(ImmOp::Addi)))

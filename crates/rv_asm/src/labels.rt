@@ -40,8 +40,10 @@ impl<'a> Labels<'a> {
 
     /// Notes the spot of a label, unless it has one; whether it was new.
     pub fn note(&mut self, name: &'a [u8], spot: Spot) -> Result<bool, AllocError>
-        ensures new_ { IfOk result (λ fresh. fresh ≡ not (is_some (find_in self.old name.entry.now))) }
-        ensures noted { OnOk result (find_in self.new ≡ noted (find_in self.old) (Some name.entry.now) spot) }
+        ensures new_ { IfOk result (λ fresh. fresh
+            ≡ not (is_some (find_in self.old name.entry.now))) }
+        ensures noted { OnOk result (find_in self.new
+            ≡ noted (find_in self.old) (Some name.entry.now) spot) }
     {
         if self.find(name).is_some() {
             return Ok(false);

@@ -34,7 +34,8 @@ pub struct Line<'a> {
 }
 
 fn instruction(form: Form, text: &[u8]) -> Option<Body<'_>>
-    ensures { option_map body_seen result ≡ instruction_in form.operands.now form.template text.entry.now }
+    ensures { option_map body_seen result
+        ≡ instruction_in form.operands.now form.template text.entry.now }
 {
     let partial = Open {
         instr: form.template,

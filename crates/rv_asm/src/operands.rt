@@ -60,7 +60,9 @@ fn opening_at(word: &[u8]) -> Option<usize>
 }
 
 fn cut_address(word: &[u8]) -> Option<(&[u8], &[u8])>
-    ensures { MatchOption result (after_first parenthesis word.now ≡ []) (λ p. (p.0.now ≡ before_first parenthesis word.now) × (p.1.now ≡ after_first parenthesis word.now)) }
+    ensures { MatchOption result (after_first parenthesis word.now
+        ≡ []) (λ p. (p.0.now ≡ before_first parenthesis word.now)
+        × (p.1.now ≡ after_first parenthesis word.now)) }
 {
     let at = opening_at(word)?;
     Some((&word[..at], &word[at + 1..]))
@@ -78,7 +80,8 @@ fn address_of(word: &[u8]) -> Option<(i64, Reg)>
 
 #[tactic(auto, unfolding(crate::specs::Operands::fill))]
 fn fill<'a>(operand: Operand, word: &'a [u8], partial: Open<'a>) -> Option<Open<'a>>
-    ensures { option_map open_seen result ≡ filled_by operand word.entry.now (open_seen partial.entry) }
+    ensures { option_map open_seen result
+        ≡ filled_by operand word.entry.now (open_seen partial.entry) }
 {
     let Open { instr, value } = partial;
     match operand {
@@ -120,7 +123,8 @@ fn comma_at(text: &[u8]) -> Option<usize>
 
 /// What stands before the first comma, and behind it where there is one.
 pub fn cut(text: &[u8]) -> (&[u8], Option<&[u8]>)
-    ensures { slice_split comma text.now ≡ result.0.now ∷ pieces_left (option_map (λ rest. rest.now) result.1) }
+    ensures { slice_split comma text.now
+        ≡ result.0.now ∷ pieces_left (option_map (λ rest. rest.now) result.1) }
 {
     match comma_at(text) {
         Some(end) => (&text[..end], Some(&text[end + 1..])),
@@ -164,7 +168,8 @@ pub fn two(text: &[u8]) -> Option<(&[u8], &[u8])>
 
 /// An instruction with an operand filled in from each piece of a text, as many as there are operands.
 pub fn filled<'a>(operands: &[Operand], text: &'a [u8], partial: Open<'a>) -> Option<Open<'a>>
-    ensures { option_map open_seen result ≡ filled_in operands.now (pieces_of text.entry.now) (open_seen partial.entry) }
+    ensures { option_map open_seen result
+        ≡ filled_in operands.now (pieces_of text.entry.now) (open_seen partial.entry) }
 {
     let mut rest = worded(text);
     let mut partial = partial;

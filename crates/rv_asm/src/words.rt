@@ -92,7 +92,9 @@ fn valued(instr: Instr, value: i64) -> Result<Code, AsmCause>
 
 fn instruction(labels: &Labels<'_>, here: u32, partial: Open<'_>) -> Result<Code, AsmCause>
     requires { IsInstr partial.instr }
-    ensures { code_seen result ≡ instruction_words (find_in labels.now) here partial.entry.instr (value_seen partial.entry.value) }
+    ensures { code_seen result
+        ≡ instruction_words (find_in labels.now) here partial.entry.instr
+        (value_seen partial.entry.value) }
 {
     match partial.value {
         Value::Absent => Ok(Code::One(encode(partial.instr))),

@@ -88,7 +88,8 @@ fn take_code_line(code: &mut WordList, line: &[u8]) -> Result<(), LineRefusal>
 #[tactic(auto, unfolding(crate::specs::Blocks::code_lines_after), using(crate::proofs::BodyLines::lines_next, crate::proofs::BodyLines::lines_over))]
 fn code_lines(alloc: Global, n: u32, body: &[&[u8]]) -> Result<WordList, ScriptRefusal>
     requires { n + length body.now < 2 ^ 32 }
-    ensures { Gives (λ code. code) result (code_lines_after n [] (map (λ line. line.now) body.now)) }
+    ensures { Gives (λ code. code) result
+        (code_lines_after n [] (map (λ line. line.now) body.now)) }
 {
     let mut code = WordList::new(alloc);
     let mut number = n;
@@ -161,7 +162,9 @@ impl Draft {
         end: Option<&[u8]>,
     ) -> Result<(), LineRefusal>
         requires { length self.old.set.programs ≢ MAX_PROGRAMS }
-        ensures { Leaves self.new result (program_after self.old (header_of header.entry) code (option_map (λ line. line.now) end.entry)) }
+        ensures { Leaves self.new result
+            (program_after self.old (header_of header.entry) code
+            (option_map (λ line. line.now) end.entry)) }
     {
         let _line = end_line(end)?;
         if (self.set.memory as usize) < 4 * code.as_slice().len() {
@@ -186,7 +189,10 @@ impl Draft {
     ) -> Result<(), ScriptRefusal>
         requires few { length block.body.items ≤ MAX_INPUT }
         requires numbers { n + length block.body.items + 1 < 2 ^ 32 }
-        ensures { Leaves self.new result (block_after n self.old block.entry.kind (words_left block.entry.words) (map (λ line. line.now) block.entry.body.items) (option_map (λ line. line.now) block.entry.end)) }
+        ensures { Leaves self.new result
+            (block_after n self.old block.entry.kind (words_left block.entry.words)
+            (map (λ line. line.now) block.entry.body.items)
+            (option_map (λ line. line.now) block.entry.end)) }
     {
         let header = match self.header(block.words) {
             Ok(header) => header,

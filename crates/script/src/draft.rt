@@ -95,7 +95,8 @@ impl Draft {
         n: u32,
         words: Words<'_>,
     ) -> Result<(), LineRefusal>
-        ensures { Leaves self.new result (keyword_after keyword n self.old (words_left words.entry)) }
+        ensures { Leaves self.new result
+            (keyword_after keyword n self.old (words_left words.entry)) }
     {
         match keyword {
             Keyword::Nvk => take_format(&mut self.set, words),

@@ -131,7 +131,8 @@ pub(crate) fn all_steps(
     cores: u8,
     words: Words<'_>,
 ) -> Result<Vec<StepItem>, LineRefusal>
-    ensures { Gives (λ v. map item_of v.items) result (each (steps_word cores) (words_left words.entry)) }
+    ensures { Gives (λ v. map item_of v.items) result
+        (each (steps_word cores) (words_left words.entry)) }
 {
     let mut all = Vec::new(alloc);
     for word in words {

@@ -15,7 +15,8 @@ use task_set::Words as WordList;
 
 /// The lines, empty where they have a byte that is not allowed.
 fn or_empties<'a>(alloc: Global, body: &[&'a [u8]]) -> Result<Vec<&'a [u8]>, AllocError>
-    ensures { IfOk result (λ lines. map (λ line. line.now) lines.items ≡ map (λ line. or_empty line.now) body.now) }
+    ensures { IfOk result (λ lines. map (λ line. line.now) lines.items
+        ≡ map (λ line. or_empty line.now) body.now) }
 {
     let mut lines = Vec::new(alloc);
     for line in body {
@@ -41,7 +42,8 @@ fn fault(n: u32, error: AsmError) -> ScriptRefusal
 fn plain_code(alloc: Global, n: u32, lines: &[&[u8]]) -> Result<WordList, ScriptRefusal>
     requires few { length lines.now ≤ MAX_INPUT }
     requires numbers { n + length lines.now + 1 < 2 ^ 32 }
-    ensures { Gives (λ code. code) result (earlier n None (assembled (map (λ line. line.now) lines.now))) }
+    ensures { Gives (λ code. code) result
+        (earlier n None (assembled (map (λ line. line.now) lines.now))) }
 {
     match assemble_lines(alloc, lines) {
         Ok(words) => Ok(WordList::from_slice(alloc, &words)?),
@@ -56,7 +58,8 @@ fn bad_code(alloc: Global, n: u32, place: usize, lines: &[&[u8]]) -> ScriptRefus
     requires few { length lines.now ≤ MAX_INPUT }
     requires numbers { n + length lines.now + 1 < 2 ^ 32 }
     requires place { place < length lines.now }
-    ensures { Refuses result (earlier n (Some place) (assembled (map (λ line. line.now) lines.now))) }
+    ensures { Refuses result
+        (earlier n (Some place) (assembled (map (λ line. line.now) lines.now))) }
 {
     match assemble_lines(alloc, lines) {
         Err(AsmRefusal::NoMemory) => ScriptRefusal::NoMemory,

@@ -73,7 +73,8 @@ impl Draft {
 #[tactic(auto, unfolding(crate::specs::Reading::sections_after))]
 fn read_sections(alloc: Global, bytes: &[u8]) -> Result<(Draft, u32), ScriptRefusal>
     requires { length bytes.now ≤ MAX_INPUT }
-    ensures { Gives (λ r. (r.1, r.0)) result (sections_after 1 nothing (sections (lines bytes.now))) }
+    ensures { Gives (λ r. (r.1, r.0)) result
+        (sections_after 1 nothing (sections (lines bytes.now))) }
 {
     let mut draft = Draft::new(alloc);
     let mut lines = Lines::new(bytes);
@@ -117,7 +118,8 @@ fn refused(line: u32, cause: ScriptCause) -> ScriptRefusal
 fn finish(alloc: Global, draft: Draft, n: u32) -> Result<Script, ScriptRefusal>
     requires { draft.last ≡ Some Run → IsWithinLimits (script_of draft) }
     ensures reads { Gives script result (ended (n, draft)) }
-    ensures no_run { (draft.last ≡ Some Run) ⊎ (result ≡ Err (At (record { line = n; cause = ScriptCause.End }))) }
+    ensures no_run { (draft.last ≡ Some Run)
+        ⊎ (result ≡ Err (At (record { line = n; cause = ScriptCause.End }))) }
 {
     match draft.last {
         Some(Stage::Run) => whole(alloc, draft),
@@ -130,7 +132,8 @@ fn finish(alloc: Global, draft: Draft, n: u32) -> Result<Script, ScriptRefusal>
 #[tactic(auto, unfolding(crate::specs::Reading::read))]
 pub fn read_script(alloc: Global, bytes: &[u8]) -> Result<Script, ScriptRefusal>
     ensures reads { Gives script result (read bytes.now) }
-    ensures long { MAX_INPUT < length bytes.now → result ≡ Err (At (record { line = 0; cause = ScriptCause.Long })) }
+    ensures long { MAX_INPUT < length bytes.now
+        → result ≡ Err (At (record { line = 0; cause = ScriptCause.Long })) }
 {
     if LONGEST < bytes.len() {
         return Err(refused(0, ScriptCause::Long));

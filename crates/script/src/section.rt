@@ -68,8 +68,11 @@ fn take_block<'a>(
     opening: Opening<'a>,
     lines: &mut Lines<'a>,
 ) -> Result<Block<'a>, AllocError>
-    ensures block { IfOk result (λ b. sections_from (Some (open_of opening.entry)) (lines_left lines.old) ≡ block_of b ∷ sections_from None (lines_left lines.new)) }
-    ensures counted { IfOk result (λ b. length b.body.items + length (lines_left lines.new) ≤ length (lines_left lines.old)) }
+    ensures block { IfOk result
+        (λ b. sections_from (Some (open_of opening.entry)) (lines_left lines.old)
+        ≡ block_of b ∷ sections_from None (lines_left lines.new)) }
+    ensures counted { IfOk result (λ b. length b.body.items + length (lines_left lines.new)
+        ≤ length (lines_left lines.old)) }
 {
     let mut body = Vec::new(alloc);
     while let Some(line) = lines.next() {
@@ -97,9 +100,13 @@ pub(crate) fn next_section<'a>(
     alloc: Global,
     lines: &mut Lines<'a>,
 ) -> Result<Option<Section<'a>>, AllocError>
-    ensures section { IfOk result (λ o. MatchOption o (sections (lines_left lines.old) ≡ []) (λ s. sections (lines_left lines.old) ≡ section_of s ∷ sections (lines_left lines.new))) }
-    ensures counted { IfOk result (λ o. IfSome o (λ s. line_count (section_of s) + length (lines_left lines.new) ≤ length (lines_left lines.old) + 1)) }
-    ensures shrinks { IfOk result (λ o. IfSome o (λ s. length (lines_left lines.new) < length (lines_left lines.old))) }
+    ensures section { IfOk result (λ o. MatchOption o (sections (lines_left lines.old)
+        ≡ []) (λ s. sections (lines_left lines.old)
+        ≡ section_of s ∷ sections (lines_left lines.new))) }
+    ensures counted { IfOk result (λ o. IfSome o (λ s. line_count (section_of s)
+        + length (lines_left lines.new) ≤ length (lines_left lines.old) + 1)) }
+    ensures shrinks { IfOk result (λ o. IfSome o (λ s. length (lines_left lines.new)
+        < length (lines_left lines.old))) }
 {
     let Some(line) = lines.next() else {
         return Ok(None);

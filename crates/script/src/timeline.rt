@@ -54,7 +54,8 @@ fn push_times(list: &mut Vec<u32>, on: OnTimes) -> Result<(), AllocError>
 /// The on-times, each as often as it comes.
 #[tactic(auto, using(crate::proofs::Counts::times_more, crate::proofs::Counts::times_all))]
 fn one_by_one(alloc: Global, all: &[OnTimes]) -> Result<Vec<u32>, AllocError>
-    ensures { IfOk result (λ list. list.items ≡ flat_map (λ on. replicate on.times on.time) all.now) }
+    ensures { IfOk result (λ list. list.items
+        ≡ flat_map (λ on. replicate on.times on.time) all.now) }
 {
     let mut list = Vec::new(alloc);
     for on in all {
@@ -137,7 +138,8 @@ impl Timeline {
     /// The schedule on so many cores. `NoMemory` where it could not be kept.
     pub(crate) fn schedule(self, alloc: Global, cores: u8) -> Result<Schedule, NoMemory>
         requires { IsSchedule (record { cores = cores; items = self.items; on_times = self.on_times }) }
-        ensures { IfOk result (λ s. s ≡ record { cores = cores; items = self.items; on_times = self.on_times }) }
+        ensures { IfOk result (λ s. s
+            ≡ record { cores = cores; items = self.items; on_times = self.on_times }) }
     {
         Schedule::of_lists(alloc, cores, self.items, self.on_times)
     }

@@ -53,7 +53,8 @@ pub(crate) fn two(mut words: Words<'_>) -> Result<(&[u8], &[u8]), LineRefusal>
 
 /// Three words, and those after them.
 pub(crate) fn three(mut words: Words<'_>) -> Result<(&[u8], &[u8], &[u8], Words<'_>), LineRefusal>
-    ensures { Gives (λ w. (w.0.now, w.1.now, w.2.now, words_left w.3)) result (three_words (words_left words.entry)) }
+    ensures { Gives (λ w. (w.0.now, w.1.now, w.2.now, words_left w.3)) result
+        (three_words (words_left words.entry)) }
 {
     match (words.next(), words.next(), words.next()) {
         (Some(first), Some(second), Some(third)) => Ok((first, second, third, words)),

@@ -10,7 +10,8 @@ ghost use Rattle.script_text.specs.ScriptText.{script_text, unscheduled};
 /// The text of a set within all limits, whose names are names, is read as this set with an empty schedule: no such
 /// set has a text that is too long.
 pub fn script_text_is_read_back()
-    ensures { (set : TaskSet) → IsTaskSet set → IsNamed set → read (script_text set) ≡ Ok (unscheduled set) }
+    ensures { (set : TaskSet) → IsTaskSet set → IsNamed set
+        → read (script_text set) ≡ Ok (unscheduled set) }
 {
     rv_isa::laws::reading_is_written_back();
     rv_asm::disassembled_is_assembled_back();

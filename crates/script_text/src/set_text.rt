@@ -43,7 +43,8 @@ fn push_number(out: &mut String, word: &str, n: u32) -> Result<(), AllocError>
 
 /// Words, each behind a space.
 fn push_words(out: &mut String, words: &[u32]) -> Result<(), AllocError>
-    ensures { OnOk result (string_bytes out.new ≡ string_bytes out.old ++ flat_map (field (codes " ")) words.now) }
+    ensures { OnOk result (string_bytes out.new
+        ≡ string_bytes out.old ++ flat_map (field (codes " ")) words.now) }
 {
     for word in words {
         push_field(out, " ", *word)?;
@@ -54,7 +55,8 @@ fn push_words(out: &mut String, words: &[u32]) -> Result<(), AllocError>
 /// The line of an object.
 fn push_object(out: &mut String, set: &TaskSet, o: ObjId) -> Result<(), AllocError>
     requires { o.0 < length set.now.objects }
-    ensures { OnOk result (string_bytes out.new ≡ string_bytes out.old ++ object_text (object_at set.now o.0)) }
+    ensures { OnOk result (string_bytes out.new
+        ≡ string_bytes out.old ++ object_text (object_at set.now o.0)) }
 {
     out.push_str("object ")?;
     out.push_str(as_text(set.object_name(o)))?;
@@ -66,7 +68,8 @@ fn push_object(out: &mut String, set: &TaskSet, o: ObjId) -> Result<(), AllocErr
 
 /// Words of code, an instruction a line.
 fn push_code(out: &mut String, code: &[u32]) -> Result<(), NoMemory>
-    ensures { OnOk result (string_bytes out.new ≡ string_bytes out.old ++ flat_map code_text code.now) }
+    ensures { OnOk result (string_bytes out.new
+        ≡ string_bytes out.old ++ flat_map code_text code.now) }
 {
     for word in code {
         push_text(out, *word)?;
@@ -78,7 +81,8 @@ fn push_code(out: &mut String, code: &[u32]) -> Result<(), NoMemory>
 /// The lines of a program.
 fn push_program(out: &mut String, set: &TaskSet, p: ProgId) -> Result<(), NoMemory>
     requires { p.0 < length set.now.programs }
-    ensures { OnOk result (string_bytes out.new ≡ string_bytes out.old ++ program_text (program_at set.now p.0)) }
+    ensures { OnOk result (string_bytes out.new
+        ≡ string_bytes out.old ++ program_text (program_at set.now p.0)) }
 {
     out.push_str("program ")?;
     out.push_str(as_text(set.program_name(p)))?;
@@ -92,7 +96,8 @@ fn push_program(out: &mut String, set: &TaskSet, p: ProgId) -> Result<(), NoMemo
 /// The line of a task.
 fn push_task(out: &mut String, set: &TaskSet, task: Spawn) -> Result<(), AllocError>
     requires { task.program.0 < length set.now.programs }
-    ensures { OnOk result (string_bytes out.new ≡ string_bytes out.old ++ task_text set.now (spawn_of task)) }
+    ensures { OnOk result (string_bytes out.new
+        ≡ string_bytes out.old ++ task_text set.now (spawn_of task)) }
 {
     out.push_str("task ")?;
     out.push_str(as_text(set.program_name(task.program)))?;
@@ -102,7 +107,8 @@ fn push_task(out: &mut String, set: &TaskSet, task: Spawn) -> Result<(), AllocEr
 
 /// The lines of all objects.
 fn push_objects(out: &mut String, set: &TaskSet) -> Result<(), AllocError>
-    ensures { OnOk result (string_bytes out.new ≡ string_bytes out.old ++ flat_map object_text set.now.objects) }
+    ensures { OnOk result (string_bytes out.new
+        ≡ string_bytes out.old ++ flat_map object_text set.now.objects) }
 {
     for o in 0..set.objects() {
         push_object(out, set, ObjId(o))?;
@@ -112,7 +118,8 @@ fn push_objects(out: &mut String, set: &TaskSet) -> Result<(), AllocError>
 
 /// The lines of all programs.
 fn push_programs(out: &mut String, set: &TaskSet) -> Result<(), NoMemory>
-    ensures { OnOk result (string_bytes out.new ≡ string_bytes out.old ++ flat_map program_text set.now.programs) }
+    ensures { OnOk result (string_bytes out.new
+        ≡ string_bytes out.old ++ flat_map program_text set.now.programs) }
 {
     for p in 0..set.programs() {
         push_program(out, set, ProgId(p))?;
@@ -122,7 +129,8 @@ fn push_programs(out: &mut String, set: &TaskSet) -> Result<(), NoMemory>
 
 /// The lines of all tasks.
 fn push_tasks(out: &mut String, set: &TaskSet) -> Result<(), AllocError>
-    ensures { OnOk result (string_bytes out.new ≡ string_bytes out.old ++ flat_map (task_text set.now) set.now.tasks) }
+    ensures { OnOk result (string_bytes out.new
+        ≡ string_bytes out.old ++ flat_map (task_text set.now) set.now.tasks) }
 {
     for task in set.tasks() {
         push_task(out, set, *task)?;

@@ -29,20 +29,24 @@ pub fn formatted_state_is_fit()
 
 /// Each object of a set within the limits is within them.
 pub fn object_is_within()
-    ensures { (set : TaskSet) (o : ℕ) → IsTaskSet set → o < length set.objects → IsObject (object_at set o) }
+    ensures { (set : TaskSet) (o : ℕ) → IsTaskSet set → o < length set.objects
+        → IsObject (object_at set o) }
 {}
 
 /// Each program of a set within the limits is within them.
 pub fn program_is_within()
-    ensures { (set : TaskSet) (p : ℕ) → IsTaskSet set → p < length set.programs → IsProgram set.memory (program_at set p) }
+    ensures { (set : TaskSet) (p : ℕ) → IsTaskSet set → p < length set.programs
+        → IsProgram set.memory (program_at set p) }
 {}
 
 /// Each object of a set whose names are names has one.
 pub fn object_is_named()
-    ensures { (set : TaskSet) (o : ℕ) → IsNamed set → o < length set.objects → IsName (object_at set o).name }
+    ensures { (set : TaskSet) (o : ℕ) → IsNamed set → o < length set.objects
+        → IsName (object_at set o).name }
 {}
 
 /// Each program of a set whose names are names has one.
 pub fn program_is_named()
-    ensures { (set : TaskSet) (p : ℕ) → IsNamed set → p < length set.programs → IsName (program_at set p).name }
+    ensures { (set : TaskSet) (p : ℕ) → IsNamed set → p < length set.programs
+        → IsName (program_at set p).name }
 {}

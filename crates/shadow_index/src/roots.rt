@@ -58,7 +58,8 @@ impl Layout {
     fn page_of(&self, i: u32) -> (u8, u32)
         requires { (d : Device) × IsLayoutOf d self.now × (i < index_reads (layout_on d)) }
         ensures { (d : Device) → IsLayoutOf d self.now → i < index_reads (layout_on d)
-            → (result.0 ≡ i / (layout_on d).page_words) × (result.1 ≡ i % (layout_on d).page_words) }
+            → (result.0 ≡ i / (layout_on d).page_words)
+            × (result.1 ≡ i % (layout_on d).page_words) }
     {
         match self.kind {
             DeviceKind::Plain => (0, i),

@@ -31,7 +31,8 @@ ghost use Rattle.kernel_model.specs.Room.{has_room};
 
 /// Before the first call the base's versions stand, in the slots that the device names.
 pub fn first_slots_stand()
-    ensures { (sizes : Sizes) (base : DeviceState) (callers limit : ℕ) (named : ℕ → ℕ) (image : Image)
+    ensures { (sizes : Sizes) (base : DeviceState) (callers limit : ℕ) (named : ℕ → ℕ)
+        → (image : Image)
         → IsSized sizes image → HoldBase sizes base named image
         → (let s : CallState = record {
           history = [];
@@ -43,7 +44,8 @@ pub fn first_slots_stand()
 
 /// What must be true of a state is so in each state that the calls keep, with ids for the children of its finishes.
 pub fn live_state_is_lawful()
-    ensures { (whole : Programs) (sizes : Sizes) (base : DeviceState) (s : CallState) → RestOnReads whole
+    ensures { (whole : Programs) (sizes : Sizes) (base : DeviceState) (s : CallState)
+        → RestOnReads whole
         → ((program arg : ℕ) (objects : Objects) → AreSized sizes objects
         → IsRun sizes (whole program arg objects))
         → IsBase sizes base → IsLiveState whole base s → HasIds base (length s.history)
@@ -108,7 +110,8 @@ pub fn caller_free_slot_by_tables()
 
 /// What is kept of each caller's attempt gives what is kept of the others of a caller.
 pub fn views_of_other_callers()
-    ensures { (base : DeviceState) (history : List FinishRecord) (pins : ℕ → ℕ) (views : ℕ → Option View)
+    ensures { (base : DeviceState) (history : List FinishRecord) (pins : ℕ → ℕ)
+        → (views : ℕ → Option View)
         → (marks : List (Option Mark)) (n : ℕ)
         → ((k : ℕ) → views k ≡ mark_view base history (get_or marks k None))
         → others_views views n 0 (length marks)

@@ -13,7 +13,8 @@ ghost use Rattle.slot_model.specs.Moments.{Moment, HoldBase, IsLawfulIn, IsStand
 
 /// At first the tables that begin with the base, with no view, are those of the state.
 pub fn first_tables_stand<M>()
-    ensures { (sizes : Sizes) (base : DeviceState) (cores : ℕ) (power : Power) (boots : ℕ) (named : ℕ → ℕ)
+    ensures { (sizes : Sizes) (base : DeviceState) (cores : ℕ) (power : Power) (boots : ℕ)
+        → (named : ℕ → ℕ)
         → (image : Image) (views : ℕ → Option View)
         → IsSized sizes image → HoldBase sizes base named image → ((k : ℕ) → views k ≡ None)
         → IsTabled {M = M} sizes base base.clock (opened cores power boots) (first_kept base named)

@@ -15,7 +15,8 @@ ghost use Rattle.slot_model.specs.Moments.{Moment, HoldBase, IsLawfulIn, IsNamed
 
 /// At first the base's versions stand, in the slots that the device names.
 pub fn first_state_stands<M>()
-    ensures { (sizes : Sizes) (base : DeviceState) (cores : ℕ) (power : Power) (boots : ℕ) (named : ℕ → ℕ)
+    ensures { (sizes : Sizes) (base : DeviceState) (cores : ℕ) (power : Power) (boots : ℕ)
+        → (named : ℕ → ℕ)
         → (image : Image) → IsSized sizes image → HoldBase sizes base named image
         → StandsFor {M = M} sizes base base.clock (opened cores power boots) (first_kept base named)
         image }

@@ -28,7 +28,8 @@ pub fn free_slot_is_room<M>()
 
 /// It is the least slot with no version that must stand.
 pub fn free_slot_is_least<M>()
-    ensures { (sizes : Sizes) (base : DeviceState) (history : List FinishRecord) (others : List (Core M))
+    ensures { (sizes : Sizes) (base : DeviceState) (history : List FinishRecord)
+        → (others : List (Core M))
         → (kept : Kept) (o k : ℕ) → free_slot sizes base history others kept o ≡ Some k
         → (let needed = is_needed base history o others in
         IsSpare (sizes.slots o) needed (kept.chains o) k

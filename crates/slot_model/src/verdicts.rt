@@ -62,7 +62,8 @@ pub fn verdict_by_tables<M>()
 
 /// An attempt that has opened a read has the interval that the place gives, and copies from there.
 pub fn read_view_by_table<M>()
-    ensures { (sizes : Sizes) (base : DeviceState) (history : List FinishRecord) (start o copied : ℕ)
+    ensures { (sizes : Sizes) (base : DeviceState) (history : List FinishRecord)
+        → (start o copied : ℕ)
         → (reads : List Read) (places : List Place) (image : Image) (v : Version) (b : Attempt M)
         → b.start ≡ start → b.reads ≡ record { object = o; writer = v.writer } ∷ reads
         → (r : IsRead sizes base history start reads o places image v)
@@ -116,7 +117,8 @@ pub fn other_views_go_on<M>()
 
 /// What is kept of each core's attempt gives what is kept of the others of a core.
 pub fn views_of_others<M>()
-    ensures { (base : DeviceState) (history : List FinishRecord) (pins : ℕ → ℕ) (views : ℕ → Option View)
+    ensures { (base : DeviceState) (history : List FinishRecord) (pins : ℕ → ℕ)
+        → (views : ℕ → Option View)
         → (cores : List (Core M)) (n : ℕ)
         → ((k : ℕ) → views k ≡ view_of base history (pins k) (get_or cores k Core.Idle))
         → others_views views n 0 (length cores)

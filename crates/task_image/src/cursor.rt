@@ -45,7 +45,8 @@ impl<'a> Cursor<'a> {
 
     // The bytes of the next field, which are not passed yet.
     fn ahead(&self, n: usize) -> Result<&'a [u8], Stop>
-        ensures ok { IfOk result (λ bytes. (n ≤ length self.now.left) × (bytes.now ≡ take n self.now.left)) }
+        ensures ok { IfOk result (λ bytes. (n ≤ length self.now.left)
+            × (bytes.now ≡ take n self.now.left)) }
         ensures err { IfErr result (λ e. (length self.now.left < n) × (e ≡ At self.now.place)) }
     {
         if self.left.len() < n {
@@ -171,8 +172,10 @@ impl<'a> Cursor<'a> {
         taken: &mut IndexSet<&'a [u8]>,
         n: u8,
     ) -> Result<&'a [u8], Stop>
-        ensures reading { Gives (λ name. (name.now, self.new)) result (new_name (map (λ k. k.now) taken.old.keys) n self.old) }
-        ensures taken { IfOk result (λ name. map (λ k. k.now) taken.new.keys ≡ map (λ k. k.now) taken.old.keys ++ name.now ∷ []) }
+        ensures reading { Gives (λ name. (name.now, self.new)) result
+            (new_name (map (λ k. k.now) taken.old.keys) n self.old) }
+        ensures taken { IfOk result (λ name. map (λ k. k.now) taken.new.keys
+            ≡ map (λ k. k.now) taken.old.keys ++ name.now ∷ []) }
     {
         let n = usize::from(n);
         let name = self.ahead(n)?;

@@ -14,8 +14,10 @@ pub(crate) fn take_name<'a>(
     taken: &mut IndexSet<&'a [u8]>,
     name: &'a [u8],
 ) -> Result<bool, NoMemory>
-    ensures tells { IfOk result (λ fresh. fresh ≡ (name_test name.now && is_new (map (λ k. k.now) taken.old.keys) name.now)) }
-    ensures takes { IfOk result (λ fresh. OnTrue fresh (map (λ k. k.now) taken.new.keys ≡ map (λ k. k.now) taken.old.keys ++ name.now ∷ [])) }
+    ensures tells { IfOk result (λ fresh. fresh
+        ≡ (name_test name.now && is_new (map (λ k. k.now) taken.old.keys) name.now)) }
+    ensures takes { IfOk result (λ fresh. OnTrue fresh (map (λ k. k.now) taken.new.keys
+        ≡ map (λ k. k.now) taken.old.keys ++ name.now ∷ [])) }
 {
     if !is_name(name) {
         return Ok(false);

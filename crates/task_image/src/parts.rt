@@ -30,8 +30,10 @@ fn object<'a>(
     cursor: &mut Cursor<'a>,
     taken: &mut IndexSet<&'a [u8]>,
 ) -> Result<ObjPart, Stop>
-    ensures reading { Gives (λ o. (o, cursor.new)) result (object (map (λ k. k.now) taken.old.keys) cursor.old) }
-    ensures taken { IfOk result (λ o. map (λ k. k.now) taken.new.keys ≡ map (λ k. k.now) taken.old.keys ++ o.name ∷ []) }
+    ensures reading { Gives (λ o. (o, cursor.new)) result
+        (object (map (λ k. k.now) taken.old.keys) cursor.old) }
+    ensures taken { IfOk result (λ o. map (λ k. k.now) taken.new.keys
+        ≡ map (λ k. k.now) taken.old.keys ++ o.name ∷ []) }
 {
     let length_of_name = cursor.byte(1, MAX_NAME)?;
     let name = cursor.new_name(taken, length_of_name)?;
@@ -53,8 +55,10 @@ fn program<'a>(
     memory: u32,
     taken: &mut IndexSet<&'a [u8]>,
 ) -> Result<ProgPart, Stop>
-    ensures reading { Gives (λ p. (p, cursor.new)) result (program memory (map (λ k. k.now) taken.old.keys) cursor.old) }
-    ensures taken { IfOk result (λ p. map (λ k. k.now) taken.new.keys ≡ map (λ k. k.now) taken.old.keys ++ p.name ∷ []) }
+    ensures reading { Gives (λ p. (p, cursor.new)) result
+        (program memory (map (λ k. k.now) taken.old.keys) cursor.old) }
+    ensures taken { IfOk result (λ p. map (λ k. k.now) taken.new.keys
+        ≡ map (λ k. k.now) taken.old.keys ++ p.name ∷ []) }
 {
     let length_of_name = cursor.byte(1, MAX_NAME)?;
     let name = cursor.new_name(taken, length_of_name)?;
@@ -79,7 +83,8 @@ fn task(cursor: &mut Cursor<'_>, programs: u8) -> Result<Spawn, Stop>
 
 /// Reads so many objects.
 pub(crate) fn objects(alloc: Global, cursor: &mut Cursor<'_>, n: u8) -> Result<ObjectParts, Stop>
-    ensures { Gives (λ objects. (objects, cursor.new)) result (several n (λ before. object (map (λ o. o.name) before)) [] cursor.old) }
+    ensures { Gives (λ objects. (objects, cursor.new)) result
+        (several n (λ before. object (map (λ o. o.name) before)) [] cursor.old) }
 {
     let mut taken = IndexSet::new(alloc);
     let mut objects = ObjectParts::new(alloc);
@@ -96,7 +101,8 @@ pub(crate) fn programs(
     memory: u32,
     n: u8,
 ) -> Result<ProgramParts, Stop>
-    ensures { Gives (λ programs. (programs, cursor.new)) result (several n (λ before. program memory (map (λ p. p.name) before)) [] cursor.old) }
+    ensures { Gives (λ programs. (programs, cursor.new)) result
+        (several n (λ before. program memory (map (λ p. p.name) before)) [] cursor.old) }
 {
     let mut taken = IndexSet::new(alloc);
     let mut programs = ProgramParts::new(alloc);
@@ -113,7 +119,8 @@ pub(crate) fn tasks(
     programs: u8,
     n: u16,
 ) -> Result<Tasks, Stop>
-    ensures { Gives (λ tasks. (map spawn_of tasks, cursor.new)) result (several n (λ _. task programs) [] cursor.old) }
+    ensures { Gives (λ tasks. (map spawn_of tasks, cursor.new)) result
+        (several n (λ _. task programs) [] cursor.old) }
 {
     let mut tasks = Tasks::new(alloc);
     for _ in 0..n {

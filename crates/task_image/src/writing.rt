@@ -64,7 +64,8 @@ fn put_object(out: &mut Vec<u8>, set: &TaskSet, o: ObjId) -> Result<(), NoMemory
 #[tactic(auto, using(std::proofs::Common::append_assoc), unfolding(crate::specs::Packed::packed_program))]
 fn put_program(out: &mut Vec<u8>, set: &TaskSet, p: ProgId) -> Result<(), NoMemory>
     requires { p.0 < length set.now.programs }
-    ensures { OnOk result (out.new.items ≡ out.old.items ++ packed_program (program_at set.now p.0)) }
+    ensures { OnOk result (out.new.items
+        ≡ out.old.items ++ packed_program (program_at set.now p.0)) }
 {
     let name = set.program_name(p);
     put_byte(out, name.len() as u8)?;
@@ -104,7 +105,8 @@ fn header_of(alloc: Global, set: &TaskSet) -> Result<Vec<u8>, NoMemory>
 }
 
 fn put_objects(out: &mut Vec<u8>, set: &TaskSet) -> Result<(), NoMemory>
-    ensures { OnOk result (out.new.items ≡ out.old.items ++ flat_map packed_object set.now.objects) }
+    ensures { OnOk result (out.new.items
+        ≡ out.old.items ++ flat_map packed_object set.now.objects) }
 {
     for o in 0..set.objects() {
         put_object(out, set, ObjId(o))?;
@@ -113,7 +115,8 @@ fn put_objects(out: &mut Vec<u8>, set: &TaskSet) -> Result<(), NoMemory>
 }
 
 fn put_programs(out: &mut Vec<u8>, set: &TaskSet) -> Result<(), NoMemory>
-    ensures { OnOk result (out.new.items ≡ out.old.items ++ flat_map packed_program set.now.programs) }
+    ensures { OnOk result (out.new.items
+        ≡ out.old.items ++ flat_map packed_program set.now.programs) }
 {
     for p in 0..set.programs() {
         put_program(out, set, ProgId(p))?;

@@ -164,7 +164,8 @@ impl Objects {
         requires place { IsPlace machine.now part.at part.count }
         requires range { part.first + part.count ≤ length (object_words self.old o.0) }
         ensures { let taken = words_at machine.now.memory part.at part.count in
-            self.new ≡ slice_set self.old o.0 (with_part part.first taken (object_words self.old o.0)) }
+            self.new ≡ slice_set self.old o.0
+            (with_part part.first taken (object_words self.old o.0)) }
     {
         self.items[usize::from(o.0)].take_part(part, machine);
     }

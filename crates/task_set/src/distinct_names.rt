@@ -12,7 +12,10 @@ use std::alloc::Global;
 // Takes a name that is one, and that was not taken before.
 fn take_name<'a>(taken: &mut IndexSet<&'a [u8]>, name: &'a [u8]) -> Result<bool, NoMemory>
     requires { AreNames (map (λ n. n.now) taken.old.keys) }
-    ensures { IfOk result (λ fresh. MatchBool fresh ((map (λ n. n.now) taken.new.keys ≡ map (λ n. n.now) taken.old.keys ++ name.now ∷ []) × AreNames (map (λ n. n.now) taken.new.keys)) (AreNames (map (λ n. n.now) taken.old.keys ++ name.now ∷ []) → ⊥)) }
+    ensures { IfOk result (λ fresh. MatchBool fresh ((map (λ n. n.now) taken.new.keys
+        ≡ map (λ n. n.now) taken.old.keys ++ name.now ∷ [])
+        × AreNames (map (λ n. n.now) taken.new.keys))
+        (AreNames (map (λ n. n.now) taken.old.keys ++ name.now ∷ []) → ⊥)) }
 {
     if !is_name(name) {
         return Ok(false);
@@ -22,7 +25,8 @@ fn take_name<'a>(taken: &mut IndexSet<&'a [u8]>, name: &'a [u8]) -> Result<bool,
 
 /// Whether each object has a name, and no other object has it. Takes memory.
 pub(crate) fn objects_are_named(alloc: Global, objects: &[ObjPart]) -> Result<bool, NoMemory>
-    ensures { IfOk result (λ named. MatchBool named (AreNames (map (λ o. o.name) objects.now)) (AreNames (map (λ o. o.name) objects.now) → ⊥)) }
+    ensures { IfOk result (λ named. MatchBool named (AreNames (map (λ o. o.name) objects.now))
+        (AreNames (map (λ o. o.name) objects.now) → ⊥)) }
 {
     let mut taken = IndexSet::new(alloc);
     for object in objects {
@@ -35,7 +39,8 @@ pub(crate) fn objects_are_named(alloc: Global, objects: &[ObjPart]) -> Result<bo
 
 /// Whether each program has a name, and no other program has it. Takes memory.
 pub(crate) fn programs_are_named(alloc: Global, programs: &[ProgPart]) -> Result<bool, NoMemory>
-    ensures { IfOk result (λ named. MatchBool named (AreNames (map (λ p. p.name) programs.now)) (AreNames (map (λ p. p.name) programs.now) → ⊥)) }
+    ensures { IfOk result (λ named. MatchBool named (AreNames (map (λ p. p.name) programs.now))
+        (AreNames (map (λ p. p.name) programs.now) → ⊥)) }
 {
     let mut taken = IndexSet::new(alloc);
     for program in programs {

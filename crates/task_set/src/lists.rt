@@ -42,7 +42,8 @@ impl Name {
 
     /// Adds a byte behind the others. `NoMemory` leaves them as they were.
     pub fn push(&mut self, byte: u8) -> Result<(), NoMemory>
-        ensures { MatchResult result (λ _. self.new ≡ self.old ++ byte ∷ []) (λ _. self.new ≡ self.old) }
+        ensures { MatchResult result (λ _. self.new ≡ self.old ++ byte ∷ []) (λ _. self.new
+            ≡ self.old) }
     {
         self.items.push(byte)?;
         Ok(())
@@ -98,7 +99,8 @@ impl Words {
 
     /// Adds a word behind the others. `NoMemory` leaves them as they were.
     pub fn push(&mut self, word: u32) -> Result<(), NoMemory>
-        ensures { MatchResult result (λ _. self.new ≡ self.old ++ word ∷ []) (λ _. self.new ≡ self.old) }
+        ensures { MatchResult result (λ _. self.new ≡ self.old ++ word ∷ []) (λ _. self.new
+            ≡ self.old) }
     {
         self.items.push(word)?;
         Ok(())
@@ -146,7 +148,8 @@ impl ObjectParts {
 
     /// Adds an object behind the others. `NoMemory` leaves them as they were.
     pub fn push(&mut self, object: ObjPart) -> Result<(), NoMemory>
-        ensures { MatchResult result (λ _. self.new ≡ self.old ++ object ∷ []) (λ _. self.new ≡ self.old) }
+        ensures { MatchResult result (λ _. self.new ≡ self.old ++ object ∷ []) (λ _. self.new
+            ≡ self.old) }
     {
         self.items.push(object)?;
         Ok(())
@@ -198,7 +201,8 @@ impl ProgramParts {
 
     /// Adds a program behind the others. `NoMemory` leaves them as they were.
     pub fn push(&mut self, program: ProgPart) -> Result<(), NoMemory>
-        ensures { MatchResult result (λ _. self.new ≡ self.old ++ program ∷ []) (λ _. self.new ≡ self.old) }
+        ensures { MatchResult result (λ _. self.new ≡ self.old ++ program ∷ []) (λ _. self.new
+            ≡ self.old) }
     {
         self.items.push(program)?;
         Ok(())
@@ -259,7 +263,8 @@ impl Tasks {
 
     /// Adds a task behind the others. `NoMemory` leaves them as they were.
     pub fn push(&mut self, task: Spawn) -> Result<(), NoMemory>
-        ensures { MatchResult result (λ _. self.new ≡ self.old ++ task ∷ []) (λ _. self.new ≡ self.old) }
+        ensures { MatchResult result (λ _. self.new ≡ self.old ++ task ∷ []) (λ _. self.new
+            ≡ self.old) }
     {
         self.items.push(task)?;
         Ok(())

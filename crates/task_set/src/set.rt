@@ -58,7 +58,8 @@ impl TaskSet {
     /// where a name is malformed, or given twice among the objects or among the programs; `NoMemory` where the names
     /// found none to be compared in.
     pub fn build(alloc: Global, parts: SetParts) -> Result<TaskSet, SetRefusal>
-        ensures { MatchResult result (λ set. (set ≡ parts) × IsTaskSet parts × IsNamed parts) (λ refusal. IsRefused refusal parts) }
+        ensures { MatchResult result (λ set. (set ≡ parts) × IsTaskSet parts
+            × IsNamed parts) (λ refusal. IsRefused refusal parts) }
     {
         if let Some(kind) = first_broken(&parts) {
             return Err(SetRefusal::Limit(kind));

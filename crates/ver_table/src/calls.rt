@@ -19,7 +19,8 @@ ghost use Rattle.ver_table.specs.StandsFor.{AreOthers, Held, IsPlanned, StandsLi
 
 /// A begin leaves the table as it is.
 pub fn begin_leaves_table()
-    ensures { (whole : Programs) (base : DeviceState) (s : CallState) (n o : ℕ) (c : Chain) (held : List Held)
+    ensures { (whole : Programs) (base : DeviceState) (s : CallState) (n o : ℕ) (c : Chain)
+        → (held : List Held)
         → IsLiveState whole base s
         → StandsLive base s o c held → StandsLive base (begin_call base s n s.loss).0 o c held }
 {}
@@ -35,7 +36,8 @@ pub fn fetch_leaves_table()
 
 /// A finish that joins stands at or after the bound of each object that it wrote.
 pub fn finish_is_above_bound()
-    ensures { (whole : Programs) (sizes : Sizes) (base : DeviceState) (s : CallState) (n : ℕ) (m : Mark)
+    ensures { (whole : Programs) (sizes : Sizes) (base : DeviceState) (s : CallState) (n : ℕ)
+        → (m : Mark)
         → (run : Run) (device : Option ℕ) (o : ℕ) (i : FinishRecord) (words : List ℕ) (c : Chain)
         → (held : List Held)
         → RestOnReads whole → HasOldTasks base → IsLiveState whole base s
@@ -48,7 +50,8 @@ pub fn finish_is_above_bound()
 
 /// With a finish the table goes on, where the plan has a free slot for what it writes if it joins.
 pub fn table_goes_on()
-    ensures { (whole : Programs) (sizes : Sizes) (base : DeviceState) (s : CallState) (n : ℕ) (m : Mark)
+    ensures { (whole : Programs) (sizes : Sizes) (base : DeviceState) (s : CallState) (n : ℕ)
+        → (m : Mark)
         → (run : Run) (device : Option ℕ) (o : ℕ) (plan : ℕ → ℕ) (c : Chain) (held : List Held)
         → RestOnReads whole → HasOldTasks base → IsLiveState whole base s
         → get_or s.marks n None ≡ Some m
@@ -62,7 +65,8 @@ pub fn table_goes_on()
 
 /// An object has a place in the table exactly where it has room.
 pub fn place_is_room()
-    ensures { (whole : Programs) (sizes : Sizes) (base : DeviceState) (s : CallState) (o n : ℕ) (c : Chain)
+    ensures { (whole : Programs) (sizes : Sizes) (base : DeviceState) (s : CallState) (o n : ℕ)
+        → (c : Chain)
         → (held : List Held) (others : List Interval) (pins : List Pin) → IsLiveState whole base s
         → StandsLive base s o c held
         → AreOthers base s.history o held (cores_of (all_but n s.marks)) others pins

@@ -24,7 +24,8 @@ ghost use Rattle.ver_table.specs.StandsFor.{AreOthers, ArePins, Held, IsHeldAs, 
 
 /// An attempt finds in the table the version that it finds in the history, and the slot that holds it.
 pub fn chosen_version_is_held<M>()
-    ensures { (base : DeviceState) (floor o k : ℕ) (history : List FinishRecord) (cores : List (Core M))
+    ensures { (base : DeviceState) (floor o k : ℕ) (history : List FinishRecord)
+        → (cores : List (Core M))
         → (i : Interval) (c : Chain) (held : List Held) (v : Version)
         → interval_of base history (get_or cores k Core.Idle) ≡ Some i → is_empty i ≡ false
         → floor ≤ i.lo → StandsFor floor (needed_in base history o cores) base o history c held
@@ -41,7 +42,8 @@ pub fn held_version_cuts()
 
 /// The bounds of what a finish writes give its interval.
 pub fn bounds_give_interval()
-    ensures { (base : DeviceState) (history : List FinishRecord) (floor start : ℕ) (reads : List Read) (run : Run)
+    ensures { (base : DeviceState) (history : List FinishRecord) (floor start : ℕ)
+        → (reads : List Read) (run : Run)
         → (chains : List Chain) → floor ≤ start
         → AllByRecursion (λ w. (chain_at chains w.object).bound ≡ bound_of floor w.object history)
         run.writes
@@ -52,7 +54,8 @@ pub fn bounds_give_interval()
 
 /// Intervals and pins of cores are what the table is to be asked with.
 pub fn pins_name_copies<M>()
-    ensures { (base : DeviceState) (floor o : ℕ) (history : List FinishRecord) (needed : Version → Bool)
+    ensures { (base : DeviceState) (floor o : ℕ) (history : List FinishRecord)
+        → (needed : Version → Bool)
         → (c : Chain) (held : List Held) (cores : List (Core M)) (pins : List Pin)
         → IsNumbered base history → IsLaid c
         → StandsFor floor needed base o history c held → ArePins o held cores pins
@@ -61,7 +64,8 @@ pub fn pins_name_copies<M>()
 
 /// A pin of the version that was chosen names its slot.
 pub fn chosen_version_is_pinned()
-    ensures { (base : DeviceState) (floor o : ℕ) (history : List FinishRecord) (needed : Version → Bool)
+    ensures { (base : DeviceState) (floor o : ℕ) (history : List FinishRecord)
+        → (needed : Version → Bool)
         → (hi : Option ℕ) (c : Chain) (held : List Held) (v : Version) (h : Held) (p : Pin)
         → IsLaid c → StandsFor floor needed base o history c held
         → IsHeldAs floor hi c held v h → p.object.0 ≡ o → p.slot ≡ h.slot
@@ -70,8 +74,10 @@ pub fn chosen_version_is_pinned()
 
 /// It goes on to name it when a finish joins, while a core copies the version.
 pub fn pin_stays<M>()
-    ensures { (base : DeviceState) (o k copied : ℕ) (history : List FinishRecord) (cores : List (Core M))
-        → (plan : ℕ → ℕ) (j : Option FinishRecord) (c : Chain) (held : List Held) (a : Attempt M) (r : Read)
+    ensures { (base : DeviceState) (o k copied : ℕ) (history : List FinishRecord)
+        → (cores : List (Core M))
+        → (plan : ℕ → ℕ) (j : Option FinishRecord) (c : Chain) (held : List Held) (a : Attempt M)
+        → (r : Read)
         → (reads : List Read) (p : Pin)
         → IsPlanned (needed_in base history o cores) plan j o c held
         → get_or cores k Core.Idle ≡ Core.Copying a copied → a.reads ≡ r ∷ reads
@@ -91,7 +97,8 @@ pub fn place_is_room<M>()
 
 /// A free slot does not hold the newest version, and the others need nothing that it holds.
 pub fn free_slot_is_spare<M>()
-    ensures { (base : DeviceState) (floor o k : ℕ) (history : List FinishRecord) (needed : Version → Bool)
+    ensures { (base : DeviceState) (floor o k : ℕ) (history : List FinishRecord)
+        → (needed : Version → Bool)
         → (c : Chain) (held : List Held) (cores : List (Core M)) (others : List Interval)
         → (pins : List Pin)
         → StandsFor floor needed base o history c held
@@ -102,7 +109,8 @@ pub fn free_slot_is_spare<M>()
 
 /// Once a core commits nobody needs what the others do not need.
 pub fn spare_when_committing<M>()
-    ensures { (base : DeviceState) (history : List FinishRecord) (o n k : ℕ) (cores : List (Core M)) (i : FinishRecord)
+    ensures { (base : DeviceState) (history : List FinishRecord) (o n k : ℕ) (cores : List (Core M))
+        → (i : FinishRecord)
         → (left : ℕ) (held : List Held) → n < length cores
         → IsSpare base history o (all_but n cores) k held
         → IsSpare base history o (set cores n (Core.Committing i left)) k held }
@@ -126,7 +134,8 @@ pub fn opened_table_stands()
 
 /// A finish that joins stands at or after the bound of each object that it wrote.
 pub fn finish_is_above_bound<M>()
-    ensures { (world : World M) (s : State M) (floor o : ℕ) (e : Event) (i : FinishRecord) (words : List ℕ)
+    ensures { (world : World M) (s : State M) (floor o : ℕ) (e : Event) (i : FinishRecord)
+        → (words : List ℕ)
         → (c : Chain) (held : List Held) → IsSound world s → IsFloor world.base floor s
         → StandsIn floor world.base s o c held → joining s e ≡ Some i
         → written i.run.writes o ≡ Some words → c.bound ≤ i.point }
