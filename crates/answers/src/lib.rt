@@ -1,11 +1,11 @@
 //! How a command ends: its answer, the exit number, and the line that names it.
 #![tactic(auto)]
 
-mod names;
+mod answer_line;
 mod refusals;
 mod status;
 
-pub use names::put_name;
+pub use answer_line::put_name;
 pub use refusals::{of_assembly, of_packed, of_script};
 pub use status::{ImageFault, Status};
 
