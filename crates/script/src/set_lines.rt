@@ -147,7 +147,7 @@ fn zeros(alloc: Global, size: u32) -> Result<WordList, NoMemory>
 fn values(alloc: Global, words: Words<'_>) -> Result<WordList, LineRefusal>
     ensures { Gives (λ list. list) result (each value_word (words_left words.entry)) }
 {
-    let mut values = WordList::new_name(alloc);
+    let mut values = WordList::new(alloc);
     for word in words {
         values.push(value(word)?)?;
     }

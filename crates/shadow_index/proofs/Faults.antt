@@ -1,10 +1,9 @@
 -- Which words are faulty, by their kinds.
 use Rattle.std.proofs.Common.{◌≡◌, ℕ, ◌+◌, ◌-◌, ◌*◌, ◌<◌, ◌≤◌, ⊎_elim, Bool, true, false, not, eqb, nat_le, length, arith, refl, ap, sym, ◌∙◌}
-use Rattle.std.proofs.lemmas.Bool.{cases_lt}
+use Rattle.std.proofs.lemmas.Bool.{cases_lt, le-ltb, lt-ltb, lt-leb}
 use Rattle.set_model.specs.Sets.{TaskSet, object_at}
 use Rattle.device_model.specs.Words.{Words}
 use Rattle.device_model.specs.IndexWords.{is_faulty, is_faulty_number, is_faulty_record}
-use Rattle.device_model.proofs.Tests.{lt-false, lt-true, le-false}
 use Rattle.shadow_index.specs.declared.state.State.{State}
 use Rattle.shadow_index.specs.States.{word_of}
 use Rattle.shadow_index.specs.Forms.{is_faulty_task, number_word, record_word}
@@ -24,23 +23,23 @@ fault_number set s i word l =
     at k m = sym (word_number s k m)
 
     here : (w : Words) → is_faulty set w i word ≡ is_faulty_number set.records w i word
-    here w = rw (lt-true i 9 l) refl
+    here w = rw (lt-ltb i 9 l) refl
 
 pub fault_slot : (set : TaskSet) (w : Words) (i word : ℕ) → 9 ≤ i → i < 9 + length set.objects → is_faulty set w i word ≡ nat_le (object_at set (i - 9)).slots word
 unfolding is_faulty
-fault_slot set w i word l m = rw (lt-false i 9 l, lt-true i (9 + length set.objects) m) refl
+fault_slot set w i word l m = rw (le-ltb i 9 l, lt-ltb i (9 + length set.objects) m) refl
 
 fault_record : (set : TaskSet) (w : Words) (i word : ℕ) → 9 + length set.objects ≤ i → i < 9 + length set.objects + 3 * set.records → is_faulty set w i word ≡ is_faulty_record (w 8) (w 2) (w (i - 3)) (length set.programs) (i - (9 + length set.objects)) word
 unfolding is_faulty
-fault_record set w i word l m = rw (lt-false i 9 (omega arith), lt-false i (9 + length set.objects) l, lt-true i (9 + length set.objects + 3 * set.records) m) refl
+fault_record set w i word l m = rw (le-ltb i 9 (omega arith), le-ltb i (9 + length set.objects) l, lt-ltb i (9 + length set.objects + 3 * set.records) m) refl
 
 pub fault_padding : (set : TaskSet) (w : Words) (i word : ℕ) → 9 + length set.objects + 3 * set.records ≤ i → is_faulty set w i word ≡ not (eqb word 0)
 unfolding is_faulty
-fault_padding set w i word l = rw (lt-false i 9 (omega arith), lt-false i (9 + length set.objects) (omega arith), lt-false i (9 + length set.objects + 3 * set.records) l) refl
+fault_padding set w i word l = rw (le-ltb i 9 (omega arith), le-ltb i (9 + length set.objects) (omega arith), le-ltb i (9 + length set.objects + 3 * set.records) l) refl
 
 -- the first record has none before it
 first_alone : (count next a b programs k word : ℕ) → k < 3 → is_faulty_record count next a programs k word ≡ is_faulty_record count next b programs k word
-first_alone count next a b programs k word l = rw (le-false 3 k l) refl
+first_alone count next a b programs k word l = rw (lt-leb 3 k l) refl
 
 pub fault_task : (set : TaskSet) (s : State) (i word : ℕ) → length s.slots.items ≡ length set.objects → 9 + length set.objects ≤ i → i < 9 + length set.objects + 3 * set.records
     → is_faulty_task s.next.0 s.tasks.items (length set.programs) (i - (9 + length set.objects)) word ≡ is_faulty set (word_of s) i word

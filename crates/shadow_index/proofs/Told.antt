@@ -1,10 +1,9 @@
 -- What a layout tells, by its parts.
 use Rattle.std.proofs.Common.{◌≡◌, ◌≢◌, ℕ, ◌+◌, ◌*◌, ◌<◌, sum_by, arith, refl, ap, ap₂, ◌∙◌}
 use Rattle.set_model.specs.Sets.{TaskSet, object_at}
-use Rattle.std.proofs.lemmas.Bool.{eq-eqb, ne_eqb}
+use Rattle.std.proofs.lemmas.Bool.{eq-eqb, ne_eqb, lt-ltb}
 use Rattle.set_model.specs.Numbers.{first_index}
 use Rattle.device_model.specs.Formats.{format_word, fresh_word}
-use Rattle.device_model.proofs.Tests.{lt-true}
 use Rattle.device_model.specs.Layouts.{Kind, Plain, Paged, Migrated, Layout, copy_place, header_word, index_reads, magic_of, layout_of, need, slot_place, slots_at, slots_words, words_before}
 use Rattle.shadow_index.specs.declared.shape.Shape.{Shape}
 use Rattle.shadow_index.specs.Views.{heads}
@@ -42,4 +41,4 @@ format_root l set at e = rw (eq-eqb at l.root e) refl
 
 pub format_header : (l : Layout) (set : TaskSet) (at : ℕ) → at ≢ l.root → at < first_index set → format_word l set at ≡ header_word l set at
 unfolding fresh_word
-format_header l set at n i = rw (ne_eqb at l.root n, lt-true at (first_index set) i) refl
+format_header l set at n i = rw (ne_eqb at l.root n, lt-ltb at (first_index set) i) refl
