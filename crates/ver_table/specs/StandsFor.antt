@@ -28,13 +28,6 @@ first_held base o slot = record {
   version = record { writer = base.number; begin = base.clock; end = None; words = object_words base.objects o };
 }
 
--- the base's version of an object, in a slot
-abbrev pub first_held : Base → (o slot : ℕ) → Held
-first_held base o slot = record {
-  slot = slot;
-  version = record { writer = base.number; begin = base.clock; end = None; words = object_words base.objects o };
-}
-
 -- as the table has it
 abbrev pub stored_of : Held → Stored
 stored_of h = record { slot = h.slot; begin = h.version.begin; end = h.version.end }
