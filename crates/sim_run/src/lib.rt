@@ -1,7 +1,6 @@
 //! The simulator: from bytes in to bytes out.
 #![tactic(auto)]
 
-mod answer_line;
 mod assembly;
 mod call;
 mod command;
