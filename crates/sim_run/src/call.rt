@@ -10,7 +10,6 @@ ghost use Rattle.sim_run.specs.declared.command.Command.TheVariants as Command;
 ghost use Rattle.sim_run.specs.Promises.{IsPromised, KeepsHeadline};
 ghost use Rattle.sim_run.specs.BeforeAnswerLine.{BeforeAnswerLine, PutReply};
 
-use crate::answer_line::put_name;
 use crate::assembly::asm;
 use crate::command::{Command, words_of};
 use crate::input::read_input;
