@@ -1,2 +1,4 @@
+pub mod Elements
 pub mod Insertion
 pub mod Spelling
+pub mod ForCallers
