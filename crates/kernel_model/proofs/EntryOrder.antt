@@ -11,6 +11,7 @@ use Rattle.std.proofs.lemmas.List.Sums.{sum_by-cons}
 use Rattle.std.proofs.lemmas.List.Sorted.{All-permutation, IsPermutation-cons, IsPermutation-middle, IsPermutation-refl, IsPermutation-sym, IsPermutation-to_front, IsPermutation-trans, sum_by-IsPermutation}
 use Rattle.kernel_model.specs.Items.{Entry}
 use Rattle.kernel_model.specs.EntryReplay.{Place, comes_before, entry_order, in_order, places_from, put_in_order}
+use Rattle.object_sets.specs.Pairs.{AllPairsByRecursion}
 
 -- by three numbers, one after another
 abbrev lex : (p q m n j k : ℕ) → Bool
@@ -55,8 +56,7 @@ compare_keys a b = by_keys a.entry.point b.entry.point a.entry.number b.entry.nu
 
 -- each comes before all that follow
 abbrev pub Ascends : List Place → Type 0
-Ascends [] = Unit {0}
-Ascends (x ∷ xs) = AllByRecursion (λ y. comes_before x y ≡ true) xs × Ascends xs
+Ascends = AllPairsByRecursion (λ x y. comes_before x y ≡ true)
 
 all_over : (a b : Place) (xs : List Place) → comes_before a b ≡ true → AllByRecursion (λ y. comes_before b y ≡ true) xs → AllByRecursion (λ y. comes_before a y ≡ true) xs
 all_over a b [] h k = tt

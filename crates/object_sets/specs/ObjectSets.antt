@@ -1,6 +1,7 @@
 -- Sets of objects, kept as increasing lists of their numbers: this project's own.
 use Rattle.std.specs.Prelude.{ℕ, ◌<◌, ◌==◌, nat_lt, Bool, false, ◌||◌, List, [], ◌∷◌, if◌then◌else◌}
 use Rattle.std.specs.List.{AllByRecursion}
+use Rattle.object_sets.specs.Pairs.{AllPairsByRecursion}
 
 -- whether an object is in a list
 abbrev pub is_among : ℕ → List ℕ → Bool
@@ -18,8 +19,7 @@ with_object o xs = if is_among o xs then xs else inserted o xs
 
 -- an increasing list: each number is below all that follow it
 abbrev pub IsIncreasing : List ℕ → Type 0
-IsIncreasing [] = Unit {0}
-IsIncreasing (x ∷ xs) = AllByRecursion (λ y. x < y) xs × IsIncreasing xs
+IsIncreasing = AllPairsByRecursion (λ x y. x < y)
 
 -- all objects are below a number
 abbrev pub AreBelow : ℕ → List ℕ → Type 0

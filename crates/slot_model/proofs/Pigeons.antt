@@ -4,6 +4,7 @@ use Rattle.std.specs.Prelude.{filter}
 use Rattle.std.specs.List.{AllByRecursion, list_any}
 use Rattle.std.proofs.lemmas.Bool.{eqb-true, eqb-false, ne_eqb, or_right, or_cases, cases_eq}
 use Rattle.slot_model.specs.Places.{free_from}
+use Rattle.object_sets.specs.Pairs.{AllPairsByRecursion}
 
 -- whether a number is among some
 abbrev pub has : ℕ → List ℕ → Bool
@@ -14,8 +15,7 @@ but n xs = filter (λ x. not (eqb x n)) xs
 
 -- no two are the same
 abbrev pub AreDistinct : List ℕ → Type 0
-AreDistinct [] = Unit {0}
-AreDistinct (x ∷ xs) = AllByRecursion (λ y. x ≡ y → ⊥) xs × AreDistinct xs
+AreDistinct = AllPairsByRecursion (λ x y. x ≡ y → ⊥)
 
 has_others : (n j : ℕ) (xs : List ℕ) → (j ≡ n → ⊥) → has j xs ≡ true → has j (but n xs) ≡ true
 has_others n j [] ne e = e

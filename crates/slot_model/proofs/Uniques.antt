@@ -12,11 +12,11 @@ use Rattle.kernel_model.specs.Chain.{IsPart, floored}
 use Rattle.kernel_model.proofs.ForCallers.{found, tops, writer_found, writers-older}
 use Rattle.slot_model.specs.Kept.{Held, AreApart, is_there, versions_in}
 use Rattle.slot_model.proofs.Chains.{each_held}
+use Rattle.object_sets.specs.Pairs.{AllPairsByRecursion}
 
 -- each writer is above those before it
 abbrev pub Fall : List Version → Type 0
-Fall [] = Unit {0}
-Fall (v ∷ vs) = AllByRecursion (λ u. u.writer < v.writer) vs × Fall vs
+Fall = AllPairsByRecursion (λ v u. u.writer < v.writer)
 
 pub versions_fall : (end : Option ℕ) (base : DeviceState) (o : ℕ) (history : List FinishRecord) → IsNumbered base history → Fall (versions_to end base o history)
 versions_fall end base o [] h = (tt, tt)
@@ -28,8 +28,7 @@ versions_fall end base o (i ∷ history) h = go (λ e. versions_fall e base o hi
 
 -- no two that are held have the same writer
 abbrev pub AreUnique : List Held → Type 0
-AreUnique [] = Unit {0}
-AreUnique (h ∷ hs) = AllByRecursion (λ g. h.version.writer ≡ g.version.writer → ⊥) hs × AreUnique hs
+AreUnique = AllPairsByRecursion (λ h g. h.version.writer ≡ g.version.writer → ⊥)
 
 pub part_unique : (floor : ℕ) (n : Version → Bool) (vs : List Version) → Fall vs → (hs : List Held) → IsPart floor n (versions_in hs) vs → AreUnique hs
 part_unique floor n [] f [] p = tt

@@ -1,8 +1,9 @@
 -- Which versions are kept in which slots, as tables keep them: this project's own.
 use Rattle.std.specs.Prelude.{◌≡◌, ℕ, ◌==◌, nat_lt, Bool, not, ◌&&◌, ◌||◌, is_none, List, [], ◌∷◌, map, filter, Option, Some, None, if◌then◌else◌}
-use Rattle.std.specs.List.{AllByRecursion, list_any}
+use Rattle.std.specs.List.{list_any}
 use Rattle.kernel_model.specs.Items.{FinishRecord}
 use Rattle.kernel_model.specs.Versions.{Version}
+use Rattle.object_sets.specs.Pairs.{AllPairsByRecursion}
 
 -- a version of an object, as it is seen since the last boot, and the slot that was chosen for it
 pub record Held : Type 0 where
@@ -21,8 +22,7 @@ versions_in chain = map (λ h. h.version) chain
 
 -- no two stand in the same slot
 abbrev pub AreApart : List Held → Type 0
-AreApart [] = Unit {0}
-AreApart (h ∷ chain) = AllByRecursion (λ g. h.slot ≡ g.slot → ⊥) chain × AreApart chain
+AreApart = AllPairsByRecursion (λ h g. h.slot ≡ g.slot → ⊥)
 
 -- whether a version must stand: it is the newest, or it is needed
 abbrev pub must_stand : (Version → Bool) → Held → Bool
