@@ -1,10 +1,12 @@
--- What proofs above cite of this crate: answers one after another, and a cause at its line.
-use Rattle.std.proofs.Common.{◌≡◌, ℕ, Result, Ok, Err, refl, sym, ap, ◌⊎◌, inl, inr}
+-- What proofs above cite of this crate: answers one after another, a cause at its line, and lists that are put together.
+use Rattle.std.proofs.Common.{◌≡◌, ℕ, List, ◌++◌, Result, Ok, Err, refl, sym, ap, append_assoc, ◌⊎◌, inl, inr}
 use Rattle.nv_base.specs.declared.refusals.LineError.{LineError}
 use Rattle.nv_base.specs.declared.refusals.Refusal.{Refusal}
 use Rattle.nv_base.specs.declared.refusals.Refusal.TheVariants as refusal
 use Rattle.nv_base.specs.Refusals.{Refuses, at, refusal_at}
 use Rattle.nv_base.specs.Results.{◌>>=◌}
+pub use Rattle.object_sets.proofs.ForCallers.{all_append, all_with}
+pub use Rattle.nv_base.proofs.Puts.{appended_twice}
 
 pub bind_ok : {E A B : Type 0} (r : Result A E) (f : A → Result B E) (y : B) → (r >>= f) ≡ Ok y → (x : A) × (r ≡ Ok x) × (f x ≡ Ok y)
 bind_ok (Ok x) f y h = (x, refl, h)
@@ -30,3 +32,7 @@ refuses_bind (refusal.At cause) r f h = rw h refl
 pub refuses_at : {A C : Type 0} (line : ℕ) (refusal : Refusal C) (r : Result A C) → Refuses refusal r → Refuses (refusal_at line refusal) (at line r)
 refuses_at line refusal.NoMemory r h = tt
 refuses_at line (refusal.At cause) r h = rw h refl
+
+-- four parts, grouped the other way
+pub four_parts : (a b c d : List ℕ) → ((a ++ b) ++ c) ++ d ≡ a ++ (b ++ (c ++ d))
+four_parts a b c d = simp append_assoc

@@ -3,12 +3,12 @@ use Rattle.std.proofs.Common.{◌≡◌, ℕ, ◌+◌, List, ◌++◌, Option, S
 use Rattle.std.proofs.lemmas.Grind.{common_steps}
 use Rattle.nv_base.specs.Streams.{PutsText, Stream, appended}
 
-grown-grown : (o : Option (List ℕ)) (a b : List ℕ) → appended (appended o a) b ≡ appended o (a ++ b)
-grown-grown None a b = refl
-grown-grown (Some x) a b = ap (λ y. Some y) (append_assoc x a b)
+pub appended_twice : (o : Option (List ℕ)) (a b : List ℕ) → appended (appended o a) b ≡ appended o (a ++ b)
+appended_twice None a b = refl
+appended_twice (Some x) a b = ap (λ y. Some y) (append_assoc x a b)
 
 put_more : (o p q : Option (List ℕ)) (bytes : List ℕ) (i n : ℕ) → p ≡ appended o (take i bytes) → q ≡ appended p (take n (drop i bytes)) → q ≡ appended o (take (i + n) bytes)
-put_more o p q bytes i n e f = f ∙ ap (λ x. appended x (take n (drop i bytes))) e ∙ grown-grown o _ _ ∙ ap (appended o) (sym (take-add i n bytes))
+put_more o p q bytes i n e f = f ∙ ap (λ x. appended x (take n (drop i bytes))) e ∙ appended_twice o _ _ ∙ ap (appended o) (sym (take-add i n bytes))
 
 cut : (bytes : List ℕ) (i n : ℕ) → i ≤ length bytes → n ≤ length (take (length bytes - i) (drop i bytes)) → take n (take (length bytes - i) (drop i bytes)) ≡ take n (drop i bytes)
 cut bytes i n h k = grind (arith, common_steps)

@@ -6,8 +6,7 @@ use Rattle.std.proofs.lemmas.Bool.{eqb-true, eqb-false, ltb-true, ltb-false}
 use Rattle.std.proofs.lemmas.Nat.{or_lt, mod_below}
 use Rattle.std.proofs.lemmas.Nat.Bits.{bit_at_above, bit_at_set_other, bit_at_set_same}
 use Rattle.object_sets.specs.ObjectSets.{is_among, with_object, AreBelow, IsIncreasing}
-use Rattle.object_sets.proofs.Insertion.{is_among-with_object, with_object-increasing}
-use Rattle.object_sets.proofs.Spelling.{below-among, same_objects}
+use Rattle.object_sets.proofs.ForCallers.{below-among, is_among-with_object, same_objects, with_object-increasing}
 use Rattle.nv_base.specs.Bits.{objects_of, ones_from}
 
 ones_from-above : (p n k w : ℕ) → p < k → AllByRecursion (λ x. p < x) (ones_from n k w)

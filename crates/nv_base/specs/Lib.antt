@@ -7,3 +7,4 @@ pub mod Memory
 pub mod StdStreams
 pub mod Refusals
 pub mod Results
+pub mod Texts
