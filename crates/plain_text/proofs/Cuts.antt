@@ -1,5 +1,5 @@
 -- Taking the first line off bytes, and the first word off a line.
-use Rattle.std.proofs.Common.{◌≡◌, ℕ, zero, suc, cond, add-one, length-take, length-drop, unwrap_or, ◌+◌, ◌≤◌, ◌<◌, Bool, true, false, List, [], ◌∷◌, length, get_or, take, drop, Some, None, refl, sym, ◌∙◌, inl, inr, arith, ltb, eqb, drop-cons, not, filter}
+use Rattle.std.proofs.Common.{◌≡◌, ℕ, zero, suc, add-one, length-take, length-drop, unwrap_or, ◌+◌, ◌≤◌, ◌<◌, Bool, true, false, List, [], ◌∷◌, length, get_or, take, drop, Some, None, refl, sym, ◌∙◌, inl, inr, arith, ltb, eqb, drop-cons, not, filter}
 use Rattle.std.specs.List.{slice_split, position, position_or_len, before_first, after_first, onto_first}
 use Rattle.std.specs.Str.Lines.{lines, lines_of_parts, strip_carriage_return}
 use Rattle.std.proofs.lemmas.Bool.{cases_Bool, ltb-true, lt-ltb, cases_lt, le-ltb, ne_eqb}
@@ -8,7 +8,7 @@ use Rattle.std.proofs.lemmas.List.{take_all, drop_all}
 use Rattle.std.proofs.lemmas.List.Sums.{length-filter, count_by-le-length, fails_before_first, passes_at_first, prefix_len-le-length}
 use Rattle.std.proofs.lemmas.List.Splits.{slice_split_first, slice_split_none, slice_split-cons_yes, slice_split-cons_no, length-slice_split}
 use Rattle.plain_text.specs.Words.{is_blank, words_in, line_words, word_and_rest}
-use Rattle.plain_text.proofs.ForCallers.{nowhere, parts-cons}
+use Rattle.plain_text.proofs.ForCallers.{nowhere, parts-cons, skip_step}
 
 abbrev is_feed : ℕ → Bool
 is_feed b = eqb b 10
@@ -41,10 +41,6 @@ lines-last bytes e h = rw (split_whole is_feed bytes (nowhere is_feed bytes e)) 
 
 words_in-blank : (b : ℕ) (bytes : List ℕ) → is_blank b ≡ true → words_in (b ∷ bytes) ≡ words_in bytes
 words_in-blank b bytes e = rw (slice_split-cons_yes is_blank b bytes e) refl
-
-skip_step : (v : Bool) (n m : ℕ) → suc n ≤ cond (not (not v)) (1 + m) 0 → (v ≡ true) × (n ≤ m)
-skip_step true n m le = (refl, omega arith)
-skip_step false n m le = absurd (omega arith)
 
 abbrev starts : ℕ → Bool
 starts b = not (is_blank b)

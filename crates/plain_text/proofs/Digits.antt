@@ -1,22 +1,18 @@
 -- A number as its digits are read.
-use Rattle.std.proofs.Common.{◌≡◌, ℕ, ◌+◌, ◌*◌, ◌^◌, ◌≤◌, ◌<◌, Bool, true, false, List, [], ◌∷◌, ◌&&◌, not, length, get_or, take, ltb, leb, eqb, refl, sym, lit<, arith}
+use Rattle.std.proofs.Common.{◌≡◌, ℕ, ◌+◌, ◌*◌, ◌^◌, ◌≤◌, ◌<◌, true, List, [], ◌∷◌, ◌&&◌, not, length, get_or, take, ltb, leb, eqb, sym, lit<, arith}
 use Rattle.std.specs.List.{list_all}
 use Rattle.std.specs.Char.{digit_value}
 use Rattle.std.specs.Str.Parse.{AllDigits, digits_value}
 use Rattle.std.proofs.Math.Nat.{pow-le-pow_left, pow-le-pow_right}
-use Rattle.std.proofs.lemmas.Bool.{ltb-true, leb-true}
+use Rattle.std.proofs.lemmas.Bool.{ltb-true, leb-true, and_parts}
 use Rattle.std.proofs.lemmas.Int.Digits.{digits_value-lt, digits_value_more}
 use Rattle.std.proofs.lemmas.Str.Parse.{digits_value-take-le}
 use Rattle.plain_text.specs.Numbers.{is_numeral}
 
-both : (a b : Bool) → (a && b) ≡ true → (a ≡ true) × (b ≡ true)
-both true b e = (refl, e)
-both false b e = absurd cc
-
-all_digits : (radix : ℕ) (ds : List ℕ) → list_all (λ d. ltb (digit_value d) radix) ds ≡ true → AllDigits radix ds
+pub all_digits : (radix : ℕ) (ds : List ℕ) → list_all (λ d. ltb (digit_value d) radix) ds ≡ true → AllDigits radix ds
 all_digits radix [] e = tt
 all_digits radix (d ∷ ds) e =
-    let p = both (ltb (digit_value d) radix) (list_all (λ d. ltb (digit_value d) radix) ds) e in
+    let p = and_parts (ltb (digit_value d) radix) (list_all (λ d. ltb (digit_value d) radix) ds) e in
     (ltb-true _ _ p.0, all_digits radix ds p.1)
 
 some_digit : (radix i : ℕ) (ds : List ℕ) → AllDigits radix ds → i < length ds → 1 ≤ radix
@@ -27,8 +23,8 @@ some_digit radix i (d ∷ ds) h lt = omega (arith, h.0)
 pub digit_more : (radix most i : ℕ) (ds : List ℕ) → is_numeral radix most ds ≡ true → radix ≤ 16 → most ≤ 15 → i < length ds
     → (digits_value radix (take i ds) * radix + digit_value (get_or ds i 0) ≡ digits_value radix (take (i + 1) ds)) × (digits_value radix (take (i + 1) ds) < 16 ^ 15)
 digit_more radix most i ds e low short lt =
-    let p = both (not (eqb (length ds) 0) && leb (length ds) most) (list_all (λ d. ltb (digit_value d) radix) ds) e in
-    let q = both (not (eqb (length ds) 0)) (leb (length ds) most) p.0 in
+    let p = and_parts (not (eqb (length ds) 0) && leb (length ds) most) (list_all (λ d. ltb (digit_value d) radix) ds) e in
+    let q = and_parts (not (eqb (length ds) 0)) (leb (length ds) most) p.0 in
     let digits = all_digits radix ds p.1 in
     let one = digits_value_more radix ds i lt in
     let up = digits_value-take-le radix ds (i + 1) (some_digit radix i ds digits lt) in
