@@ -32,6 +32,7 @@ use Rattle.rv_asm.specs.Forms.{Form, forms, form_among, form_named, form_parts, 
 use Rattle.rv_asm.specs.Operands.{◌>>=◌, Open, Absent, opened, before_end, parenthesis, address_of, target_of, fill, filled, operand_in, pieces_of, two_from}
 use Rattle.rv_asm.specs.Lines.{Body, Load, Line, line, instruction_in, load_in, word_in, by_form, by_words, by_label, by_first_word, body_of, body_in, labelled, parsed}
 use Rattle.rv_asm.specs.Seen.{IsWhole}
+use Rattle.nv_base.proofs.ForCallers.{all_append}
 
 -- ---- options
 
@@ -171,10 +172,6 @@ op_ok op = (lit< tt, lit< tt, lit< tt)
 all_map : {X : Type 0} (f : X → Instr) → ((x : X) → IsInstr (f x)) → (xs : List X) → AllByRecursion IsInstr (map f xs)
 all_map f h [] = tt
 all_map f h (x ∷ xs) = (h x, all_map f h xs)
-
-all_append : {X : Type 0} (P : X → Type 0) (xs ys : List X) → AllByRecursion P xs → AllByRecursion P ys → AllByRecursion P (xs ++ ys)
-all_append P [] ys h k = k
-all_append P (x ∷ xs) ys h k = (h.0, all_append P xs ys h.1 k)
 
 singles_ok : AllByRecursion IsInstr single_templates
 unfolding single_templates

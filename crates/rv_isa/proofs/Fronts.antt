@@ -54,10 +54,6 @@ one_digit_more (suc digits) n h = let e : suc digits - 1 ≡ digits = omega arit
 pub grown : (old a mid b new : List ℕ) → mid ≡ old ++ a → new ≡ mid ++ b → new ≡ old ++ (a ++ b)
 grown old a mid b new e f = f ∙ ap (λ xs. xs ++ b) e ∙ append_assoc old a b
 
--- four parts, grouped the other way
-pub in_parts : (a b c d : List ℕ) → ((a ++ b) ++ c) ++ d ≡ a ++ (b ++ (c ++ d))
-in_parts a b c d = simp append_assoc
-
 -- the operands behind the first, and the text of one
 abbrev pub others_of : List Operand → List Operand
 others_of xs = take (length xs - 1) (drop 1 xs)

@@ -20,14 +20,11 @@ use Rattle.rv_isa.specs.declared.instruction.RegOp.{RegOp}
 use Rattle.rv_isa.specs.declared.instruction.RegOp.TheVariants.{Add, Sub, Sll, Slt, Sltu, Xor, Srl, Sra, Or, And, Mul, Mulh, Mulhsu, Mulhu, Div, Divu, Rem, Remu}
 use Rattle.rv_isa.specs.declared.instruction.Instr.{Instr}
 use Rattle.rv_isa.specs.declared.instruction.Instr.TheVariants.{Lui, Auipc, Jal, Jalr, Fence, Ecall, Ebreak}
+use Rattle.std.proofs.lemmas.Bool.{and_parts}
 
 -- a word that the row has is the word of what the row reads
 record IsBack (w : ℕ) (row : Row) : Type 0 where
   pub back : row.has w ≡ true → (instruction_word (row.reads w) ≡ w) × IsInstr (row.reads w)
-
-both : (a b : Bool) → (a && b) ≡ true → (a ≡ true) × (b ≡ true)
-both true b h = (refl, h)
-both false b h = cc
 
 and3 : (a b c : Bool) → (a && b && c) ≡ true → (a ≡ true) × (b ≡ true) × (c ≡ true)
 and3 true true c h = (refl, refl, h)
@@ -74,10 +71,10 @@ back_st w o small e f =
     (rw (same_bits, ← f) (omega arith), (omega arith, omega arith, IsSigned-signed 12 u (omega arith) fits))
 
 row_load : (w : ℕ) (o : LoadOp) → w < 2 ^ 32 → IsBack w (load (load_funct3 o) o)
-row_load w o small = record { back = λ h. let e = both _ _ h in let op : bits 0 7 w ≡ 3 = same _ _ e.0 in let f : bits 12 3 w ≡ load_funct3 o = same _ _ e.1 in (rw (i_bits w, ← f) (omega arith), (omega arith, omega arith, i_fits w)) }
+row_load w o small = record { back = λ h. let e = and_parts _ _ h in let op : bits 0 7 w ≡ 3 = same _ _ e.0 in let f : bits 12 3 w ≡ load_funct3 o = same _ _ e.1 in (rw (i_bits w, ← f) (omega arith), (omega arith, omega arith, i_fits w)) }
 
 row_st : (w : ℕ) (o : StoreOp) → w < 2 ^ 32 → IsBack w (store (store_funct3 o) o)
-row_st w o small = record { back = λ h. let e = both _ _ h in back_st w o small (same _ _ e.0) (same _ _ e.1) }
+row_st w o small = record { back = λ h. let e = and_parts _ _ h in back_st w o small (same _ _ e.0) (same _ _ e.1) }
 
 row_op : (w : ℕ) (o : RegOp) → w < 2 ^ 32 → IsBack w (op (op_funct3 o) (op_funct7 o) o)
 row_op w o small = record { back = λ h. let e = and3 _ _ _ h in let code : bits 0 7 w ≡ 51 = same _ _ e.0 in let f : bits 12 3 w ≡ op_funct3 o = same _ _ e.1 in let g : bits 25 7 w ≡ op_funct7 o = same _ _ e.2 in (rw (← f, ← g) (omega arith), (omega arith, omega arith, omega arith)) }
@@ -86,10 +83,10 @@ back_jalr : (w : ℕ) → w < 2 ^ 32 → bits 0 7 w ≡ 103 → bits 12 3 w ≡ 
 back_jalr w small op f = (rw (i_bits w) (omega arith), (omega arith, omega arith, i_fits w))
 
 row_b : (w : ℕ) (o : BranchOp) → w < 2 ^ 32 → IsBack w (branch (branch_funct3 o) o)
-row_b w o small = record { back = λ h. let e = both _ _ h in back_b w o small (same _ _ e.0) (same _ _ e.1) }
+row_b w o small = record { back = λ h. let e = and_parts _ _ h in back_b w o small (same _ _ e.0) (same _ _ e.1) }
 
 row_i : (w : ℕ) (o : ImmOp) → imm_bits o (signed 12 (bits 20 12 w)) ≡ bits 20 12 w → IsImmediate o (signed 12 (bits 20 12 w)) → w < 2 ^ 32 → IsBack w (op_imm (imm_funct3 o) o)
-row_i w o same_bits fits small = record { back = λ h. let e = both _ _ h in back_i w o (same _ _ e.1) same_bits fits small (same _ _ e.0) }
+row_i w o same_bits fits small = record { back = λ h. let e = and_parts _ _ h in back_i w o (same _ _ e.1) same_bits fits small (same _ _ e.0) }
 
 row_s : (w : ℕ) (o : ImmOp) (g : ℕ) → imm_bits o (pos (bits 20 5 w)) ≡ g * 32 + bits 20 5 w → IsImmediate o (pos (bits 20 5 w)) → w < 2 ^ 32 → IsBack w (shift_imm (imm_funct3 o) g o)
 row_s w o g same_bits fits small = record { back = λ h. let e = and3 _ _ _ h in back_s w o g (same _ _ e.1) (same _ _ e.2) same_bits fits small (same _ _ e.0) }
@@ -115,10 +112,10 @@ row_jal : (w : ℕ) → w < 2 ^ 32 → IsBack w (by_opcode 0b1101111 (λ v. Jal 
 row_jal w small = record { back = λ h. back_j w small (same _ _ h) }
 
 row_jalr : (w : ℕ) → w < 2 ^ 32 → IsBack w (by_funct3 0b1100111 0b000 (λ v. Jalr (rd v) (rs1 v) (i_immediate v)))
-row_jalr w small = record { back = λ h. let e = both _ _ h in back_jalr w small (same _ _ e.0) (same _ _ e.1) }
+row_jalr w small = record { back = λ h. let e = and_parts _ _ h in back_jalr w small (same _ _ e.0) (same _ _ e.1) }
 
 row_fence : (w : ℕ) → w < 2 ^ 32 → IsBack w (by_funct3 0b0001111 0b000 (λ v. Fence (rd v) (rs1 v) (bits 20 12 v)))
-row_fence w small = record { back = λ h. let e = both _ _ h in let o : bits 0 7 w ≡ 15 = same _ _ e.0 in let f : bits 12 3 w ≡ 0 = same _ _ e.1 in (omega arith, (omega arith, omega arith, omega arith)) }
+row_fence w small = record { back = λ h. let e = and_parts _ _ h in let o : bits 0 7 w ≡ 15 = same _ _ e.0 in let f : bits 12 3 w ≡ 0 = same _ _ e.1 in (omega arith, (omega arith, omega arith, omega arith)) }
 
 row_ecall : (w : ℕ) → IsBack w (by_word 0x00000073 Ecall)
 row_ecall w = record { back = λ h. (sym (same _ _ h), tt) }

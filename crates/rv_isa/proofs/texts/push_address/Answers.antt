@@ -3,22 +3,23 @@ use Rattle.std.specs.Fmt.{signed_decimal}
 use Rattle.std.proofs.lemmas.Int.{to_z-of_z}
 use Rattle.std.proofs.lemmas.List.{append-nil}
 use Rattle.rv_isa.specs.Names.{register_name as name_of_register}
-use Rattle.rv_isa.proofs.Fronts.{on_err, front_done, front_if_err, front_of_part, grown, in_parts}
+use Rattle.rv_isa.proofs.Fronts.{on_err, front_done, front_if_err, front_of_part, grown}
 use Rattle.rv_isa.proofs.texts.push_address.Goals as goal
+use Rattle.nv_base.proofs.ForCallers.{four_parts}
 
 pub returns-in_err-push_number-clause-cut_off : goal.returns-in_err-push_number-clause-cut_off
 returns-in_err-push_number-clause-cut_off c =
     let e = to_z-of_z w32 c.args.offset c.ranges.offset in
     let h = rw e at c.in_err-push_number.ensures.cut_off in
     on_err c.from_residual.result (front_of_part (string_bytes c.args.out.now) [] (signed_decimal c.args.offset) (codes "(" ++ (name_of_register c.args.base ++ codes ")")) _ (string_bytes c.args.out.now) _
-    (in_parts (signed_decimal c.args.offset) (codes "(") (name_of_register c.args.base) (codes ")")) (sym (append-nil (string_bytes c.args.out.now))) h)
+    (four_parts (signed_decimal c.args.offset) (codes "(") (name_of_register c.args.base) (codes ")")) (sym (append-nil (string_bytes c.args.out.now))) h)
 
 pub returns-in_err-push_str-clause-cut_off : goal.returns-in_err-push_str-clause-cut_off
 returns-in_err-push_str-clause-cut_off c =
     let e = to_z-of_z w32 c.args.offset c.ranges.offset in
     let h = rw e at c.in_ok-push_number.ensures.whole in
     on_err c.from_residual-in_err-push_str.result (front_done (string_bytes c.args.out.now) (signed_decimal c.args.offset) (codes "(" ++ (name_of_register c.args.base ++ codes ")")) _ _
-    (in_parts (signed_decimal c.args.offset) (codes "(") (name_of_register c.args.base) (codes ")")) (c.in_err-push_str.ensures.bytes ∙ h))
+    (four_parts (signed_decimal c.args.offset) (codes "(") (name_of_register c.args.base) (codes ")")) (c.in_err-push_str.ensures.bytes ∙ h))
 
 pub returns-in_err-push_str-2-clause-cut_off : goal.returns-in_err-push_str-2-clause-cut_off
 returns-in_err-push_str-2-clause-cut_off c =
