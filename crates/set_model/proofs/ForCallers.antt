@@ -1,11 +1,11 @@
--- What proofs above cite of this crate: lists, and names, with one more behind them.
+-- What proofs above cite of this crate: names with one more behind them, what the limits say, and the formatted state.
 use Rattle.std.proofs.Common.{◌≢◌, ℕ, List, [], ◌∷◌, ◌++◌}
 use Rattle.std.specs.List.{AllByRecursion}
 use Rattle.set_model.specs.Names.{AreDistinct}
-
-pub all_with : {X : Type 0} (P : X → Type 0) (xs : List X) (x : X) → AllByRecursion P xs → P x → AllByRecursion P (xs ++ x ∷ [])
-all_with P [] x h p = (p, tt)
-all_with P (y ∷ xs) x h p = (h.0, all_with P xs x h.1 p)
+use Rattle.nv_base.proofs.ForCallers.{all_with}
+pub use Rattle.set_model.proofs.AtFacts.{all_at}
+pub use Rattle.set_model.proofs.FormattedFacts.{formatted_is_base}
+pub use Rattle.set_model.proofs.LimitFacts.{few_objects, few_records, most_objects, most_records, range_means, range_told}
 
 pub distinct_with : (xs : List (List ℕ)) (y : List ℕ) → AreDistinct xs → AllByRecursion (λ x. x ≢ y) xs → AreDistinct (xs ++ y ∷ [])
 distinct_with [] y d h = (tt, tt)

@@ -1,8 +1,11 @@
--- What the limits by format say of any format.
-use Rattle.std.proofs.Common.{ℕ, ◌≤◌, ◌==◌, Bool, true, false, cond, length, arith}
+-- What the limits by format say of any format, and ranges by their test.
+use Rattle.std.proofs.Common.{◌≡◌, ℕ, ◌≤◌, ◌==◌, Bool, true, false, cond, length, arith}
+use Rattle.std.specs.Prelude.{nat_le}
+use Rattle.std.specs.Int.{is_in_range}
+use Rattle.std.proofs.lemmas.Bool.{and_from, and_parts, le-leb, leb-true}
 use Rattle.nv_base.specs.declared.limits.TheConstants.{MAX_OBJECTS, MAX_OBJECTS_1, MAX_RECORDS, MAX_RECORDS_1}
 use Rattle.set_model.specs.Sets.{TaskSet}
-use Rattle.set_model.specs.Limits.{IsTaskSet, max_objects, max_records}
+use Rattle.set_model.specs.Limits.{IsTaskSet, IsWithin, max_objects, max_records}
 
 objects_by : (b : Bool) → cond b MAX_OBJECTS_1 MAX_OBJECTS ≤ MAX_OBJECTS
 objects_by true = omega arith
@@ -26,3 +29,10 @@ few_records set h = let l : set.records ≤ max_records set.format = h.records.1
 
 pub few_tasks : (set : TaskSet) → IsTaskSet set → length set.tasks ≤ MAX_RECORDS
 few_tasks set h = omega (arith, h.tasks, few_records set h)
+
+-- the test for a range, and what it says
+pub range_means : (low high n : ℕ) → is_in_range low high n ≡ true → IsWithin low high n
+range_means low high n e = let h = and_parts (nat_le low n) (nat_le n high) e in (leb-true low n h.0, leb-true n high h.1)
+
+pub range_told : (low high n : ℕ) → IsWithin low high n → is_in_range low high n ≡ true
+range_told low high n h = and_from (nat_le low n) (nat_le n high) (le-leb low n h.0) (le-leb n high h.1)

@@ -1,4 +1,5 @@
 pub mod WordFacts
 pub mod NameFacts
+pub mod TakenNames
 pub mod TaskFacts
 pub mod LimitLaws

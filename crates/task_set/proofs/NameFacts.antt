@@ -8,8 +8,9 @@ use Rattle.std.proofs.lemmas.List.Sums.{AllPass-from_list_all, list_all-from_All
 use Rattle.nv_base.specs.declared.limits.TheConstants.{MAX_NAME}
 use Rattle.set_model.specs.Limits.{IsWithin}
 use Rattle.set_model.specs.Names.{AreDistinct, AreNames, IsName, is_name_byte}
-use Rattle.set_model.proofs.ForCallers.{all_with, distinct_with}
+use Rattle.set_model.proofs.ForCallers.{distinct_with}
 use Rattle.task_set.proofs.WordFacts.{all_last}
+use Rattle.nv_base.proofs.ForCallers.{all_with}
 
 others_than_last : (xs : List (List ℕ)) (y : List ℕ) → AreDistinct (xs ++ y ∷ []) → AllByRecursion (λ x. x ≢ y) xs
 others_than_last [] y d = tt
@@ -46,7 +47,7 @@ one_found same tells name (k ∷ keys) e h =
 
 abbrev Takes : List (Bor (List ℕ)) → List (Bor (List ℕ)) → Bor (List ℕ) → Bool → Type 0
 Takes old new name r =
-    MatchBool r ((map (λ n. n.now) new ≡ map (λ n. n.now) old ++ name.now ∷ []) × AreNames (map (λ n. n.now) new)) (AreNames (map (λ n. n.now) old ++ name.now ∷ []) → ⊥)
+    MatchBool r (AreNames (map (λ n. n.now) new)) (AreNames (map (λ n. n.now) old ++ name.now ∷ []) → ⊥)
 
 named_with : (names : List (List ℕ)) (name : List ℕ) → AreNames names → IsName name → AllByRecursion (λ x. x ≢ name) names → AreNames (names ++ name ∷ [])
 named_with names name h n d = record { each = all_with IsName names name h.each n; once = distinct_with names name h.once d }
@@ -60,7 +61,7 @@ name_is_taken same tells old new name r n h e f = by (list_any (same name) old) 
     by true g i j = subst (Takes old new name) (sym i) (λ k. one_found same tells name old g (others_than_last (map (λ n. n.now) old) name.now k.once))
     by false g i j =
         let all : map (λ n. n.now) new ≡ map (λ n. n.now) old ++ name.now ∷ [] = ap (map (λ n. n.now)) j ∙ map_push (λ n. n.now) old name in
-        subst (Takes old new name) (sym i) (all, subst AreNames (sym all) (named_with (map (λ n. n.now) old) name.now h n (none_found same tells name old g)))
+        subst (Takes old new name) (sym i) (subst AreNames (sym all) (named_with (map (λ n. n.now) old) name.now h n (none_found same tells name old g)))
 
 all_first : {X : Type 0} (P : X → Type 0) (xs : List X) (n : ℕ) → AllByRecursion P xs → AllByRecursion P (take n xs)
 all_first P xs zero h = tt

@@ -5,9 +5,9 @@ use Rattle.std.proofs.lemmas.List.{take_more, take_all}
 use Rattle.nv_base.specs.declared.lines.Spawn as base_spawn
 use Rattle.set_model.specs.Sets.{ObjPart, ProgPart, TaskSet}
 use Rattle.set_model.specs.Limits.{IsWord}
-use Rattle.set_model.proofs.ForCallers.{all_with}
 use Rattle.set_model.specs.Views.{spawn_of}
 use Rattle.task_set.specs.Ranges.{HasWords}
+use Rattle.nv_base.proofs.ForCallers.{all_with}
 
 pub all_words : (xs : List ℕ) → ((i : ℕ) → get_or xs i 0 < 2 ^ 32) → AllByRecursion IsWord xs
 all_words [] h = tt

@@ -1,7 +1,9 @@
 //! What names look like, and that each is given once.
 
-ghost use Rattle.std.specs.Prelude.{◌≡◌, ◌++◌, ◌∷◌, [], IfOk, MatchBool, map};
-ghost use Rattle.set_model.specs.Names.{AreNames, IsNamed};
+ghost use Rattle.std.specs.Prelude.{◌≡◌, ◌&&◌, ◌++◌, ◌∷◌, [], IfOk, MatchBool, map};
+ghost use Rattle.std.specs.Bool.{OnTrue};
+ghost use Rattle.plain_text.specs.Names.{is_name as name_test};
+ghost use Rattle.set_model.specs.Names.{AreNames, IsNamed, is_new};
 
 use crate::parts::{ObjPart, ProgPart, SetParts};
 use indexmap::IndexSet;
@@ -9,13 +11,15 @@ use nv_base::NoMemory;
 use plain_text::is_name;
 use std::alloc::Global;
 
-// Takes a name that is one, and that was not taken before.
-fn take_name<'a>(taken: &mut IndexSet<&'a [u8]>, name: &'a [u8]) -> Result<bool, NoMemory>
-    requires { AreNames (map (λ n. n.now) taken.old.keys) }
-    ensures { IfOk result (λ fresh. MatchBool fresh ((map (λ n. n.now) taken.new.keys
-        ≡ map (λ n. n.now) taken.old.keys ++ name.now ∷ [])
-        × AreNames (map (λ n. n.now) taken.new.keys))
-        (AreNames (map (λ n. n.now) taken.old.keys ++ name.now ∷ []) → ⊥)) }
+/// Takes a name that is well formed and not yet taken: whether it is so. `NoMemory` where it could not be kept.
+pub fn take_name<'a>(taken: &mut IndexSet<&'a [u8]>, name: &'a [u8]) -> Result<bool, NoMemory>
+    ensures tells { IfOk result (λ fresh. fresh
+        ≡ (name_test name.now && is_new (map (λ k. k.now) taken.old.keys) name.now)) }
+    ensures takes { IfOk result (λ fresh. OnTrue fresh (map (λ k. k.now) taken.new.keys
+        ≡ map (λ k. k.now) taken.old.keys ++ name.now ∷ [])) }
+    ensures names { AreNames (map (λ k. k.now) taken.old.keys)
+        → IfOk result (λ fresh. MatchBool fresh (AreNames (map (λ k. k.now) taken.new.keys))
+        (AreNames (map (λ k. k.now) taken.old.keys ++ name.now ∷ []) → ⊥)) }
 {
     if !is_name(name) {
         return Ok(false);

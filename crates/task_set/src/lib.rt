@@ -11,6 +11,7 @@ mod ranges;
 mod refusals;
 mod set;
 
+pub use distinct_names::take_name;
 pub use formats::{max_objects, max_records};
 pub use lists::{Name, ObjectParts, ProgramParts, Tasks, Words};
 pub use parts::{ObjPart, ProgPart, SetParts};
