@@ -5,7 +5,7 @@ use Rattle.std.proofs.lemmas.List.{length-map, length-take-le}
 use Rattle.std.proofs.lemmas.Bool.{cases_lt}
 use Rattle.kernel_model.specs.Events.{Event, CoreStep, Fail}
 use Rattle.schedule_model.specs.Failures.{with_failures}
-use Rattle.schedule_model.proofs.Reached.{none_left, reached, not_reached}
+use Rattle.schedule_model.proofs.ForCallers.{none_left, not_reached, reached}
 use Rattle.power_trace.specs.Indexed.{failures_from}
 use Rattle.power_trace.proofs.Places.{get-left, get-right}
 use Rattle.power_trace.proofs.FailurePlaces.{none_on, ends, ends_not, failures-AreFrom}

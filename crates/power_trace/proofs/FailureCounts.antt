@@ -6,23 +6,18 @@ use Rattle.schedule_model.specs.Schedules.{Schedule}
 use Rattle.schedule_model.specs.CoreSteps.{core_steps}
 use Rattle.schedule_model.specs.Failures.{with_failures, events_of}
 use Rattle.schedule_model.specs.Parts.{failure_count}
-use Rattle.schedule_model.proofs.Reached.{none_left, reached, not_reached}
-use Rattle.schedule_model.proofs.StepLaws.{length-core_steps}
+use Rattle.schedule_model.proofs.ForCallers.{failure_count-map, length-core_steps, none_left, not_reached, reached}
 use Rattle.power_trace.specs.Indexed.{IsIndexed, failures_from}
 use Rattle.power_trace.proofs.FailurePlaces.{none_on, ends, ends_not}
-
-none_among : (steps : List ℕ) → failure_count (map CoreStep steps) ≡ 0
-none_among [] = refl
-none_among (s ∷ steps) = none_among steps
 
 behind : (steps : List ℕ) (events : List Event) → failure_count (map CoreStep steps ++ events) ≡ failure_count events
 behind [] events = refl
 behind (s ∷ steps) events = behind steps events
 
 pub counts : (on_times steps : List ℕ) (at left : ℕ) → left ≡ length steps → length (failures_from at left on_times) ≡ failure_count (with_failures on_times steps)
-counts [] steps at left e = ap length (none_on at left) ∙ sym (ap failure_count (none_left steps) ∙ none_among steps)
+counts [] steps at left e = ap length (none_on at left) ∙ sym (ap failure_count (none_left steps) ∙ failure_count-map steps)
 counts (on ∷ on_times) steps at left e = elim (cases_lt left on) [
-  | inl h ↦ ap length (ends_not at left on on_times h) ∙ sym (ap failure_count (not_reached on on_times steps (omega arith)) ∙ none_among steps)
+  | inl h ↦ ap length (ends_not at left on on_times h) ∙ sym (ap failure_count (not_reached on on_times steps (omega arith)) ∙ failure_count-map steps)
   | inr h ↦
       let p : on ≤ length steps = omega arith in
       let rest = counts on_times (drop on steps) (at + on + 1) (left - on) (omega (arith, length-drop on steps)) in

@@ -10,7 +10,7 @@ use Rattle.kernel_model.specs.Events.{CoreStep, Fail}
 use Rattle.schedule_model.specs.Schedules.{Schedule}
 use Rattle.schedule_model.specs.CoreSteps.{core_steps}
 use Rattle.schedule_model.specs.Failures.{events_of}
-use Rattle.schedule_model.proofs.StepLaws.{length-core_steps}
+use Rattle.schedule_model.proofs.ForCallers.{length-core_steps}
 use Rattle.power_trace.specs.Indexed.{IsIndexed, failures_from}
 use Rattle.power_trace.proofs.FailurePlaces.{few, failures-Rises}
 use Rattle.power_trace.proofs.EventPlaces.{IsStep, length-events, failure_at, step_at}

@@ -5,7 +5,7 @@ use Rattle.std.proofs.lemmas.Bool.{cases_lt}
 use Rattle.schedule_model.specs.Schedules.{StepItem, Steps, Mix}
 use Rattle.schedule_model.specs.CoreSteps.{item_steps, core_steps}
 use Rattle.schedule_model.specs.Limits.{step_count, steps_together, IsItem}
-use Rattle.schedule_model.proofs.StepLaws.{length-item_steps}
+use Rattle.schedule_model.proofs.ForCallers.{length-item_steps}
 use Rattle.power_trace.specs.Indexed.{starts_from}
 use Rattle.power_trace.proofs.Places.{get-left, get-right}
 

@@ -4,7 +4,7 @@ use Rattle.std.specs.Prelude.{option_map}
 use Rattle.std.proofs.lemmas.Bool.{cases_lt}
 use Rattle.kernel_model.specs.Events.{CoreStep, Fail}
 use Rattle.schedule_model.specs.Failures.{with_failures}
-use Rattle.schedule_model.proofs.Reached.{none_left, reached, not_reached}
+use Rattle.schedule_model.proofs.ForCallers.{none_left, not_reached, reached}
 use Rattle.power_trace.specs.DueTimes.{due_times}
 
 pub fails_now : (due due' : Option ℕ) (later later' steps : List ℕ) → due ≡ Some 0 → due_times due' later' ≡ later

@@ -2,3 +2,4 @@ pub mod EventLists
 pub mod Reached
 pub mod FailureLaws
 pub mod StepLaws
+pub mod ForCallers

@@ -1,5 +1,5 @@
 -- Core steps: how many there are, and of which cores.
-use Rattle.std.proofs.Common.{◌≡◌, ℕ, zero, suc, ◌*◌, ◌<◌, ◌≤◌, List, [], ◌∷◌, ◌++◌, map, length, refl, ap, ◌∙◌, arith, length-append}
+use Rattle.std.proofs.Common.{◌≡◌, ℕ, zero, suc, ◌*◌, ◌<◌, ◌≤◌, List, [], ◌∷◌, map, length, refl, ap, ◌∙◌, arith, length-append}
 use Rattle.std.proofs.lemmas.List.{length-map}
 use Rattle.std.specs.List.{AllByRecursion}
 use Rattle.rand_pcg.specs.Lcg.{Lcg}
@@ -7,6 +7,7 @@ use Rattle.rand_pcg.specs.Pcg.{pcg32}
 use Rattle.schedule_model.specs.Schedules.{StepItem, Steps, Mix}
 use Rattle.schedule_model.specs.CoreSteps.{repeated, words, generator_of, core_of_word, item_steps, core_steps}
 use Rattle.schedule_model.specs.Limits.{step_count, steps_together, IsItem}
+use Rattle.nv_base.proofs.ForCallers.{all_append}
 
 pub length-repeated : (times : ℕ) (xs : List ℕ) → length (repeated times xs) ≡ length xs * times
 unfolding repeated
@@ -29,14 +30,10 @@ length-core_steps cores [] = refl
 length-core_steps cores (item ∷ items) =
     omega (arith, length-append (item_steps cores item) (core_steps cores items), length-item_steps cores item, length-core_steps cores items)
 
-pub all-append : (P : ℕ → Type 0) (xs ys : List ℕ) → AllByRecursion P xs → AllByRecursion P ys → AllByRecursion P (xs ++ ys)
-all-append P [] ys p q = q
-all-append P (x ∷ xs) ys p q = (p.0, all-append P xs ys p.1 q)
-
 pub all-repeated : (P : ℕ → Type 0) (times : ℕ) (xs : List ℕ) → AllByRecursion P xs → AllByRecursion P (repeated times xs)
 unfolding repeated
 all-repeated P zero xs p = tt
-all-repeated P (suc times) xs p = all-append P xs (repeated times xs) p (all-repeated P times xs p)
+all-repeated P (suc times) xs p = all_append P xs (repeated times xs) p (all-repeated P times xs p)
 
 pub all-drawn : (cores : ℕ) (ws : List ℕ) → 1 ≤ cores → AllByRecursion (λ core. core < cores) (map (core_of_word cores) ws)
 all-drawn cores [] h = tt
@@ -51,4 +48,4 @@ pub all-core_steps : (cores : ℕ) (items : List StepItem) → 1 ≤ cores → A
 unfolding core_steps
 all-core_steps cores [] h p = tt
 all-core_steps cores (item ∷ items) h p =
-    all-append (λ core. core < cores) (item_steps cores item) (core_steps cores items) (all-item_steps cores item h p.0) (all-core_steps cores items h p.1)
+    all_append (λ core. core < cores) (item_steps cores item) (core_steps cores items) (all-item_steps cores item h p.0) (all-core_steps cores items h p.1)

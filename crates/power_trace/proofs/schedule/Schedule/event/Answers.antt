@@ -2,12 +2,11 @@ use Rattle.std.proofs.Common.{◌≡◌, ◌-◌, ◌<◌, sym, subst, ◌∙◌
 use Rattle.std.specs.List.{slice_get}
 use Rattle.std.proofs.lemmas.List.{length-map}
 use Rattle.kernel_model.specs.Events.{CoreStep, Fail}
-use Rattle.schedule_model.proofs.FailureLaws.{event_of_cores}
 use Rattle.schedule_model.specs.Limits.{IsSchedule}
 use Rattle.schedule_model.specs.CoreSteps.{core_steps}
 use Rattle.schedule_model.specs.Failures.{events_of}
 use Rattle.schedule_model.specs.Limits.{steps_together}
-use Rattle.schedule_model.proofs.StepLaws.{length-core_steps}
+use Rattle.schedule_model.proofs.ForCallers.{event_of_cores, length-core_steps}
 use Rattle.power_trace.specs.Items.{item_of, schedule_of}
 use Rattle.power_trace.proofs.Found.{indexed_failure, indexed_step, event_of_step}
 use Rattle.power_trace.proofs.ItemPlaces.{length-starts}
