@@ -1,7 +1,7 @@
 -- The exit number of each answer, and the line that names it on the output. This project's own.
 use Rattle.std.specs.Prelude.{ℕ, List, [], ◌++◌, codes}
 use Rattle.std.specs.Fmt.{decimal}
-use Rattle.script.specs.CauseWords.{word_of}
+use Rattle.script.specs.CauseWords.{cause_word}
 use Rattle.answers.specs.declared.status.Status.{Status}
 use Rattle.answers.specs.declared.status.Status.TheVariants.{Done, Usage, Script, Packed, ReadFault, WriteFault, NoMemory, NotBuilt}
 
@@ -20,7 +20,7 @@ abbrev pub line_for : Status → List ℕ
 line_for Done = []
 line_for WriteFault = []
 line_for Usage = codes "error usage\n"
-line_for (Script e) = codes "error script " ++ decimal e.line ++ codes " " ++ word_of e.cause ++ codes "\n"
+line_for (Script e) = codes "error script " ++ decimal e.line ++ codes " " ++ cause_word e.cause ++ codes "\n"
 line_for (Packed place) = codes "error packed " ++ decimal place ++ codes "\n"
 line_for ReadFault = codes "error read\n"
 line_for NoMemory = codes "error memory\n"

@@ -1,11 +1,11 @@
 -- The lines of a block, as they are gone over.
-use Rattle.std.proofs.Common.{◌≡◌, ℕ, suc, zero, ◌+◌, ◌<◌, ◌≤◌, Bool, true, false, List, [], ◌∷◌, length, get_or, drop, map, not, None, Bor, refl, ap, arith, add-one, inl, inr, cond}
+use Rattle.std.proofs.Common.{◌≡◌, ℕ, suc, zero, ◌+◌, ◌<◌, ◌≤◌, List, [], ◌∷◌, length, get_or, drop, map, None, Bor, refl, ap, arith, add-one, inl, inr}
 use Rattle.std.specs.List.{position, position_or_len}
 use Rattle.std.proofs.lemmas.Bool.{cases_lt, lt-ltb}
 use Rattle.std.proofs.lemmas.List.{length-map, drop_all}
 use Rattle.plain_text.specs.Words.{is_plain}
 use Rattle.plain_text.specs.BadLines.{is_bad}
-use Rattle.plain_text.proofs.ForCallers.{nowhere}
+use Rattle.plain_text.proofs.ForCallers.{nowhere, skip_step}
 use Rattle.script.specs.Blocks.{or_empty}
 
 abbrev now : Bor (List ℕ) → List ℕ
@@ -23,14 +23,10 @@ lines_next xs i d h = rw add-one (next xs i d h)
 pub lines_over : (xs : List (Bor (List ℕ))) (i : ℕ) → length xs ≤ i → map (λ line. line.now) (drop i xs) ≡ []
 lines_over xs i h = ap (λ (ys : List (Bor (List ℕ))). map now ys) (drop_all i xs h)
 
-step : (v : Bool) (n m : ℕ) → suc n ≤ cond (not (not v)) (1 + m) 0 → (v ≡ true) × (n ≤ m)
-step true n m le = (refl, omega arith)
-step false n m le = absurd (omega arith)
-
 each_plain : (xs : List (List ℕ)) → length xs ≤ position_or_len is_bad xs → map or_empty xs ≡ xs
 each_plain [] le = refl
 each_plain (x ∷ xs) le =
-    let s = step (is_plain x) (length xs) (position_or_len is_bad xs) le in
+    let s = skip_step (is_plain x) (length xs) (position_or_len is_bad xs) le in
     rw (s.0, each_plain xs s.1) refl
 
 -- lines without a byte that is not allowed stay as they are

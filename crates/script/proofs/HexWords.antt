@@ -1,17 +1,12 @@
 -- Words of 8 hexadecimal digits are words of 32 bits.
-use Rattle.std.proofs.Common.{◌≡◌, ℕ, ◌^◌, ◌<◌, Bool, true, false, cond, List, [], ◌∷◌, ◌&&◌, not, length, Some, None, ltb, leb, eqb, refl, subst}
+use Rattle.std.proofs.Common.{◌≡◌, ℕ, ◌^◌, ◌<◌, Bool, true, false, cond, List, ◌&&◌, not, length, Some, None, ltb, leb, eqb, refl, subst}
 use Rattle.std.specs.List.{list_all}
 use Rattle.std.specs.Char.{digit_value}
-use Rattle.std.specs.Str.Parse.{AllDigits, digits_value}
-use Rattle.std.proofs.lemmas.Bool.{ltb-true, and_parts}
+use Rattle.std.specs.Str.Parse.{digits_value}
+use Rattle.std.proofs.lemmas.Bool.{and_parts}
 use Rattle.std.proofs.lemmas.Int.Digits.{digits_value-lt}
 use Rattle.plain_text.specs.Numbers.{is_numeral, value_in}
-
-all_digits : (radix : ℕ) (ds : List ℕ) → list_all (λ d. ltb (digit_value d) radix) ds ≡ true → AllDigits radix ds
-all_digits radix [] e = tt
-all_digits radix (d ∷ ds) e =
-    let p = and_parts (ltb (digit_value d) radix) (list_all (λ d. ltb (digit_value d) radix) ds) e in
-    (ltb-true _ _ p.0, all_digits radix ds p.1)
+use Rattle.plain_text.proofs.ForCallers.{all_digits}
 
 some_test : (b : Bool) (m n : ℕ) → cond b (Some m) None ≡ Some n → (b ≡ true) × (m ≡ n)
 some_test true m n e = (refl, cc)

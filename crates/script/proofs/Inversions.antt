@@ -10,7 +10,12 @@ use Rattle.script.specs.declared.refusals.ScriptCause.{ScriptCause}
 use Rattle.script.specs.declared.refusals.ScriptCause.TheVariants as causes
 use Rattle.nv_base.specs.Results.{◌>>=◌}
 use Rattle.script.specs.Results.{each}
-use Rattle.script.specs.Words.{number, value, by_cause}
+use Rattle.script.specs.Words.{allowed, number, value, by_cause}
+use Rattle.script.specs.declared.keyword.Keyword.{Keyword}
+use Rattle.script.specs.declared.keyword.Stage.{Stage}
+use Rattle.script.specs.Keywords.{keyword_of, may_follow, stage_of}
+use Rattle.script.specs.Parts.{Parts}
+use Rattle.script.specs.Lines.{found, keyword_after, words_after}
 use Rattle.script.specs.SetLines.{first_values}
 use Rattle.nv_base.specs.Refusals.{at}
 
@@ -68,3 +73,17 @@ length-first size words vs h = go (eqb (length words) 0) refl h
     go : (b : Bool) → eqb (length words) 0 ≡ b → cond b (Ok (replicate size 0)) (cond (eqb (length words) size) (each value words) (Err causes.Count)) ≡ Ok vs → length vs ≡ size
     go true e h = let same : replicate size 0 ≡ vs = cc in ap length (sym same) ∙ length-replicate size 0
     go false e h = given (eqb (length words) size) refl h
+
+-- what a line of words that is read says: its keyword may follow, and the keyword's reader gives the parts
+pub words_read : (n : ℕ) (p q : Parts) (first : List ℕ) (words : List (List ℕ)) → words_after n p (first ∷ words) ≡ Ok q
+    → (keyword : Keyword) × (found (keyword_of first) ≡ Ok keyword) × (may_follow p.last (stage_of keyword) ≡ true)
+    × (c : Parts) × (keyword_after keyword n p words ≡ Ok c) × (record c { last = Some (stage_of keyword) } ≡ q)
+unfolding words_after
+words_read n p q first words h =
+    let a = bind_ok (found (keyword_of first)) (λ keyword. allowed p.last (stage_of keyword) >>= λ stage. keyword_after keyword n p words >>= λ q. Ok (record q { last = Some stage })) q h in
+    let keyword = a.0 in
+    let b = bind_ok (allowed p.last (stage_of keyword)) (λ stage. keyword_after keyword n p words >>= λ q. Ok (record q { last = Some stage })) q a.2 in
+    let f = allowed_if (may_follow p.last (stage_of keyword)) causes.Word (stage_of keyword) b.0 b.1 in
+    let c = bind_ok (keyword_after keyword n p words) (λ q. Ok (record q { last = Some b.0 })) q b.2 in
+    let same : record c.0 { last = Some b.0 } ≡ q = cc c.2 in
+    (keyword, a.1, f.0, c.0, c.1, ap (λ (s : Stage). record c.0 { last = Some s }) f.1 ∙ same)

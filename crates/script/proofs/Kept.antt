@@ -12,7 +12,7 @@ use Rattle.script.specs.declared.keyword.Stage.{Stage}
 use Rattle.script.specs.declared.keyword.Stage.TheVariants.{Nvk, Cores, Memory, Records, Object, Program, Task, Schedule, Run}
 use Rattle.script.specs.Keywords.{may_follow}
 use Rattle.script.specs.Parts.{Timeline, event_count, no_set, no_events}
-use Rattle.set_model.proofs.ForCallers.{all_with}
+use Rattle.nv_base.proofs.ForCallers.{all_with}
 
 -- how far the lines have come
 abbrev pub rank : Option Stage → ℕ

@@ -1,6 +1,6 @@
 -- Each line and each block keeps the limits.
 use Rattle.std.proofs.Common.{◌≡◌, ℕ, ◌+◌, ◌-◌, ◌%◌, ◌^◌, ◌<◌, ◌≤◌, Bool, true, false, cond, not, ◌&&◌, List, [], ◌∷◌, ◌++◌, length, map, replicate, Option, Some, None, Result, Ok, Err, ltb, leb, eqb, refl, subst, arith, length-append}
-use Rattle.nv_base.proofs.ForCallers.{bind_ok}
+use Rattle.nv_base.proofs.ForCallers.{bind_ok, all_append}
 use Rattle.std.specs.List.{AllByRecursion, list_all, flat_map, before_first}
 use Rattle.std.proofs.lemmas.Bool.{ltb-false, ltb-true, leb-true, eqb-true, eqb-false, and_parts}
 use Rattle.std.proofs.lemmas.List.{length-map}
@@ -16,21 +16,20 @@ use Rattle.schedule_model.specs.Schedules as schedules
 use Rattle.script.specs.declared.refusals.ScriptCause.{ScriptCause}
 use Rattle.script.specs.declared.refusals.ScriptCause.TheVariants as causes
 use Rattle.script.specs.declared.items.OnTimes.{OnTimes}
-use Rattle.script.specs.declared.keyword.Stage.{Stage}
 use Rattle.script.specs.declared.keyword.Stage.TheVariants as stages
 use Rattle.script.specs.declared.keyword.Keyword.{Keyword}
 use Rattle.script.specs.declared.keyword.Keyword.TheVariants.{Nvk, Cores, Memory, Records, Object, Task, Power, Steps, Mix, Run}
 use Rattle.nv_base.specs.Results.{◌>>=◌}
 use Rattle.script.specs.Results.{each}
-use Rattle.script.specs.Keywords.{keyword_of, stage_of, may_follow}
-use Rattle.script.specs.Words.{number, value, one, two, three, new_name, known_name, allowed}
+use Rattle.script.specs.Keywords.{stage_of, may_follow}
+use Rattle.script.specs.Words.{number, value, one, two, three, new_name, known_name}
 use Rattle.script.specs.Parts.{Parts, Timeline, event_count}
 use Rattle.script.specs.SetLines.{format_after, cores_after, memory_after, records_after, first_values, object_after, task_after}
 use Rattle.script.specs.ScheduleLines.{on_times, steps, steps_within, times_of, is_star, are_times, are_many, times_together, power_after, steps_after, mix_after}
-use Rattle.script.specs.Lines.{keyword_after, words_after, line_after, found}
+use Rattle.script.specs.Lines.{keyword_after, words_after, line_after}
 use Rattle.script.proofs.Counts.{times_length, steps-append}
-use Rattle.script.proofs.Inversions.{refused_if, allowed_if, number_ok, each_all, length-first}
-use Rattle.script.proofs.NewNames.{all_append, named_with, known_within}
+use Rattle.script.proofs.Inversions.{refused_if, allowed_if, number_ok, each_all, length-first, words_read}
+use Rattle.script.proofs.NewNames.{named_with, known_within}
 use Rattle.script.proofs.Kept.{rank, follows, Kept, kept_format, kept_cores, kept_memory, kept_records, kept_object, kept_task, kept_events, kept_run}
 
 abbrev pub KeptParts : Parts → Type 0
@@ -275,14 +274,8 @@ words_kept : (n : ℕ) (p q : Parts) (words : Words) → KeptParts p → words_a
 unfolding words_after
 words_kept n p q [] k h = let same : p ≡ q = cc in subst KeptParts same k
 words_kept n p q (first ∷ words) k h =
-    let a = bind_ok (found (keyword_of first)) (λ keyword. allowed p.last (stage_of keyword) >>= λ stage. keyword_after keyword n p words >>= λ q. Ok (record q { last = Some stage })) q h in
-    let keyword = a.0 in
-    let b = bind_ok (allowed p.last (stage_of keyword)) (λ stage. keyword_after keyword n p words >>= λ q. Ok (record q { last = Some stage })) q a.2 in
-    let f = allowed_if (may_follow p.last (stage_of keyword)) causes.Word (stage_of keyword) b.0 b.1 in
-    let c = bind_ok (keyword_after keyword n p words) (λ q. Ok (record q { last = Some b.0 })) q b.2 in
-    let same : record c.0 { last = Some b.0 } ≡ q = cc c.2 in
-    let kept = keyword_kept keyword n p c.0 words k f.0 c.1 in
-    subst KeptParts same (subst (λ (s : Stage). Kept (rank (Some s)) c.0.set c.0.timeline) f.1 kept)
+    let r = words_read n p q first words h in
+    subst KeptParts r.5 (keyword_kept r.0 n p r.3 words k r.2 r.4)
 
 pub line_kept : (n : ℕ) (p q : Parts) (line : List ℕ) → KeptParts p → line_after n p line ≡ Ok q → KeptParts q
 line_kept n p q line k h =

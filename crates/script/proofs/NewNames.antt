@@ -1,5 +1,5 @@
 -- Names, as things with names of their own come one after another.
-use Rattle.std.proofs.Common.{◌≡◌, ◌≢◌, ℕ, suc, ◌+◌, ◌≤◌, ◌<◌, Bool, true, false, cond, not, ◌&&◌, is_some, List, [], ◌∷◌, ◌++◌, length, map, Option, Some, None, Ok, Err, ltb, leb, refl, sym, ap, subst, ◌∙◌, inl, inr, arith, nat_eq, eq-eqb, get_or}
+use Rattle.std.proofs.Common.{◌≡◌, ◌≢◌, ℕ, suc, ◌+◌, ◌≤◌, ◌<◌, Bool, true, false, cond, not, ◌&&◌, is_some, List, [], ◌∷◌, ◌++◌, length, map, Option, Some, None, Ok, Err, ltb, leb, refl, sym, ap, subst, ◌∙◌, inl, inr, arith, nat_eq, get_or}
 use Rattle.std.specs.Char.{is_ascii_digit}
 use Rattle.std.specs.Cmp.Lexicographic.{pointwise}
 use Rattle.std.specs.Int.{is_in_range}
@@ -9,22 +9,15 @@ use Rattle.std.proofs.lemmas.List.Sums.{AllPass-from_list_all}
 use Rattle.std.proofs.lemmas.Option.{cond_some}
 use Rattle.std.proofs.lemmas.List.{map_push}
 use Rattle.plain_text.specs.Names.{IsName, is_name}
-use Rattle.plain_text.proofs.ForCallers.{name_means, nowhere}
+use Rattle.plain_text.proofs.ForCallers.{name_means, nowhere, same_bytes}
 use Rattle.set_model.specs.Names.{AreNames}
-use Rattle.set_model.proofs.ForCallers.{all_with, distinct_with}
+use Rattle.set_model.proofs.ForCallers.{distinct_with}
 use Rattle.script.specs.declared.refusals.ScriptCause.TheVariants as causes
 use Rattle.script.specs.Words.{place_of, new_name, known_name, known}
-
-pub all_append : {X : Type 0} (P : X → Type 0) (xs ys : List X) → AllByRecursion P xs → AllByRecursion P ys → AllByRecursion P (xs ++ ys)
-all_append P [] ys h g = g
-all_append P (x ∷ xs) ys h g = (h.0, all_append P xs ys h.1 g)
-
-same_test : (xs : List ℕ) → pointwise nat_eq xs xs ≡ true
-same_test [] = refl
-same_test (x ∷ xs) = rw (eq-eqb x x refl, same_test xs) refl
+use Rattle.nv_base.proofs.ForCallers.{all_with}
 
 differ : (a b : List ℕ) → pointwise nat_eq a b ≡ false → a ≢ b
-differ a b e = λ same. let t : pointwise nat_eq a b ≡ true = subst (λ (c : List ℕ). pointwise nat_eq a c ≡ true) same (same_test a) in let wrong : true ≡ false = sym t ∙ e in cc
+differ a b e = λ same. let t : pointwise nat_eq a b ≡ true = subst (λ (c : List ℕ). pointwise nat_eq a c ≡ true) same ((same_bytes a a).1 refl) in let wrong : true ≡ false = sym t ∙ e in cc
 
 step : (v : Bool) (n m : ℕ) → suc n ≤ cond (not v) (1 + m) 0 → (v ≡ false) × (n ≤ m)
 step true n m le = absurd (omega arith)

@@ -10,16 +10,15 @@ use Rattle.script.specs.declared.keyword.Stage.{Stage}
 use Rattle.script.specs.declared.keyword.Stage.TheVariants.{Nvk, Cores, Memory, Records, Object, Program, Task, Schedule, Run}
 use Rattle.nv_base.specs.Results.{◌>>=◌}
 use Rattle.script.specs.Keywords.{keyword_of, stage_of, may_follow}
-use Rattle.script.specs.Words.{allowed}
 use Rattle.script.specs.Parts.{Parts}
-use Rattle.script.specs.Lines.{found, keyword_after, line_after, words_after}
+use Rattle.script.specs.Lines.{found, line_after, words_after}
 use Rattle.script.specs.Sections.{Section, Single, Block, line_count}
 use Rattle.nv_base.specs.Refusals.{at}
 use Rattle.script.specs.Blocks.{header_of, code_of, program_after, block_after}
 use Rattle.script.specs.Reading.{section_after, sections_after}
 use Rattle.script.specs.Laws.{IsLaidOut, stage_of_words, stage_in, stages_of}
-use Rattle.script.proofs.Inversions.{allowed_if}
 use Rattle.script.proofs.KeptSections.{header_ok, program_ok}
+use Rattle.script.proofs.Inversions.{words_read}
 
 -- each may follow the one before, and the last is `run`
 abbrev is_last : Option Stage → Bool
@@ -185,14 +184,8 @@ words_next : (n : ℕ) (p q : Parts) (words : List (List ℕ)) → words_after n
 unfolding words_after
 words_next n p q [] h = let same : p ≡ q = cc in ap (λ (p : Parts). p.last) (sym same)
 words_next n p q (first ∷ words) h =
-    let a = bind_ok (found (keyword_of first)) (λ keyword. allowed p.last (stage_of keyword) >>= λ stage. keyword_after keyword n p words >>= λ q. Ok (record q { last = Some stage })) q h in
-    let keyword = a.0 in
-    let b = bind_ok (allowed p.last (stage_of keyword)) (λ stage. keyword_after keyword n p words >>= λ q. Ok (record q { last = Some stage })) q a.2 in
-    let f = allowed_if (may_follow p.last (stage_of keyword)) causes.Word (stage_of keyword) b.0 b.1 in
-    let c = bind_ok (keyword_after keyword n p words) (λ q. Ok (record q { last = Some b.0 })) q b.2 in
-    let same : record c.0 { last = Some b.0 } ≡ q = cc c.2 in
-    let last : q.last ≡ Some (stage_of keyword) = ap (λ (q : Parts). q.last) (sym same) ∙ ap (λ (s : Stage). Some s) (sym f.1) in
-    go (keyword_of first) keyword a.1 f.0 last
+    let r = words_read n p q first words h in
+    go (keyword_of first) r.0 r.1 r.2 (ap (λ (q : Parts). q.last) (sym r.5))
   where
     go : (o : Option Keyword) (keyword : Keyword) → found o ≡ Ok keyword → may_follow p.last (stage_of keyword) ≡ true → q.last ≡ Some (stage_of keyword) → Next p.last q.last (option_map stage_of o)
     go None keyword e f last = absurd cc

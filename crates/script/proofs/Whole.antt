@@ -7,7 +7,7 @@ use Rattle.std.specs.List.{AllByRecursion, list_all}
 use Rattle.std.proofs.lemmas.Bool.{le-leb, lt-ltb, and_from}
 use Rattle.kernel_model.specs.Effects.{Spawn}
 use Rattle.nv_base.specs.declared.limits.TheConstants.{MAX_FORMAT}
-use Rattle.set_model.specs.Limits.{IsWithin, max_objects, max_records}
+use Rattle.set_model.specs.Limits.{max_objects, max_records}
 use Rattle.set_model.specs.Sets.{ObjPart, ProgPart, TaskSet}
 use Rattle.task_set.specs.FirstBroken.{first_broken, format_holds, cores_hold, memory_holds, records_hold, objects_hold, sizes_hold, slots_hold, firsts_hold, programs_hold, fuels_hold, codes_hold, tasks_hold, task_programs_hold}
 use Rattle.script.specs.declared.keyword.Stage.{Stage}
@@ -22,17 +22,15 @@ use Rattle.nv_base.specs.Refusals.{at}
 use Rattle.script.proofs.Order.{laid_out, taken_in_order}
 use Rattle.script.proofs.Kept.{rank, Kept, IsSized, IsFitting, kept_nothing}
 use Rattle.script.proofs.KeptSections.{IsShort, sections_kept}
-
-in_range : (low high n : ℕ) → IsWithin low high n → is_in_range low high n ≡ true
-in_range low high n w = and_from (leb low n) (leb n high) (le-leb low n w.0) (le-leb n high w.1)
+use Rattle.set_model.proofs.ForCallers.{range_told}
 
 sizes : (xs : List ObjPart) → AllByRecursion IsSized xs → list_all (λ o. is_in_range 1 64 o.size) xs ≡ true
 sizes [] h = refl
-sizes (x ∷ xs) h = and_from (is_in_range 1 64 x.size) (list_all (λ (o : ObjPart). is_in_range 1 64 o.size) xs) (in_range 1 64 x.size h.0.0) (sizes xs h.1)
+sizes (x ∷ xs) h = and_from (is_in_range 1 64 x.size) (list_all (λ (o : ObjPart). is_in_range 1 64 o.size) xs) (range_told 1 64 x.size h.0.0) (sizes xs h.1)
 
 slots : (xs : List ObjPart) → AllByRecursion IsSized xs → list_all (λ o. is_in_range 2 8 o.slots) xs ≡ true
 slots [] h = refl
-slots (x ∷ xs) h = and_from (is_in_range 2 8 x.slots) (list_all (λ (o : ObjPart). is_in_range 2 8 o.slots) xs) (in_range 2 8 x.slots h.0.1) (slots xs h.1)
+slots (x ∷ xs) h = and_from (is_in_range 2 8 x.slots) (list_all (λ (o : ObjPart). is_in_range 2 8 o.slots) xs) (range_told 2 8 x.slots h.0.1) (slots xs h.1)
 
 firsts : (xs : List ObjPart) → AllByRecursion IsSized xs → list_all (λ o. eqb (length o.first) o.size) xs ≡ true
 firsts [] h = refl
@@ -40,7 +38,7 @@ firsts (x ∷ xs) h = and_from (eqb (length x.first) x.size) (list_all (λ (o : 
 
 fuels : (m : ℕ) (xs : List ProgPart) → AllByRecursion (IsFitting m) xs → list_all (λ p. is_in_range 1 1000000 p.fuel) xs ≡ true
 fuels m [] h = refl
-fuels m (x ∷ xs) h = and_from (is_in_range 1 1000000 x.fuel) (list_all (λ (p : ProgPart). is_in_range 1 1000000 p.fuel) xs) (in_range 1 1000000 x.fuel h.0.0) (fuels m xs h.1)
+fuels m (x ∷ xs) h = and_from (is_in_range 1 1000000 x.fuel) (list_all (λ (p : ProgPart). is_in_range 1 1000000 p.fuel) xs) (range_told 1 1000000 x.fuel h.0.0) (fuels m xs h.1)
 
 codes : (m : ℕ) (xs : List ProgPart) → AllByRecursion (IsFitting m) xs → list_all (λ p. leb (length p.code) 1024 && leb (4 * length p.code) m) xs ≡ true
 codes m [] h = refl
@@ -64,15 +62,15 @@ none_broken set t k =
     let some : 1 ≤ length set.objects = k.objects (omega arith) in
     let more : 1 ≤ length set.programs = k.programs (omega arith) in
     none_if set
-    (in_range 1 MAX_FORMAT set.format (k.format (omega arith)))
-    (in_range 1 8 set.cores (k.cores (omega arith)))
-    (and_from (is_in_range 1024 65536 set.memory) (eqb (set.memory % 4) 0) (in_range 1024 65536 set.memory m.0) (eq-eqb (set.memory % 4) 0 m.1))
-    (in_range 1 (max_records set.format) set.records (k.records (omega arith)))
-    (in_range 1 (max_objects set.format) (length set.objects) (some, k.few_objects))
+    (range_told 1 MAX_FORMAT set.format (k.format (omega arith)))
+    (range_told 1 8 set.cores (k.cores (omega arith)))
+    (and_from (is_in_range 1024 65536 set.memory) (eqb (set.memory % 4) 0) (range_told 1024 65536 set.memory m.0) (eq-eqb (set.memory % 4) 0 m.1))
+    (range_told 1 (max_records set.format) set.records (k.records (omega arith)))
+    (range_told 1 (max_objects set.format) (length set.objects) (some, k.few_objects))
     (sizes set.objects k.each_object)
     (slots set.objects k.each_object)
     (firsts set.objects k.each_object)
-    (in_range 1 16 (length set.programs) (more, k.few_programs))
+    (range_told 1 16 (length set.programs) (more, k.few_programs))
     (fuels set.memory set.programs k.each_program)
     (codes set.memory set.programs k.each_program)
     (le-leb (length set.tasks) set.records k.few_tasks)

@@ -1,7 +1,7 @@
 //! The words that name a cause.
 
 ghost use Rattle.std.specs.Prelude.{◌≡◌};
-ghost use Rattle.script.specs.CauseWords.{word_of};
+ghost use Rattle.script.specs.CauseWords.{cause_word};
 
 use crate::refusals::ScriptCause;
 use rv_asm::AsmCause;
@@ -9,7 +9,7 @@ use rv_asm::AsmCause;
 impl ScriptCause {
     /// The words that name the cause in the line of an answer.
     pub fn words(self) -> &'static str
-        ensures { result.now ≡ word_of self }
+        ensures { result.now ≡ cause_word self }
     {
         match self {
             ScriptCause::Long => "long",

@@ -137,7 +137,8 @@ impl Timeline {
 
     /// The schedule on so many cores. `NoMemory` where it could not be kept.
     pub(crate) fn schedule(self, alloc: Global, cores: u8) -> Result<Schedule, NoMemory>
-        requires { IsSchedule (record { cores = cores; items = self.items; on_times = self.on_times }) }
+        requires { let on_times = self.on_times in
+            IsSchedule (record { cores = cores; items = self.items; on_times = on_times }) }
         ensures { IfOk result (λ s. s
             ≡ record { cores = cores; items = self.items; on_times = self.on_times }) }
     {

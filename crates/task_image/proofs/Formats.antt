@@ -3,7 +3,7 @@ use Rattle.std.proofs.Common.{◌≡◌, ℕ, zero, suc, ◌*◌, ◌/◌, ◌�
 use Rattle.std.specs.Cmp.Lexicographic.{pointwise}
 use Rattle.std.specs.Int.{is_in_range}
 use Rattle.std.specs.List.{flat_map}
-use Rattle.std.proofs.lemmas.Bool.{leb-true, and_parts}
+use Rattle.std.proofs.lemmas.Bool.{and_parts}
 use Rattle.std.proofs.lemmas.Bool.Decides.{Decides-eqb}
 use Rattle.std.proofs.lemmas.List.{append-nil}
 use Rattle.std.proofs.lemmas.Slice.Eq.{slice_eq-Decides}
@@ -13,12 +13,14 @@ use Rattle.nv_base.specs.declared.limits.TheConstants.{MAX_CODE, MAX_FUEL, MAX_N
 use Rattle.set_model.specs.Sets.{ObjPart, ProgPart}
 use Rattle.task_image.specs.Packed.{packed_object, packed_program, packed_task}
 use Rattle.plain_text.specs.Names.{is_name}
-use Rattle.task_image.specs.Reading.{number, literal, new_name, is_new}
+use Rattle.task_image.specs.Reading.{number, literal, new_name}
 use Rattle.task_image.specs.Unpacked.{words, object, program, task}
 use Rattle.task_image.proofs.Fields.{Reads}
 use Rattle.task_image.proofs.Composed.{then, nothing_more, reworded}
 use Rattle.task_image.proofs.Numbers.{field_reads, number_reads, IsNumber}
 use Rattle.task_image.proofs.Lists.{Each, several_read}
+use Rattle.set_model.proofs.ForCallers.{range_means}
+use Rattle.set_model.specs.Names.{is_new}
 
 pub literal_reads : (text : List ℕ) → length text ≤ 16 → Reads (literal text) (λ _. text) (λ _. Unit {0}) (length text)
 literal_reads text small =
@@ -50,9 +52,6 @@ words_read n most small =
     (several_read (λ _. number 4 (λ _. true)) (little_bytes 4) (λ _. IsNumber 4 (λ _. true)) 4 n (λ _. number_reads 4 (λ _. true) (omega arith)))
     (λ x p. refl) (λ x p. p) (λ x p. p) (omega arith)
 
-pub in_range : (low high n : ℕ) → is_in_range low high n ≡ true → (low ≤ n) × (n ≤ high)
-in_range low high n e = let t = and_parts _ _ e in (leb-true low n t.0, leb-true n high t.1)
-
 -- ---- objects
 
 pub record IsObjectAfter (taken : List (List ℕ)) (o : ObjPart) : Type 0 where
@@ -70,10 +69,10 @@ unfolding object packed_object
 object_reads taken =
     reworded packed_object (IsObjectAfter taken) 275
     (then (λ (o : ObjPart). length o.name) (number_reads 1 (is_in_range 1 MAX_NAME) (omega arith)) (λ n h.
-    then (λ (o : ObjPart). o.name) (name_reads taken n (in_range 1 MAX_NAME n h.kept).1) (λ name g.
+    then (λ (o : ObjPart). o.name) (name_reads taken n (range_means 1 MAX_NAME n h.kept).1) (λ name g.
     then (λ (o : ObjPart). o.size) (number_reads 1 (is_in_range 1 MAX_SIZE) (omega arith)) (λ size s.
     then (λ (o : ObjPart). o.slots) (number_reads 1 (is_in_range MIN_SLOTS MAX_SLOTS) (omega arith)) (λ slots t.
-    then (λ (o : ObjPart). o.first) (words_read size MAX_SIZE (in_range 1 MAX_SIZE size s.kept).1) (λ first w.
+    then (λ (o : ObjPart). o.first) (words_read size MAX_SIZE (range_means 1 MAX_SIZE size s.kept).1) (λ first w.
     let made : ObjPart = record { name = name; size = size; slots = slots; first = first } in nothing_more made)
     (λ first o w q. ap (λ (p : ObjPart). p.first) q))
     (λ slots o t q. ap (λ (p : ObjPart). p.slots) q.1))
@@ -108,10 +107,10 @@ unfolding program packed_program
 program_reads memory taken =
     reworded packed_program (IsProgramAfter memory taken) 4119
     (then (λ (p : ProgPart). length p.name) (number_reads 1 (is_in_range 1 MAX_NAME) (omega arith)) (λ n h.
-    then (λ (p : ProgPart). p.name) (name_reads taken n (in_range 1 MAX_NAME n h.kept).1) (λ name g.
+    then (λ (p : ProgPart). p.name) (name_reads taken n (range_means 1 MAX_NAME n h.kept).1) (λ name g.
     then (λ (p : ProgPart). p.fuel) (number_reads 4 (is_in_range 1 MAX_FUEL) (omega arith)) (λ fuel s.
     then (λ (p : ProgPart). length p.code) (number_reads 2 (is_in_range 0 (most_words memory)) (omega arith)) (λ k t.
-    then (λ (p : ProgPart). p.code) (words_read k MAX_CODE (omega (arith, (in_range 0 (most_words memory) k t.kept).1))) (λ code w.
+    then (λ (p : ProgPart). p.code) (words_read k MAX_CODE (omega (arith, (range_means 0 (most_words memory) k t.kept).1))) (λ code w.
     let made : ProgPart = record { name = name; fuel = fuel; code = code } in nothing_more made)
     (λ code p w q. ap (λ (r : ProgPart). r.code) q))
     (λ k p t q. each_length (λ _. IsNumber 4 (λ _. true)) k [] p.code q.0))

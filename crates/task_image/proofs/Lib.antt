@@ -1,4 +1,3 @@
-pub mod NameFacts
 pub mod Several
 pub mod Fields
 pub mod Composed

@@ -10,9 +10,9 @@ use Rattle.nv_base.specs.declared.limits.TheConstants.{MAX_CODE, MAX_CORES, MAX_
 use Rattle.set_model.specs.Limits.{IsWord, IsObject, IsProgram, IsTask, IsTaskSet, max_objects, max_records}
 use Rattle.set_model.specs.Names.{IsName, IsNamed}
 use Rattle.set_model.specs.Sets.{ObjPart, ProgPart, TaskSet}
-use Rattle.set_model.proofs.LimitFacts.{most_objects, most_records}
+use Rattle.set_model.proofs.ForCallers.{most_objects, most_records, range_means}
 use Rattle.task_image.specs.Unpacked.{is_memory}
-use Rattle.task_image.proofs.Formats.{in_range, each_length, IsNewName, AreWordsOf, IsObjectAfter, IsProgramAfter, IsTaskOf, most_words}
+use Rattle.task_image.proofs.Formats.{each_length, IsNewName, AreWordsOf, IsObjectAfter, IsProgramAfter, IsTaskOf, most_words}
 use Rattle.task_image.proofs.Lists.{Each}
 use Rattle.plain_text.proofs.ForCallers.{name_means, name_told}
 use Rattle.task_image.proofs.NameLists.{AreNew, new_are_distinct, distinct_are_new}
@@ -47,8 +47,8 @@ Objects before = IsObjectAfter (object_names before)
 
 object_is : (taken : List (List ℕ)) (o : ObjPart) → IsObjectAfter taken o → IsObject o
 object_is taken o q = record {
-  size = in_range 1 MAX_SIZE o.size q.size.kept;
-  slots = in_range MIN_SLOTS MAX_SLOTS o.slots q.slots.kept;
+  size = range_means 1 MAX_SIZE o.size q.size.kept;
+  slots = range_means MIN_SLOTS MAX_SLOTS o.slots q.slots.kept;
   first = each_length (λ _. IsNumber 4 (λ _. true)) o.size [] o.first q.first;
   words = words_are o.size [] o.first q.first;
 }
@@ -93,8 +93,8 @@ most_told memory n h k = omega arith
 
 program_is : (memory : ℕ) (taken : List (List ℕ)) (p : ProgPart) → IsProgramAfter memory taken p → IsProgram memory p
 program_is memory taken p q =
-    let few = few_words memory (length p.code) (in_range 0 (most_words memory) (length p.code) q.number_of_words.kept).1 in
-    record { fuel = in_range 1 MAX_FUEL p.fuel q.fuel.kept; code = few.0; fits = few.1; words = words_are (length p.code) [] p.code q.code }
+    let few = few_words memory (length p.code) (range_means 0 (most_words memory) (length p.code) q.number_of_words.kept).1 in
+    record { fuel = range_means 1 MAX_FUEL p.fuel q.fuel.kept; code = few.0; fits = few.1; words = words_are (length p.code) [] p.code q.code }
 
 program_told : (memory : ℕ) (taken : List (List ℕ)) (p : ProgPart) → IsProgram memory p → IsName p.name → IsNewName taken (length p.name) p.name → IsProgramAfter memory taken p
 program_told memory taken p h n new = record {
@@ -141,16 +141,16 @@ tasks_told programs few before (x ∷ xs) h =
 pub read_is_set : (s : TaskSet) → IsRead s → IsTaskSet s
 read_is_set s q =
     let memory = and_parts (is_in_range MIN_MEMORY MAX_MEMORY s.memory) (eqb (s.memory % 4) 0) q.header.memory.kept in
-    let records = in_range (max 1 (length s.tasks)) (max_records s.format) s.records q.header.records.kept in
+    let records = range_means (max 1 (length s.tasks)) (max_records s.format) s.records q.header.records.kept in
     record {
-      format = in_range 1 MAX_FORMAT s.format q.header.format.kept;
-      cores = in_range 1 MAX_CORES s.cores q.header.cores.kept;
-      memory = in_range MIN_MEMORY MAX_MEMORY s.memory memory.0;
+      format = range_means 1 MAX_FORMAT s.format q.header.format.kept;
+      cores = range_means 1 MAX_CORES s.cores q.header.cores.kept;
+      memory = range_means MIN_MEMORY MAX_MEMORY s.memory memory.0;
       aligned = eqb-true (s.memory % 4) 0 memory.1;
       records = (omega (arith, records.0), records.1);
-      objects = in_range 1 (max_objects s.format) (length s.objects) q.header.objects.kept;
+      objects = range_means 1 (max_objects s.format) (length s.objects) q.header.objects.kept;
       each_object = (objects_are (length s.objects) [] s.objects q.objects).0;
-      programs = in_range 1 MAX_PROGRAMS (length s.programs) q.header.programs.kept;
+      programs = range_means 1 MAX_PROGRAMS (length s.programs) q.header.programs.kept;
       each_program = (programs_are s.memory (length s.programs) [] s.programs q.programs).0;
       tasks = omega (arith, records.0);
       each_task = tasks_are (length s.programs) (length s.tasks) [] s.tasks q.tasks;

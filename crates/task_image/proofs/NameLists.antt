@@ -1,22 +1,17 @@
 -- Names, each of which is new after those before it, are distinct names, and the other way round.
 use Rattle.std.proofs.Common.{◌≡◌, ◌≢◌, ℕ, Bool, true, false, not, nat_eq, ◌||◌, List, [], ◌∷◌, ◌++◌, refl, sym, ◌∙◌, ap}
 use Rattle.std.proofs.lemmas.Bool.{not-true, or_parts}
-use Rattle.std.specs.Bool.{Decides}
 use Rattle.std.specs.Cmp.Lexicographic.{pointwise}
 use Rattle.std.specs.List.{AllByRecursion, list_any}
-use Rattle.std.proofs.lemmas.Bool.Decides.{Decides-eqb}
-use Rattle.std.proofs.lemmas.Slice.Eq.{slice_eq-Decides}
-use Rattle.set_model.specs.Names.{AreDistinct}
-use Rattle.task_image.specs.Reading.{is_new}
-
-same : (a b : List ℕ) → Decides (pointwise nat_eq a b) (a ≡ b)
-same a b = slice_eq-Decides Decides-eqb a b (pointwise nat_eq a b) refl
+use Rattle.set_model.specs.Names.{AreDistinct, is_new}
+use Rattle.nv_base.proofs.ForCallers.{all_with}
+use Rattle.plain_text.proofs.ForCallers.{same_bytes}
 
 differs : (a b : List ℕ) → pointwise nat_eq a b ≡ false → b ≢ a
-differs a b e g = let f : true ≡ false = sym ((same a b).1 (sym g)) ∙ e in absurd cc
+differs a b e g = let f : true ≡ false = sym ((same_bytes a b).1 (sym g)) ∙ e in absurd cc
 
 told_apart : (c : Bool) (a b : List ℕ) → pointwise nat_eq a b ≡ c → b ≢ a → c ≡ false
-told_apart true a b e h = absurd (h (sym ((same a b).0 e)))
+told_apart true a b e h = absurd (h (sym ((same_bytes a b).0 e)))
 told_apart false a b e h = refl
 
 none_is : (taken : List (List ℕ)) (name : List ℕ) → list_any (pointwise nat_eq name) taken ≡ false → AllByRecursion (λ x. x ≢ name) taken
@@ -51,10 +46,6 @@ all_second P Q (x ∷ xs) h = (h.0.1, all_second P Q xs h.1)
 all_front : (P : List ℕ → Type 0) (xs : List (List ℕ)) (y : List ℕ) → AllByRecursion P (xs ++ y ∷ []) → AllByRecursion P xs × P y
 all_front P [] y h = (tt, h.0)
 all_front P (x ∷ xs) y h = let t = all_front P xs y h.1 in ((h.0, t.0), t.1)
-
-all_with : (P : List ℕ → Type 0) (xs : List (List ℕ)) (y : List ℕ) → AllByRecursion P xs → P y → AllByRecursion P (xs ++ y ∷ [])
-all_with P [] y h p = (p, tt)
-all_with P (x ∷ xs) y h p = (h.0, all_with P xs y h.1 p)
 
 abbrev Apart : List (List ℕ) → List ℕ → Type 0
 Apart names x = AllByRecursion (λ later. x ≢ later) names

@@ -9,7 +9,7 @@ use Rattle.kernel_model.specs.Effects.{Spawn}
 use Rattle.nv_base.specs.declared.limits.TheConstants.{MAX_CORES, MAX_FORMAT, MAX_OBJECTS, MAX_PROGRAMS, MAX_RECORDS}
 use Rattle.set_model.specs.Limits.{max_objects, max_records}
 use Rattle.set_model.specs.Sets.{ObjPart, ProgPart, TaskSet}
-use Rattle.set_model.proofs.LimitFacts.{most_objects, most_records}
+use Rattle.set_model.proofs.ForCallers.{most_objects, most_records, range_means}
 use Rattle.task_image.specs.Packed.{packed_object, packed_program, packed_task, packed_header, packed}
 use Rattle.task_image.specs.Reading.{several}
 use Rattle.task_image.specs.Unpacked.{object, program, task, header, task_set, Header, is_memory}
@@ -17,7 +17,7 @@ use Rattle.task_image.proofs.Fields.{Reads}
 use Rattle.task_image.proofs.Composed.{then, nothing_more, reworded}
 use Rattle.task_image.proofs.Numbers.{number_reads, IsNumber}
 use Rattle.task_image.proofs.Lists.{Each, several_read}
-use Rattle.task_image.proofs.Formats.{literal_reads, in_range, each_length, IsObjectAfter, object_reads, IsProgramAfter, program_reads, IsTaskOf, task_reads}
+use Rattle.task_image.proofs.Formats.{literal_reads, each_length, IsObjectAfter, object_reads, IsProgramAfter, program_reads, IsTaskOf, task_reads}
 
 -- ---- the header
 
@@ -127,9 +127,9 @@ unfolding task_set packed packed_header
 set_reads =
     reworded packed IsRead 106244
     (then header_from header_reads (λ h p.
-    then (λ (s : TaskSet). s.objects) (objects_read h.objects (few h.objects (max_objects h.format) MAX_OBJECTS (in_range 1 (max_objects h.format) h.objects p.objects.kept).1 (most_objects h.format))) (λ objects p1.
-    then (λ (s : TaskSet). s.programs) (programs_read h.memory h.programs (in_range 1 MAX_PROGRAMS h.programs p.programs.kept).1) (λ programs p2.
-    then (λ (s : TaskSet). s.tasks) (tasks_read h.programs h.tasks (few h.tasks (max_records h.format) MAX_RECORDS (in_range 0 (max_records h.format) h.tasks p.tasks.kept).1 (most_records h.format))) (λ tasks p3.
+    then (λ (s : TaskSet). s.objects) (objects_read h.objects (few h.objects (max_objects h.format) MAX_OBJECTS (range_means 1 (max_objects h.format) h.objects p.objects.kept).1 (most_objects h.format))) (λ objects p1.
+    then (λ (s : TaskSet). s.programs) (programs_read h.memory h.programs (range_means 1 MAX_PROGRAMS h.programs p.programs.kept).1) (λ programs p2.
+    then (λ (s : TaskSet). s.tasks) (tasks_read h.programs h.tasks (few h.tasks (max_records h.format) MAX_RECORDS (range_means 0 (max_records h.format) h.tasks p.tasks.kept).1 (most_records h.format))) (λ tasks p3.
     let whole : TaskSet = record { format = h.format; cores = h.cores; memory = h.memory; records = h.records; objects = objects; programs = programs; tasks = tasks } in nothing_more whole)
     (λ x s p3 q. ap (λ (k : TaskSet). k.tasks) q))
     (λ x s p2 q. ap (λ (k : TaskSet). k.programs) q.1))

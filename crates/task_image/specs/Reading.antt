@@ -1,9 +1,9 @@
 -- Reading fields from left to right: each is refused at its own place, where it is cut and else where it breaks its rule. This project's own.
-use Rattle.std.specs.Prelude.{ℕ, zero, suc, ◌+◌, ◌<◌, ◌&&◌, not, Bool, List, [], ◌∷◌, ◌++◌, length, take, drop, get_or, nat_le, nat_eq, ◌==◌, Result, Ok, Err, if◌then◌else◌}
+use Rattle.std.specs.Prelude.{ℕ, zero, suc, ◌+◌, ◌<◌, ◌&&◌, Bool, List, [], ◌∷◌, ◌++◌, length, take, drop, get_or, nat_le, nat_eq, ◌==◌, Result, Ok, Err, if◌then◌else◌}
 use Rattle.std.specs.Cmp.Lexicographic.{pointwise}
-use Rattle.std.specs.List.{list_any}
 use Rattle.byteorder.specs.Endian.{little_number}
 use Rattle.plain_text.specs.Names.{is_name}
+use Rattle.set_model.specs.Names.{is_new}
 
 -- each is a byte
 abbrev pub AreBytes : List ℕ → Type 0
@@ -49,9 +49,6 @@ number n rule = field n (λ bytes. rule (little_number n bytes)) (little_number 
 -- these bytes
 abbrev pub literal : List ℕ → Reader (Unit {0})
 literal text = field (length text) (pointwise nat_eq text) (λ _. tt)
-
-abbrev pub is_new : List (List ℕ) → List ℕ → Bool
-is_new taken name = not (list_any (pointwise nat_eq name) taken)
 
 -- a name of n bytes that is none of those before
 abbrev pub new_name : List (List ℕ) → ℕ → Reader (List ℕ)

@@ -7,12 +7,12 @@ ghost use Rattle.nv_base.specs.declared.refusals.Refusal.TheVariants.{At};
 ghost use Rattle.task_image.specs.Reading.{number, literal, new_name, end, past};
 ghost use Rattle.task_image.specs.Unpacked.{is_memory};
 
-use crate::new_name::take_name;
 use crate::refusal::Stop;
 use byteorder::{ByteOrder, LittleEndian};
 use indexmap::IndexSet;
 use nv_base::limits::{MAX_FORMAT, MAX_MEMORY, MIN_MEMORY};
 use std::marker::Model;
+use task_set::take_name;
 
 /// A place in bytes, and the bytes from there on.
 #[derive(Drop)]

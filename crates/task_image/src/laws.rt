@@ -10,6 +10,9 @@ ghost use Rattle.task_image.specs.Unpacked.{unpacked};
 
 use nv_base::limits::MAX_NAME;
 
+/// The most bytes of a packed set.
+pub const MAX_PACKED: u32 = 106_244;
+
 /// Each set is read from its packed bytes.
 pub fn packed_is_read()
     ensures { (set : TaskSet) → IsTaskSet set → IsNamed set → unpacked (packed set) ≡ Ok set }
@@ -30,7 +33,7 @@ pub fn none_begins_another()
 /// A refused place is in the bytes or at their end, and at most where the longest packed set ends.
 pub fn place_is_near()
     ensures { (bytes : List ℕ) (place : ℕ) → AreBytes bytes → unpacked bytes ≡ Err place
-        → (place ≤ length bytes) × (place ≤ 106244) }
+        → (place ≤ length bytes) × (place ≤ MAX_PACKED) }
 {}
 
 /// A refusal rests on the bytes up to the end of its field, of which the longest has 16: bytes that agree so far are refused at the same place.

@@ -4,7 +4,6 @@
 mod cursor;
 mod header;
 pub mod laws;
-mod new_name;
 mod parts;
 mod reading;
 mod refusal;
