@@ -14,7 +14,7 @@ use Rattle.kernel_model.specs.Turns as turns
 use Rattle.set_model.specs.Sets.{TaskSet, object_at}
 use Rattle.set_model.specs.Limits.{IsObject, IsTaskSet}
 use Rattle.set_model.specs.Numbers.{boot_turns, index_words, sizes_of}
-use Rattle.set_model.proofs.AtFacts.{all_at}
+use Rattle.set_model.proofs.ForCallers.{all_at}
 use Rattle.device_model.specs.Words.{Words, written_at, words_from}
 use Rattle.device_model.specs.Layouts.{Layout, Plain, boot_turns_of, layout_of, copy_place}
 use Rattle.device_model.specs.IndexWords.{Index, index_word}

@@ -8,3 +8,8 @@ pub use Rattle.device_model.proofs.Steps.{fit_index}
 pub use Rattle.device_model.proofs.Counts.{counted_turns, fit_on, length-commit, plain_sizes}
 pub use Rattle.device_model.proofs.UnderWay.{begins, cut, ends, one_more}
 pub use Rattle.device_model.proofs.SlotWrites.{early-write, get-written, late-place, words-other, words-out, words-set}
+pub use Rattle.device_model.proofs.PlaceLaws.{before-more, before-zero}
+pub use Rattle.device_model.proofs.HeaderLaws.{header-code, header-object, header-program, length-header}
+pub use Rattle.device_model.proofs.IndexLists.{front, word-count, word-slot, word-task}
+pub use Rattle.device_model.proofs.IndexReading.{words_tell}
+pub use Rattle.device_model.proofs.Tests.{five, nine}

@@ -5,7 +5,7 @@ use Rattle.set_model.specs.Sets.{TaskSet}
 use Rattle.set_model.specs.Limits.{IsTaskSet}
 use Rattle.set_model.specs.Numbers.{first_index}
 use Rattle.set_model.specs.Formatted.{formatted}
-use Rattle.set_model.proofs.FormattedFacts.{formatted_is_base}
+use Rattle.set_model.proofs.ForCallers.{formatted_is_base}
 use Rattle.device_model.specs.Words.{Words, Change, made, with_word, written_at}
 use Rattle.device_model.specs.Layouts.{Layout, header_word, need}
 use Rattle.device_model.specs.Keeping.{IsHeld, KeepsIn}

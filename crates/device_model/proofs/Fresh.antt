@@ -7,7 +7,7 @@ use Rattle.kernel_model.specs.Effects.{Objects, object_words}
 use Rattle.set_model.specs.Sets.{ObjPart, TaskSet, object_at}
 use Rattle.set_model.specs.Limits.{IsTaskSet, IsObject}
 use Rattle.set_model.specs.Numbers.{first_index}
-use Rattle.set_model.proofs.AtFacts.{all_at}
+use Rattle.set_model.proofs.ForCallers.{all_at}
 use Rattle.device_model.specs.Words.{Words, made, written_at, words_from}
 use Rattle.device_model.specs.Layouts.{Layout, copy_place, header_word, index_place, index_reads, need, slot_place, slots_at, slots_words, words_before}
 use Rattle.device_model.specs.IndexWords.{Index, index_word}

@@ -8,7 +8,7 @@ use Rattle.kernel_model.specs.Replay.{TaskRec}
 use Rattle.kernel_model.specs.Serial.{InIdOrder}
 use Rattle.kernel_model.specs.Fit.{IsLast, IsOutcome}
 use Rattle.set_model.specs.Sets.{TaskSet, object_at}
-use Rattle.set_model.proofs.AtFacts.{all_at}
+use Rattle.set_model.proofs.ForCallers.{all_at}
 use Rattle.device_model.specs.IndexWords.{Index, IsIndex, base_of, index_word, task_words, trap_word, exit_word, is_faulty, is_faulty_number, is_faulty_record}
 use Rattle.device_model.proofs.IndexLists.{front, no_task, task_word, word-count, word-slot, word-task, word-later, word-next}
 use Rattle.device_model.proofs.Tests.{not_eq-false, nine, five}

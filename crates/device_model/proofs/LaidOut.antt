@@ -2,7 +2,7 @@
 use Rattle.std.proofs.Common.{◌≡◌, ◌≢◌, ℕ, ◌+◌, ◌-◌, ◌*◌, ◌/◌, ◌%◌, ◌^◌, ◌<◌, ◌≤◌, ◌⊎◌, inl, inr, ⊎_elim, Bool, true, false, cond, nat_le, eqb, ◌||◌, arith, refl, ap, sym, ◌∙◌}
 use Rattle.std.proofs.lemmas.Bool.{cases_lt, eq-eqb, eqb-true, leb-true, or_cases}
 use Rattle.std.proofs.lemmas.Nat.{mod_below, pow-add, pow_below, pow_pos, shr_split}
-use Rattle.set_model.proofs.LimitFacts.{few_objects, few_records}
+use Rattle.set_model.proofs.ForCallers.{few_objects, few_records}
 use Rattle.set_model.specs.Sets.{TaskSet}
 use Rattle.set_model.specs.Limits.{IsTaskSet}
 use Rattle.set_model.specs.Numbers.{index_words, first_index, words_needed}

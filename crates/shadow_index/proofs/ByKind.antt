@@ -5,8 +5,7 @@ use Rattle.nv_base.specs.declared.lines.Entry.{Entry}
 use Rattle.nv_base.specs.declared.lines.TaskRec.{TaskRec}
 use Rattle.set_model.specs.Views.{entry_if, task_of}
 use Rattle.device_model.specs.IndexWords.{index_word, task_words}
-use Rattle.device_model.proofs.IndexLists.{front, word-count, word-slot, word-task}
-use Rattle.device_model.proofs.Tests.{nine}
+use Rattle.device_model.proofs.ForCallers.{front, nine, word-count, word-slot, word-task}
 use Rattle.shadow_index.specs.declared.state.State.{State}
 use Rattle.shadow_index.specs.States.{index_of, word_of}
 use Rattle.shadow_index.specs.Forms.{last_words, no_task, number_word, record_word, task_word}

@@ -6,7 +6,7 @@ use Rattle.std.proofs.lemmas.Nat.{mul-le}
 use Rattle.std.proofs.lemmas.List.{get_or-set_same, get_or-set_other}
 use Rattle.set_model.specs.Sets.{ObjPart, ProgPart}
 use Rattle.set_model.specs.Limits.{IsObject}
-use Rattle.device_model.specs.Layouts.{code_before, slots_words, words_before}
+use Rattle.device_model.specs.Layouts.{code_before, slots_words}
 use Rattle.shadow_index.specs.Looks.{looked}
 
 -- one number more
@@ -34,10 +34,6 @@ pub two : (f : ℕ → ℕ) (a b : ℕ) → a ≡ f 0 → b ≡ f 1 → (j : ℕ
 two f a b p q zero l = p
 two f a b p q (suc zero) l = q
 two f a b p q (suc (suc j)) l = absurd (omega arith)
-
-pub before_none : (objects : List ObjPart) → words_before objects 0 ≡ 0
-before_none [] = refl
-before_none (p ∷ objects) = refl
 
 pub code_none : (programs : List ProgPart) → code_before programs 0 ≡ 0
 code_none [] = refl

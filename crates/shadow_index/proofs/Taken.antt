@@ -14,8 +14,7 @@ use Rattle.set_model.specs.Numbers.{index_words}
 use Rattle.set_model.specs.Views as views
 use Rattle.device_model.specs.Words.{Words}
 use Rattle.device_model.specs.IndexWords.{exit_word, outcome_of, read_index, read_last, trap_word}
-use Rattle.device_model.proofs.IndexReading.{words_tell}
-use Rattle.device_model.proofs.Tests.{five}
+use Rattle.device_model.proofs.ForCallers.{five, words_tell}
 use Rattle.shadow_index.specs.declared.state.State.{State}
 use Rattle.shadow_index.specs.States.{HasTaken, IsNumbered, index_of, word_of}
 use Rattle.shadow_index.specs.Forms.{last_words, number_word}

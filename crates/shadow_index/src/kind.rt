@@ -4,6 +4,8 @@ ghost use Rattle.std.specs.Prelude.{◌≡◌, ◌≤◌, ◌+◌, if◌then◌e
 ghost use Rattle.shadow_index.specs.Views.{first_kind, heads, kind_of};
 ghost use Rattle.device_model.specs.Layouts.{magic_of};
 
+use crate::bounds::{MAX_FIRST_INDEX, MAX_HEAD_READS};
+
 /// The kinds of device.
 #[derive(Clone, Copy, PartialEq, Eq, Debug)]
 pub enum DeviceKind {
@@ -40,9 +42,9 @@ impl DeviceKind {
 
     /// How many words are read before the pages: the root stands behind the header but in format 1.
     pub(crate) fn head_reads(self, first_index: u32) -> u32
-        requires { first_index ≤ 20000 }
+        requires { first_index ≤ MAX_FIRST_INDEX }
         ensures exact { result ≡ heads (kind_of self) first_index }
-        ensures small { result ≤ 20001 }
+        ensures small { result ≤ MAX_HEAD_READS }
     {
         match self {
             DeviceKind::Plain => first_index,

@@ -1,6 +1,8 @@
 //! The layout of a set on a device: its numbers, and its tables of places.
 
 ghost use Rattle.std.specs.Prelude.{◌≤◌};
+ghost use Rattle.shadow_index.specs.declared.bounds.TheConstants.{MAX_HEAD_READS, MAX_INDEX_READS};
+ghost use Rattle.shadow_index.specs.declared.tables.TheConstants.{MAX_PAGES};
 
 use crate::kind::DeviceKind;
 use crate::tables::{CodePlaces, PagePlaces, SlotPlaces};
@@ -20,7 +22,7 @@ pub struct Layout {
     pub(crate) page_places: PagePlaces,
     pub(crate) slot_places: SlotPlaces,
     pub(crate) code_places: CodePlaces,
-    ghost few: { pages ≤ 31 },
-    ghost head: { head_reads ≤ 20001 },
-    ghost reads: { index_reads ≤ 3968 },
+    ghost few: { pages ≤ MAX_PAGES },
+    ghost head: { head_reads ≤ MAX_HEAD_READS },
+    ghost reads: { index_reads ≤ MAX_INDEX_READS },
 }

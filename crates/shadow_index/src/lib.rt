@@ -1,6 +1,7 @@
 //! The index on a device as code: where each word stands, and the words of a state, both ways.
 #![tactic(auto)]
 
+mod bounds;
 mod copies;
 mod header;
 mod kind;

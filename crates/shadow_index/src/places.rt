@@ -116,7 +116,7 @@ impl Layout {
     /// How many pages there are.
     pub fn pages(&self) -> u8
         ensures exact { (d : Device) → IsLayoutOf d self.now → result ≡ (layout_on d).pages }
-        ensures few { result ≤ 31 }
+        ensures few { result ≤ MAX_PAGES }
     {
         self.pages
     }

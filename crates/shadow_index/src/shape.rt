@@ -5,8 +5,10 @@ ghost use Rattle.device_model.specs.Layouts.{layout_of};
 ghost use Rattle.shadow_index.specs.Views.{kind_of};
 ghost use Rattle.shadow_index.specs.Shapes.{IsPagedAt, IsShapeOf};
 
+use crate::bounds::{MAX_INDEX_READS, MAX_INDEX_WORDS, MAX_PAGES_AT, MAX_ROOT};
 use crate::kind::DeviceKind;
 use crate::lengths::{first_index, index_words, slots_words};
+use crate::tables::MAX_PAGES;
 use task_set::TaskSet;
 
 /// Where the root and the pages stand.
@@ -26,10 +28,10 @@ impl Shape {
     /// The shape of a device of a kind.
     pub(crate) fn of(set: &TaskSet, kind: DeviceKind) -> Shape
         ensures exact { IsShapeOf (layout_of (kind_of kind) set.now) result }
-        ensures pages { result.pages ≤ 31 }
-        ensures words { result.page_words ≤ 3209 }
-        ensures all { result.pages * result.page_words ≤ 3968 }
-        ensures small { result.pages_at ≤ 100000 }
+        ensures pages { result.pages ≤ MAX_PAGES }
+        ensures words { result.page_words ≤ MAX_INDEX_WORDS }
+        ensures all { result.pages * result.page_words ≤ MAX_INDEX_READS }
+        ensures small { result.pages_at ≤ MAX_PAGES_AT }
     {
         let first = first_index(set);
         match kind {
@@ -48,11 +50,11 @@ impl Shape {
 
     /// The pages behind a root at a place.
     fn paged(set: &TaskSet, root: u32) -> Shape
-        requires { root ≤ 99999 }
+        requires { root ≤ MAX_ROOT }
         ensures exact { IsPagedAt set.now root result }
-        ensures pages { result.pages ≤ 31 }
-        ensures words { result.page_words ≤ 3209 }
-        ensures all { result.pages * result.page_words ≤ 3968 }
+        ensures pages { result.pages ≤ MAX_PAGES }
+        ensures words { result.page_words ≤ MAX_INDEX_WORDS }
+        ensures all { result.pages * result.page_words ≤ MAX_INDEX_READS }
     {
         let index = index_words(set);
         if index <= 992 {

@@ -5,7 +5,9 @@ ghost use Rattle.set_model.specs.Sets.{object_at};
 ghost use Rattle.device_model.specs.Layouts.{code_place, words_before};
 ghost use Rattle.shadow_index.specs.Looks.{looked};
 
+use crate::bounds::{MAX_INDEX_WORDS, MAX_NEED, MAX_PAGES_AT, MAX_SLOTS_AT};
 use crate::shape::Shape;
+use nv_base::limits::MAX_SIZE;
 use nv_base::{ObjId, ProgId, limits};
 use task_set::TaskSet;
 
@@ -32,9 +34,9 @@ pub(crate) type CodePlaces = [u32; MAX_PROGRAMS];
 
 /// Both copies of each page stand one after another.
 pub(crate) fn page_places(shape: Shape) -> PagePlaces
-    requires pages { shape.pages ≤ 31 }
-    requires words { shape.page_words ≤ 3209 }
-    requires small { shape.pages_at ≤ 100000 }
+    requires pages { shape.pages ≤ MAX_PAGES }
+    requires words { shape.page_words ≤ MAX_INDEX_WORDS }
+    requires small { shape.pages_at ≤ MAX_PAGES_AT }
     ensures { (page copy : ℕ) → page < shape.pages → copy < 2
         → looked result page copy ≡ shape.pages_at + (2 * page + copy) * shape.page_words }
 {
@@ -49,7 +51,7 @@ pub(crate) fn page_places(shape: Shape) -> PagePlaces
 
 /// The slots of each object stand one after another, from a place on.
 pub(crate) fn slot_places(set: &TaskSet, slots_at: u32) -> SlotPlaces
-    requires { slots_at ≤ 120000 }
+    requires { slots_at ≤ MAX_SLOTS_AT }
     ensures { (o slot : ℕ) → o < length set.now.objects → slot < MAX_SLOTS
         → looked result o slot
         ≡ slots_at + words_before set.now.objects o + (object_at set.now o).size * slot }
@@ -66,8 +68,8 @@ pub(crate) fn slot_places(set: &TaskSet, slots_at: u32) -> SlotPlaces
 
 /// So many places, a size apart.
 fn slots_from(first: u32, size: u32) -> [u32; MAX_SLOTS]
-    requires at { first ≤ 200000 }
-    requires small { size ≤ 64 }
+    requires at { first ≤ MAX_NEED }
+    requires small { size ≤ MAX_SIZE }
     ensures { (slot : ℕ) → slot < MAX_SLOTS → slice_index result slot ≡ first + size * slot }
 {
     let mut places = [0; MAX_SLOTS];

@@ -2,7 +2,7 @@ use Rattle.std.proofs.Common.{◌≡◌, ℕ, ◌+◌, ◌*◌, ◌<◌, List, [
 use Rattle.std.proofs.lemmas.List.{get_or_past}
 use Rattle.set_model.specs.Sets.{ProgPart, program_at}
 use Rattle.device_model.specs.Layouts.{code_before, code_place, header}
-use Rattle.device_model.proofs.HeaderLaws.{header-code, length-header}
+use Rattle.device_model.proofs.ForCallers.{header-code, length-header}
 use Rattle.shadow_index.proofs.Filling.{code_all, code_more, code_none}
 use Rattle.shadow_index.proofs.header.code_at.Goals as goal
 

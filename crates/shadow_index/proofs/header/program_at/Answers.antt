@@ -1,6 +1,6 @@
 use Rattle.std.proofs.Common.{◌≡◌, ℕ, ◌+◌, ◌*◌, ◌/◌, length, slice_index, arith, ap, sym, ◌∙◌}
 use Rattle.device_model.specs.Layouts.{header}
-use Rattle.device_model.proofs.HeaderLaws.{header-program}
+use Rattle.device_model.proofs.ForCallers.{header-program}
 use Rattle.shadow_index.proofs.header.program_at.Goals as goal
 
 pub returns-then-i-eq0 : goal.returns-then-i-eq0

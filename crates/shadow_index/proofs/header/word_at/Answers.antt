@@ -1,6 +1,6 @@
 use Rattle.std.proofs.Common.{◌≡◌, ◌+◌, ◌-◌, ◌*◌, length, slice_index, arith, ap, sym, ◌∙◌}
 use Rattle.device_model.specs.Layouts.{header}
-use Rattle.device_model.proofs.HeaderLaws.{header-object}
+use Rattle.device_model.proofs.ForCallers.{header-object}
 use Rattle.shadow_index.proofs.header.word_at.Goals as goal
 
 pub returns-then-at-n : goal.returns-then-at-n

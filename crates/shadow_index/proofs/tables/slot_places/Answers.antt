@@ -2,13 +2,13 @@ use Rattle.std.proofs.Common.{◌≡◌, ℕ, ◌<◌, ◌≤◌, ◌+◌, ◌*�
 use Rattle.std.proofs.lemmas.List.{length-set}
 use Rattle.set_model.specs.Sets.{ObjPart, object_at}
 use Rattle.device_model.specs.Layouts.{slots_words, words_before}
-use Rattle.device_model.proofs.PlaceLaws.{before-more}
-use Rattle.shadow_index.proofs.Filling.{before_none, few_words, row_at_more}
+use Rattle.device_model.proofs.ForCallers.{before-more, before-zero}
+use Rattle.shadow_index.proofs.Filling.{few_words, row_at_more}
 use Rattle.shadow_index.proofs.tables.slot_places.Goals as goal
 
 pub loop-o-init : goal.loop-o-init
 loop-o-init c =
-    let none = before_none c.args.set.now.objects in
+    let none = before-zero c.args.set.now.objects in
     record { long = search rules; at = omega (arith, none); few = omega (arith, none); done = λ o slot l. absurd (omega arith) }
 
 pub loop-o-preserved : goal.loop-o-preserved

@@ -1,7 +1,7 @@
 use Rattle.std.proofs.Common.{◌≡◌, ◌+◌, ◌*◌, [], refl, ap, arith, ◌∙◌}
 use Rattle.set_model.specs.Sets.{ObjPart}
 use Rattle.set_model.specs.Limits.{IsObject}
-use Rattle.set_model.proofs.AtFacts.{all_at}
+use Rattle.set_model.proofs.ForCallers.{all_at}
 use Rattle.device_model.specs.Layouts.{layout_of, slots_at}
 use Rattle.shadow_index.specs.Views.{heads, kind_of}
 use Rattle.shadow_index.proofs.Told.{copy_is_at, heads_of, need_is, reads_are, slot_is_at, slots_are_at}
