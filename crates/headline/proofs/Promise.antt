@@ -4,7 +4,7 @@ use Rattle.rv_core.specs.State.{MachineState}
 use Rattle.kernel_model.specs.Events.{Event, On}
 use Rattle.kernel_model.specs.Fit.{IsSetUp}
 use Rattle.kernel_model.specs.Execution.{Execution}
-use Rattle.set_model.proofs.LimitFacts.{few_records}
+use Rattle.set_model.proofs.ForCallers.{few_records}
 use Rattle.set_model.specs.Sets.{TaskSet}
 use Rattle.set_model.specs.Limits.{IsTaskSet}
 use Rattle.task_model.specs.TaskSteps.{world_of}

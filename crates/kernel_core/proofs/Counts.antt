@@ -5,7 +5,7 @@ use Rattle.std.specs.List.{AllByRecursion}
 use Rattle.std.proofs.lemmas.Bool.{eqb-true, eqb-false}
 use Rattle.std.proofs.lemmas.List.Sums.{sum_by-cons}
 use Rattle.object_sets.specs.ObjectSets.{is_among, IsIncreasing}
-use Rattle.object_sets.proofs.Spelling.{below-among}
+use Rattle.object_sets.proofs.ForCallers.{below-among}
 use Rattle.kernel_model.specs.Effects.{Write}
 
 -- of the first n objects, those among some

@@ -4,7 +4,7 @@ use Rattle.std.specs.List.{AllByRecursion}
 use Rattle.std.proofs.lemmas.Bool.{eqb-true}
 use Rattle.std.proofs.lemmas.List.{length-map}
 use Rattle.object_sets.specs.ObjectSets.{AreBelow, IsIncreasing, is_among, with_object}
-use Rattle.object_sets.proofs.Insertion.{with_object-all, with_object-increasing}
+use Rattle.object_sets.proofs.ForCallers.{with_object-all, with_object-increasing}
 use Rattle.rv_core.specs.State.{MachineState}
 use Rattle.rv_core.specs.Machine.{first_state, words_at}
 use Rattle.nv_base.specs.declared.limits.TheConstants.{MAX_RECORDS}
@@ -23,12 +23,9 @@ use Rattle.set_model.specs.Limits.{IsObject, IsTask, IsTaskSet}
 use Rattle.set_model.specs.Numbers.{sizes_of}
 use Rattle.set_model.specs.Formatted.{formatted}
 use Rattle.set_model.specs.Views.{spawn_of, task_of}
-use Rattle.set_model.proofs.AtFacts.{all_at}
-use Rattle.set_model.proofs.FormattedFacts.{formatted_is_base}
-use Rattle.set_model.proofs.LimitFacts.{few_records}
+use Rattle.set_model.proofs.ForCallers.{all_at, few_records, formatted_is_base}
 use Rattle.task_model.specs.Shape.{HasShape}
-use Rattle.task_model.proofs.MachineFacts.{length-words_at}
-use Rattle.task_model.proofs.Shapes.{shape-set}
+use Rattle.task_model.proofs.ForCallers.{length-words_at, shape-set}
 use Rattle.kernel_core.specs.Shapes.{AreWritten, behind, state_after}
 use Rattle.kernel_core.specs.Wants.{Awaits, received, rewritten_wanted, seen_in, with_rewritten}
 use Rattle.kernel_core.specs.Invariant.{IsGranted, IsGrantedUntil, IsHeld, IsValid, IsValidIn}
@@ -40,7 +37,8 @@ use Rattle.kernel_core.specs.declared.kernel.Phase.TheVariants as phase
 use Rattle.kernel_core.specs.declared.part.Want.{Want}
 use Rattle.kernel_core.proofs.Tables.{none_written}
 use Rattle.kernel_core.proofs.Wanting.{new_size}
-use Rattle.kernel_core.proofs.Tasks.{all-append, all-filter, all-spawns, length-others}
+use Rattle.kernel_core.proofs.Tasks.{all-filter, all-spawns, length-others}
+use Rattle.nv_base.proofs.ForCallers.{all_append}
 
 -- each object has room for two versions, and a commit and a boot end by a write
 pub sizes_fit : (set : TaskSet) → IsTaskSet set → IsSizes (sizes_of set)
@@ -213,7 +211,7 @@ taken k e s h committing after = subst (λ x. IsValid (record k { state = x; pha
           objects = shape_put k.set ws k.attempt.written k.attempt.words k.state.objects h.words h.objects writes;
           words = h.words;
           programs =
-              all-append (λ t. t.program < length k.set.programs) others (children e.first.0 spawns) (all-filter (λ t. t.program < length k.set.programs) (λ t. not (eqb t.id e.task.0)) k.state.tasks h.programs)
+              all_append (λ t. t.program < length k.set.programs) others (children e.first.0 spawns) (all-filter (λ t. t.program < length k.set.programs) (λ t. not (eqb t.id e.task.0)) k.state.tasks h.programs)
               (children_programs (length k.set.programs) e.first.0 spawns (all-spawns (length k.set.programs) k.attempt.spawns h.children));
           records = omega (arith, few, all, fine.records);
           written = h.written;

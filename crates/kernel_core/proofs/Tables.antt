@@ -6,7 +6,7 @@ use Rattle.std.proofs.lemmas.Bool.{eqb-true, eqb-false}
 use Rattle.object_sets.specs.ObjectSets.{is_among, with_object, IsIncreasing}
 use Rattle.kernel_model.specs.Effects.{Objects, Write, put, with_write, object_words, written}
 use Rattle.kernel_model.proofs.ForCallers.{length-put_from, put-seen, written-with_write}
-use Rattle.task_model.proofs.WriteFacts.{objects_in-with_write}
+use Rattle.task_model.proofs.ForCallers.{objects_in-with_write}
 use Rattle.kernel_core.specs.Shapes.{AreWritten}
 
 -- an object is written where it is among those written

@@ -56,10 +56,6 @@ all-filter {A} P p (x ∷ xs) h = at (p x) (all-filter P p xs h.1)
     at true r = (h.0, r)
     at false r = r
 
-pub all-append : {A : Type 0} → (P : A → Type 0) (xs ys : List A) → AllByRecursion P xs → AllByRecursion P ys → AllByRecursion P (xs ++ ys)
-all-append P [] ys h g = g
-all-append P (x ∷ xs) ys h g = (h.0, all-append P xs ys h.1 g)
-
 pub all-spawns : (n : ℕ) (xs : List base_spawn.Spawn) → AllByRecursion (λ s. s.program.0 < n) xs → AllByRecursion (λ s. s.program < n) (map spawn_of xs)
 all-spawns n [] h = tt
 all-spawns n (x ∷ xs) h = (h.0, all-spawns n xs h.1)

@@ -3,7 +3,7 @@ use Rattle.std.proofs.Common.{◌≡◌, ℕ, ◌<◌, Bool, true, false, cond, 
 use Rattle.std.specs.Prelude.{is_some, unwrap_or}
 use Rattle.std.proofs.lemmas.List.{length-map}
 use Rattle.object_sets.specs.ObjectSets.{IsIncreasing, is_among, with_object}
-use Rattle.object_sets.proofs.Insertion.{is_among-with_object}
+use Rattle.object_sets.proofs.ForCallers.{is_among-with_object}
 use Rattle.rv_core.specs.State.{MachineState, Calls}
 use Rattle.rv_core.specs.declared.services.Service.{Service}
 use Rattle.nv_base.specs.declared.ids.ObjId.{ObjId}

@@ -9,7 +9,7 @@ use Rattle.kernel_model.specs.Cores.{Attempt, Running}
 use Rattle.kernel_model.specs.Turns.{Turn, quiet}
 use Rattle.set_model.specs.Sets.{TaskSet}
 use Rattle.task_model.specs.TaskSteps.{given_words, past, rewritten_words, with_part}
-use Rattle.task_model.proofs.MachineFacts.{length-with_part, length-words_at}
+use Rattle.task_model.proofs.ForCallers.{length-with_part, length-words_at}
 use Rattle.kernel_core.specs.Represents.{HasDone, GhostState}
 use Rattle.kernel_core.specs.Wants.{Awaits, memory_wanted, part_in, rewritten_wanted, with_rewritten}
 use Rattle.kernel_core.specs.declared.attempt.Attempt as own

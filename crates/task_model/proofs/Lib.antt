@@ -6,3 +6,4 @@ pub mod Services
 pub mod Waits
 pub mod Ends
 pub mod Rests
+pub mod ForCallers

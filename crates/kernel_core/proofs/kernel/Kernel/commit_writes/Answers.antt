@@ -1,6 +1,6 @@
 use Rattle.std.proofs.Common.{◌≡◌, ℕ, length, arith, refl, ◌∙◌, ap}
 use Rattle.object_sets.specs.ObjectSets.{is_among}
-use Rattle.set_model.proofs.LimitFacts.{few_objects, few_records}
+use Rattle.set_model.proofs.ForCallers.{few_objects, few_records}
 use Rattle.set_model.specs.Sets.{object_at}
 use Rattle.kernel_core.proofs.Counts.{sum_to, sum_to-all, sum_to-more, sum_to-none}
 use Rattle.kernel_core.proofs.kernel.Kernel.commit_writes.Goals as goal

@@ -1,5 +1,5 @@
 use Rattle.std.proofs.Common.{length, map, ap, sym, ◌∙◌, arith}
-use Rattle.set_model.proofs.LimitFacts.{few_objects, few_records}
+use Rattle.set_model.proofs.ForCallers.{few_objects, few_records}
 use Rattle.set_model.specs.Views.{spawn_of}
 use Rattle.kernel_core.specs.Shapes.{state_after}
 use Rattle.kernel_core.proofs.Keeping.{granted_in, taken, taken_number}

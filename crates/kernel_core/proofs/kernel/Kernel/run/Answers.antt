@@ -1,5 +1,5 @@
 use Rattle.nv_base.specs.declared.lines.Outcome.TheVariants.{Exit, Trap}
-use Rattle.task_model.proofs.StepFacts.{registers_name_call}
+use Rattle.task_model.proofs.ForCallers.{registers_name_call}
 use Rattle.kernel_core.proofs.Keeping.{ended, held_running, stepped}
 use Rattle.kernel_core.proofs.Placing.{exits_at, served_at, trapped_at, went_on}
 use Rattle.kernel_core.proofs.kernel.Kernel.run.Goals as goal
