@@ -2,7 +2,7 @@
 
 ghost use Rattle.std.specs.Prelude.{◌≡◌, ◌≤◌, ◌+◌, ◌++◌, [], length, IfOk};
 ghost use Rattle.std.specs.Fmt.{decimal};
-ghost use Rattle.report_text.specs.Lines.{field};
+ghost use Rattle.nv_base.specs.Texts.{field};
 
 use nv_base::NoMemory;
 use std::alloc::Global;

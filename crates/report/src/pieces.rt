@@ -9,7 +9,8 @@ use nv_base::{CoreId, Entry, Outcome, Point, TaskId};
 impl LineBuf {
     ghost use Rattle.set_model.specs.Views.{entry_if, entry_of, outcome_of};
     ghost use Rattle.std.specs.List.{flat_map};
-    ghost use Rattle.report_text.specs.Lines.{field, line_feed, outcome_text, entry_text, found_text};
+    ghost use Rattle.nv_base.specs.Texts.{field};
+    ghost use Rattle.report_text.specs.Lines.{line_feed, outcome_text, entry_text, found_text};
 
     /// The line of a core that begins a task.
     pub(crate) fn append_start(&mut self, core: CoreId, task: TaskId, at: Point)

@@ -1,17 +1,13 @@
 -- The text of each printed line: words with one space between them, numbers in decimal, and a line feed. This project's own.
 use Rattle.std.specs.Prelude.{ℕ, List, [], ◌∷◌, ◌++◌, codes, Option, Some, None}
 use Rattle.std.specs.List.{flat_map}
-use Rattle.std.specs.Fmt.{decimal}
 use Rattle.kernel_model.specs.Effects.{Outcome, Exit, Trap}
 use Rattle.kernel_model.specs.Items.{Entry}
 use Rattle.kernel_model.specs.Replay.{TaskRec}
 use Rattle.kernel_model.specs.Turns.{Line, Nothing, Start, Stale, RefuseEmpty, RefuseSlots, RefuseRecords, Finish, Found, Failed, Booted}
 use Rattle.set_model.specs.Sets.{TaskSet, object_at, program_at}
 use Rattle.report_text.specs.Causes.{numbered_cause_word}
-
--- a word before a number
-abbrev pub field : List ℕ → ℕ → List ℕ
-field word n = word ++ decimal n
+use Rattle.nv_base.specs.Texts.{field}
 
 abbrev pub line_feed : List ℕ
 line_feed = 10 ∷ []

@@ -11,7 +11,7 @@ use Rattle.rv_isa.specs.Words.{instruction_word}
 use Rattle.rv_isa.specs.declared.instruction.Instr.{Instr}
 use Rattle.rv_asm.specs.Assembly.{assembled}
 use Rattle.rv_asm.specs.Disassembly.{disassembled}
-use Rattle.set_model.proofs.LimitFacts.{few_records}
+use Rattle.set_model.proofs.ForCallers.{few_records}
 use Rattle.set_model.specs.Sets.{ObjPart, ProgPart, TaskSet, program_at}
 use Rattle.set_model.specs.Limits.{IsObject, IsProgram, IsTask, IsTaskSet}
 use Rattle.set_model.specs.Names.{IsName, IsNamed}

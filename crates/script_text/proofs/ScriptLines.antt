@@ -7,9 +7,11 @@ use Rattle.std.proofs.lemmas.List.{append-nil}
 use Rattle.kernel_model.specs.Effects.{Spawn}
 use Rattle.rv_isa.specs.Texts.{text_of}
 use Rattle.set_model.specs.Sets.{ObjPart, ProgPart, TaskSet, program_at}
-use Rattle.script_text.specs.ScriptText.{field, number_text, object_text, code_text, program_text, task_text, script_text}
+use Rattle.script_text.specs.ScriptText.{number_text, object_text, code_text, program_text, task_text, script_text}
 use Rattle.script_text.proofs.LinesRead.{object_words, program_words, task_words}
 use Rattle.script_text.proofs.WrittenLines.{spaced, joined}
+use Rattle.nv_base.specs.Texts.{field}
+use Rattle.nv_base.proofs.ForCallers.{four_parts}
 
 -- ---- lines
 
@@ -35,9 +37,6 @@ script_lines set =
 
 -- ---- the text is its lines
 
-four : (a b c d : List ℕ) → ((a ++ b) ++ c) ++ d ≡ a ++ (b ++ (c ++ d))
-four a b c d = simp append_assoc
-
 eight : (a b c d e f g h : List ℕ) → ((((((a ++ b) ++ c) ++ d) ++ e) ++ f) ++ g) ++ h ≡ a ++ (b ++ (c ++ (d ++ (e ++ (f ++ (g ++ h))))))
 eight a b c d e f g h = simp append_assoc
 
@@ -48,7 +47,7 @@ values_text (w ∷ ws) = ap (λ (more : List ℕ). (32 ∷ decimal w) ++ more) (
 object_joined : (o : ObjPart) → object_text o ≡ object_line o ++ 10 ∷ []
 object_joined o =
     let values : ((o.name ++ (32 ∷ decimal o.size)) ++ (32 ∷ decimal o.slots)) ++ flat_map (field (codes " ")) o.first ≡ o.name ++ ((32 ∷ decimal o.size) ++ ((32 ∷ decimal o.slots) ++ flat_map (λ word. 32 ∷ word) (map decimal o.first))) =
-    four o.name (32 ∷ decimal o.size) (32 ∷ decimal o.slots) (flat_map (field (codes " ")) o.first)
+    four_parts o.name (32 ∷ decimal o.size) (32 ∷ decimal o.slots) (flat_map (field (codes " ")) o.first)
     ∙ ap (λ (v : List ℕ). o.name ++ ((32 ∷ decimal o.size) ++ ((32 ∷ decimal o.slots) ++ v))) (values_text o.first) in
     ap (λ (t : List ℕ). codes "object " ++ (t ++ 10 ∷ [])) values
 

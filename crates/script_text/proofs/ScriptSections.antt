@@ -14,6 +14,7 @@ use Rattle.script_text.proofs.CodeLines.{IsCode}
 use Rattle.script_text.proofs.LinesRead.{object_words, program_words, task_words}
 use Rattle.script_text.proofs.ScriptLines.{number_line, object_line, program_line, program_lines, task_line, script_lines}
 use Rattle.script_text.proofs.WrittenLines.{IsWritten, literal, IsLine, spaced, spaced_line, spaced_words, line_is_plain}
+use Rattle.nv_base.proofs.ForCallers.{all_append}
 
 -- ---- what is known of the words of a set
 
@@ -32,10 +33,6 @@ pub record IsWrittenSet (set : TaskSet) : Type 0 where
 
 -- ---- each line is a line
 
-all-append : {X : Type 0} (P : X → Type 0) (xs ys : List X) → AllByRecursion P xs → AllByRecursion P ys → AllByRecursion P (xs ++ ys)
-all-append P [] ys a b = b
-all-append P (x ∷ xs) ys a b = (a.0, all-append P xs ys a.1 b)
-
 object_lines_are : (objects : List ObjPart) → AllByRecursion (λ o. AllByRecursion IsWritten (object_words o)) objects → AllByRecursion IsLine (map object_line objects)
 object_lines_are [] all = tt
 object_lines_are (o ∷ objects) all = (spaced_line (codes "object") (object_words o) (literal (codes "object") refl) all.0, object_lines_are objects all.1)
@@ -47,9 +44,9 @@ code_lines_are (l ∷ ls) all = (all.0.line, code_lines_are ls all.1)
 program_lines_are : (programs : List ProgPart) → AllByRecursion IsWrittenProgram programs → AllByRecursion IsLine (flat_map program_lines programs)
 program_lines_are [] all = tt
 program_lines_are (p ∷ programs) all =
-    all-append IsLine (program_lines p) (flat_map program_lines programs) (
+    all_append IsLine (program_lines p) (flat_map program_lines programs) (
       spaced_line (codes "program") (program_words p) (literal (codes "program") refl) all.0.words,
-      all-append IsLine (map text_of p.code) (codes "end" ∷ []) (code_lines_are (map text_of p.code) all.0.code) (record { bytes = refl; some = omega arith }, tt),
+      all_append IsLine (map text_of p.code) (codes "end" ∷ []) (code_lines_are (map text_of p.code) all.0.code) (record { bytes = refl; some = omega arith }, tt),
     )
     (program_lines_are programs all.1)
 
@@ -66,11 +63,11 @@ script_lines_are set h = (
       spaced_line (codes "memory") (decimal set.memory ∷ []) (literal (codes "memory") refl) (h.memory, tt),
       (
         spaced_line (codes "records") (decimal set.records ∷ []) (literal (codes "records") refl) (h.records, tt),
-        all-append IsLine (map object_line set.objects) (flat_map program_lines set.programs ++ (map (task_line set) set.tasks ++ codes "run" ∷ []))
+        all_append IsLine (map object_line set.objects) (flat_map program_lines set.programs ++ (map (task_line set) set.tasks ++ codes "run" ∷ []))
             (object_lines_are set.objects h.objects)
-            (all-append IsLine (flat_map program_lines set.programs) (map (task_line set) set.tasks ++ codes "run" ∷ [])
+            (all_append IsLine (flat_map program_lines set.programs) (map (task_line set) set.tasks ++ codes "run" ∷ [])
             (program_lines_are set.programs h.programs)
-            (all-append IsLine (map (task_line set) set.tasks) (codes "run" ∷ []) (task_lines_are set set.tasks h.tasks) (record { bytes = refl; some = omega arith }, tt))),
+            (all_append IsLine (map (task_line set) set.tasks) (codes "run" ∷ []) (task_lines_are set set.tasks h.tasks) (record { bytes = refl; some = omega arith }, tt))),
       ),
     ),
   ),

@@ -8,7 +8,7 @@ use Rattle.kernel_model.specs.Effects.{Spawn}
 use Rattle.rv_isa.specs.Texts.{text_of}
 use Rattle.rv_asm.specs.Assembly.{assembled}
 use Rattle.nv_base.specs.declared.limits.TheConstants.{MAX_FORMAT}
-use Rattle.set_model.proofs.LimitFacts.{most_records}
+use Rattle.set_model.proofs.ForCallers.{most_records}
 use Rattle.set_model.specs.Sets.{ObjPart, ProgPart, TaskSet, program_at}
 use Rattle.set_model.specs.Limits.{IsObject, IsProgram, IsTask, IsTaskSet, max_objects, max_records}
 use Rattle.set_model.specs.Names.{IsName, IsNamed, AreDistinct}

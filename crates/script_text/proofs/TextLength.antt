@@ -4,14 +4,15 @@ use Rattle.std.specs.List.{AllByRecursion, flat_map}
 use Rattle.std.specs.Fmt.{decimal}
 use Rattle.kernel_model.specs.Effects.{Spawn}
 use Rattle.rv_isa.specs.Texts.{text_of}
-use Rattle.set_model.proofs.LimitFacts.{few_objects, few_records}
+use Rattle.set_model.proofs.ForCallers.{few_objects, few_records}
 use Rattle.set_model.specs.Sets.{ObjPart, ProgPart, TaskSet, program_at}
 use Rattle.set_model.specs.Limits.{IsObject, IsProgram, IsTask, IsTaskSet}
 use Rattle.set_model.specs.Names.{IsName, IsNamed}
-use Rattle.script_text.specs.ScriptText.{field, number_text, object_text, code_text, program_text, task_text, script_text}
+use Rattle.script_text.specs.ScriptText.{number_text, object_text, code_text, program_text, task_text, script_text}
 use Rattle.script_text.proofs.CodeLines.{AreWithin, word_code}
 use Rattle.script_text.proofs.SetRead.{task_name}
 use Rattle.script_text.proofs.WrittenWords.{decimal_is}
+use Rattle.nv_base.specs.Texts.{field}
 
 -- at most so many bytes for each
 flat_few : {X : Type 0} (f : X → List ℕ) (most : ℕ) (xs : List X) → AllByRecursion (λ x. length (f x) ≤ most) xs → length (flat_map f xs) ≤ most * length xs

@@ -2,15 +2,11 @@
 -- written, programs as assembler text, and no schedule. This project's own.
 use Rattle.std.specs.Prelude.{ℕ, List, [], ◌++◌, codes}
 use Rattle.std.specs.List.{flat_map}
-use Rattle.std.specs.Fmt.{decimal}
 use Rattle.kernel_model.specs.Effects.{Spawn}
 use Rattle.set_model.specs.Sets.{ObjPart, ProgPart, TaskSet, program_at}
 use Rattle.rv_isa.specs.Texts.{text_of}
 use Rattle.script.specs.Parts.{Script}
-
--- a number as a word, behind what stands before it
-abbrev pub field : List ℕ → ℕ → List ℕ
-field before n = before ++ decimal n
+use Rattle.nv_base.specs.Texts.{field}
 
 -- a line of a word and a number
 abbrev pub number_text : List ℕ → ℕ → List ℕ

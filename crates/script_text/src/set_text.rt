@@ -5,7 +5,8 @@ ghost use Rattle.std.specs.List.{flat_map};
 ghost use Rattle.set_model.specs.Names.{IsName};
 ghost use Rattle.set_model.specs.Sets.{object_at, program_at};
 ghost use Rattle.set_model.specs.Views.{spawn_of};
-ghost use Rattle.script_text.specs.ScriptText.{code_text, field, number_text, object_text, program_text, script_text as text_of_set, task_text};
+ghost use Rattle.nv_base.specs.Texts.{field};
+ghost use Rattle.script_text.specs.ScriptText.{code_text, number_text, object_text, program_text, script_text as text_of_set, task_text};
 
 use nv_base::{NoMemory, ObjId, ProgId, Spawn};
 use rv_isa::push_text;

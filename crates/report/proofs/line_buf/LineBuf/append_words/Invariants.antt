@@ -1,7 +1,7 @@
 use Rattle.std.proofs.Common.{◌≡◌, ◌≤◌, ◌+◌, ◌*◌, ◌++◌, length, take, codes}
 use Rattle.std.specs.List.{flat_map}
-use Rattle.report_text.specs.Lines.{field}
 use Rattle.report.proofs.line_buf.LineBuf.append_words.Given as goal
+use Rattle.nv_base.specs.Texts.{field}
 
 abbrev pub invariant-loop-word : goal.invariant-loop-word
 invariant-loop-word l =
