@@ -3,17 +3,14 @@ use Rattle.std.proofs.Common.{◌≡◌, ℕ, ◌+◌, ◌≤◌, ◌<◌, List,
 use Rattle.std.proofs.lemmas.List.{append-nil, take-append-le}
 use Rattle.std.proofs.Math.Seq.{take-append-add}
 use Rattle.nv_base.specs.Streams.{PutFront, PutsFront, PutsText, FaultCounted, Stream, appended}
+use Rattle.nv_base.proofs.ForCallers.{appended_twice}
 
 grown_nothing : (o : Option (List ℕ)) → o ≡ appended o []
 grown_nothing None = refl
 grown_nothing (Some x) = ap (λ y. Some y) (sym (append-nil x))
 
-grown_twice : (o : Option (List ℕ)) (a b : List ℕ) → appended (appended o a) b ≡ appended o (a ++ b)
-grown_twice None a b = refl
-grown_twice (Some x) a b = ap (λ y. Some y) (append_assoc x a b)
-
 grown_more : (o p q : Option (List ℕ)) (a b : List ℕ) → p ≡ appended o a → q ≡ appended p b → q ≡ appended o (a ++ b)
-grown_more o p q a b e f = f ∙ ap (λ x. appended x b) e ∙ grown_twice o a b
+grown_more o p q a b e f = f ∙ ap (λ x. appended x b) e ∙ appended_twice o a b
 
 pub puts_nothing : (o : Stream) → PutsText [] o o
 puts_nothing o = record { put = grown_nothing o.bytes; still = refl }
