@@ -25,16 +25,10 @@ const WORDS: [u32; 14] = [
 ];
 
 #[test]
-fn program_is_disassembled(rt: HostRuntime) -> Result<(), Fail> {
-    assert_eq!(rt; disassemble(rt.alloc(), &WORDS)?.as_str(), TEXT);
-    assert_eq!(rt; disassemble(rt.alloc(), &[])?.as_str(), "");
-    Ok(())
-}
-
-#[test]
-fn program_is_assembled_back(rt: HostRuntime) -> Result<(), Fail> {
+fn program_is_disassembled_and_assembled_back(rt: HostRuntime) -> Result<(), Fail> {
     let lines = disassemble(rt.alloc(), &WORDS)?;
     let text = lines.as_str();
+    assert_eq!(rt; text, TEXT);
     if text.len() > 0x1_0000 {
         return Err("a long text")?;
     }
