@@ -35,8 +35,8 @@ named_device set words kind e = ap device e
     device : Option Kind → Device
     device k = record { kind = kind_or (first_kind set.format) k; set = set }
 
--- there is a word 0
-pub need_some : (kind : Kind) (set : TaskSet) → 0 < need (layout_of kind set) set
+-- there are words 0 to 2
+pub need_some : (kind : Kind) (set : TaskSet) → 2 < need (layout_of kind set) set
 need_some Plain set = omega arith
 need_some Paged set = omega arith
 need_some Migrated set = omega arith
