@@ -4,3 +4,4 @@ pub mod MoreRead
 pub mod WholeRead
 pub mod ShiftLaws
 pub mod BootCounts
+pub mod ObjectRead

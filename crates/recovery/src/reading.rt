@@ -64,9 +64,11 @@ pub fn read_object<F: Fram>(
     ensures start { F.start dev.new ≡ F.start dev.old }
     ensures never_falls { F.lost dev.old ≤ F.lost dev.new }
 {
-    // that the places fit is the limits of the set
+    // that the place fits a word is the limits of the set, and the length of the device
     let _ = set.objects();
+    let _ = dev.len();
     let slot = state.slots[usize::from(o.0)];
     let at = Layout::of(set, state.shift).slot_at(o, slot) + u32::from(i);
-    dev.read(at)
+    let word = dev.read(at)?;
+    Ok(word)
 }
