@@ -15,7 +15,7 @@ use Rattle.device_model.proofs.PlaceLaws.{slot_place-high}
 use Rattle.shadow_index.specs.declared.state.State.{State}
 use Rattle.recovery.specs.Images.{IsStateOn}
 
-held_or : Held → Stored → Held
+abbrev held_or : Held → Stored → Held
 held_or h Blank = h
 held_or h (Damaged place) = h
 held_or h (Holds kind k) = k

@@ -35,7 +35,7 @@ slot_at-requires-clause-slot g c =
     let e = c.requires.held.1 in
     let f = c.requires.held.2 in
     let long = slots_long d h words s t e f in
-    let slot : c.index-slot.result.now ≡ slice_index s.slots.items o = get_or_read s.slots.items o c.index-slot.result.now (omega (arith, long, c.requires.object)) c.index-slot.ensures 0 in
+    let slot : c.index-slot.result.now ≡ slice_index s.slots.items o = get_or_read s.slots.items c.from.result c.index-slot.result.now (omega (arith, long, c.requires.object, c.from.ensures)) c.index-slot.ensures 0 ∙ ap (slice_index s.slots.items) c.from.ensures in
     let named = slot_named d h words s o t e f c.requires.object in
     omega (arith, slot, named.0, named.1)
 
@@ -51,7 +51,7 @@ overflow_add-at g c =
     let e = c.requires.held.1 in
     let f = c.requires.held.2 in
     let long = slots_long d h words s t e f in
-    let slot : c.index-slot.result.now ≡ slice_index s.slots.items o = get_or_read s.slots.items o c.index-slot.result.now (omega (arith, long, c.requires.object)) c.index-slot.ensures 0 in
+    let slot : c.index-slot.result.now ≡ slice_index s.slots.items o = get_or_read s.slots.items c.from.result c.index-slot.result.now (omega (arith, long, c.requires.object, c.from.ensures)) c.index-slot.ensures 0 ∙ ap (slice_index s.slots.items) c.from.ensures in
     let named = slot_named d h words s o t e f c.requires.object in
     let at : c.slot_at.result ≡ slot_place (layout_on d) set o (slice_index s.slots.items o) = c.slot_at.ensures d c.of.ensures c.requires.object (omega (arith, slot, named.0)) ∙ ap (slot_place (layout_on d) set o) slot in
     omega (arith, at, word_low d h words s o c.args.i t e f c.requires.object c.requires.index, c.requires.room, c.from-2.ensures, c.len.ensures)
@@ -68,7 +68,7 @@ read-requires g c =
     let e = c.requires.held.1 in
     let f = c.requires.held.2 in
     let long = slots_long d h words s t e f in
-    let slot : c.index-slot.result.now ≡ slice_index s.slots.items o = get_or_read s.slots.items o c.index-slot.result.now (omega (arith, long, c.requires.object)) c.index-slot.ensures 0 in
+    let slot : c.index-slot.result.now ≡ slice_index s.slots.items o = get_or_read s.slots.items c.from.result c.index-slot.result.now (omega (arith, long, c.requires.object, c.from.ensures)) c.index-slot.ensures 0 ∙ ap (slice_index s.slots.items) c.from.ensures in
     let named = slot_named d h words s o t e f c.requires.object in
     let at : c.slot_at.result ≡ slot_place (layout_on d) set o (slice_index s.slots.items o) = c.slot_at.ensures d c.of.ensures c.requires.object (omega (arith, slot, named.0)) ∙ ap (slot_place (layout_on d) set o) slot in
     omega (arith, at, word_low d h words s o c.args.i t e f c.requires.object c.requires.index, c.requires.room, c.from-2.ensures)
@@ -85,7 +85,7 @@ returns-clause-word g c =
     let e = c.requires.held.1 in
     let f = c.requires.held.2 in
     let long = slots_long d h words s t e f in
-    let slot : c.index-slot.result.now ≡ slice_index s.slots.items o = get_or_read s.slots.items o c.index-slot.result.now (omega (arith, long, c.requires.object)) c.index-slot.ensures 0 in
+    let slot : c.index-slot.result.now ≡ slice_index s.slots.items o = get_or_read s.slots.items c.from.result c.index-slot.result.now (omega (arith, long, c.requires.object, c.from.ensures)) c.index-slot.ensures 0 ∙ ap (slice_index s.slots.items) c.from.ensures in
     let named = slot_named d h words s o t e f c.requires.object in
     let at : c.slot_at.result ≡ slot_place (layout_on d) set o (slice_index s.slots.items o) = c.slot_at.ensures d c.of.ensures c.requires.object (omega (arith, slot, named.0)) ∙ ap (slot_place (layout_on d) set o) slot in
     let place : c.slot_at.result + c.from-2.result ≡ slot_place (layout_on d) set o (slice_index s.slots.items o) + c.args.i = omega (arith, at, c.from-2.ensures) in
