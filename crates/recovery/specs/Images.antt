@@ -30,6 +30,10 @@ device_at set words = record {
 abbrev pub IsOwn : TaskSet → Words → Type 0
 IsOwn set words = set.format ≡ 2 → words 0 ≢ magic_of Plain
 
+-- word 0 names no kind that a migration reads or writes
+abbrev pub IsUnmoved : TaskSet → Words → Type 0
+IsUnmoved set words = IsOwn set words × (words 0 ≢ magic_of Migrated)
+
 -- how far the words of a kind of device were moved
 abbrev pub shift_by : Kind → TaskSet → ℕ
 shift_by Plain set = 0

@@ -3,6 +3,7 @@
 
 mod boot;
 mod kinds;
+pub mod laws;
 mod reader;
 mod reading;
 mod refusals;
