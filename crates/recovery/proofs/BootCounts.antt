@@ -8,8 +8,7 @@ use Rattle.device_model.specs.Layouts.{kind_named, magic_of}
 use Rattle.device_model.specs.Decoding.{Held, decode}
 use Rattle.device_model.specs.Journals.{boot_writes, booted}
 use Rattle.device_model.specs.Devices.{Device, HoldsOn, IsKindOn, need_on}
-use Rattle.device_model.proofs.Decoded.{boot_decodes}
-use Rattle.device_model.proofs.Writes.{image_by_place}
+use Rattle.device_model.proofs.ForCallers.{boot_decodes, image_by_place}
 use Rattle.shadow_index.specs.declared.state.State.{State}
 use Rattle.recovery.specs.Images.{IsStateOn, words_of}
 

@@ -1,6 +1,6 @@
 -- What word 0 tells of a device.
-use Rattle.std.proofs.Common.{◌≡◌, ◌≢◌, ℕ, ◌+◌, ◌<◌, ⊎_elim, Bool, true, false, cond, eqb, Option, Some, None, arith, refl, ap, sym, ◌∙◌}
-use Rattle.std.proofs.lemmas.Bool.{eqb-true, lt-ltb, ne_eqb}
+use Rattle.std.proofs.Common.{◌≡◌, ◌≢◌, ℕ, ◌+◌, ◌<◌, ⊎_elim, Bool, true, false, not, cond, eqb, Option, Some, None, arith, refl, ap, sym, ◌∙◌}
+use Rattle.std.proofs.lemmas.Bool.{eq-eqb, eqb-true, lt-ltb, ne_eqb}
 use Rattle.set_model.specs.Sets.{TaskSet}
 use Rattle.set_model.specs.Numbers.{first_index, words_needed}
 use Rattle.device_model.specs.Words.{Words}
@@ -8,8 +8,7 @@ use Rattle.device_model.specs.Layouts.{Kind, Plain, Paged, Migrated, Layout, kin
 use Rattle.device_model.specs.Decoding.{is_faulty_read}
 use Rattle.device_model.specs.Devices.{Device, layout_on}
 use Rattle.device_model.specs.Places.{IsLaidOut}
-use Rattle.device_model.proofs.KeepsDecodes.{magic-is}
-use Rattle.device_model.proofs.Tests.{not_eq-false}
+use Rattle.device_model.proofs.ForCallers.{magic-is}
 use Rattle.recovery.specs.Images.{device_at, kind_or}
 use Rattle.shadow_index.specs.Views.{first_kind}
 
@@ -46,7 +45,7 @@ pub first_sound : (l : Layout) (set : TaskSet) (words : Words) → IsLaidOut set
 first_sound l set words d e =
     let some : 0 < l.head_reads = let r = d.root_in in omega (arith, r) in
     let other : 0 ≢ l.root_read = λ z. ⊎_elim (λ f. omega (arith, z, f)) (λ f. omega (arith, z, f)) d.root_once in
-    rw (lt-ltb 0 l.head_reads some, ne_eqb 0 l.root_read other) (not_eq-false (words 0) l.magic e)
+    rw (lt-ltb 0 l.head_reads some, ne_eqb 0 l.root_read other) (ap not (eq-eqb (words 0) l.magic e))
 
 pub magic_named : (d : Device) (words : Words) → kind_named d.set.format (words 0) ≡ Some d.kind → words 0 ≡ (layout_of d.kind d.set).magic
 magic_named d words e = named_magic d.set.format (words 0) d.kind e ∙ sym (magic-is d.kind d.set)

@@ -9,9 +9,7 @@ use Rattle.device_model.specs.IndexWords.{is_faulty}
 use Rattle.device_model.specs.Decoding.{Damaged, decode, index_in, is_faulty_head}
 use Rattle.device_model.specs.Devices.{Device, is_faulty_on, layout_on, read_on}
 use Rattle.device_model.specs.Places.{IsLaidOut}
-use Rattle.device_model.proofs.DecodesKeeps.{decodes_damaged}
-use Rattle.device_model.proofs.IndexBack.{fault-same}
-use Rattle.device_model.proofs.LaidOut.{laid_out_set}
+use Rattle.device_model.proofs.ForCallers.{decodes_damaged, fault-same, laid_out_set}
 use Rattle.shadow_index.specs.declared.state.State.{State}
 use Rattle.shadow_index.specs.States.{HasTaken, KeepsRest, word_of}
 use Rattle.shadow_index.specs.Tells.{IsLayoutOf}

@@ -9,9 +9,7 @@ use Rattle.device_model.specs.Layouts.{Kind, slot_place}
 use Rattle.device_model.specs.IndexWords.{Index}
 use Rattle.device_model.specs.Decoding.{Held, Stored, Blank, Damaged, Holds}
 use Rattle.device_model.specs.Devices.{Device, HoldsOn, KeepsOn, layout_on, need_on}
-use Rattle.device_model.proofs.DecodesKeeps.{decodes_keeps}
-use Rattle.device_model.proofs.LaidOut.{laid_out_set}
-use Rattle.device_model.proofs.PlaceLaws.{slot_place-high}
+use Rattle.device_model.proofs.ForCallers.{decodes_keeps, laid_out_set, slot_place-high}
 use Rattle.shadow_index.specs.declared.state.State.{State}
 use Rattle.recovery.specs.Images.{IsStateOn}
 

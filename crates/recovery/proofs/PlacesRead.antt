@@ -7,7 +7,7 @@ use Rattle.device_model.specs.Layouts.{Layout, index_place, index_reads, need, r
 use Rattle.device_model.specs.IndexWords.{is_faulty}
 use Rattle.device_model.specs.Decoding.{index_in, is_faulty_head, is_faulty_read}
 use Rattle.device_model.specs.Places.{IsLaidOut}
-use Rattle.device_model.proofs.InRange.{read-low}
+use Rattle.device_model.proofs.ForCallers.{read-low}
 
 -- ---- places
 

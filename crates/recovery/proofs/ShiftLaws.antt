@@ -28,10 +28,13 @@ migrated_not_one format word e z = let u : None ≡ Some Migrated = ap₂ kind_n
 -- the device that word 0 names is the one that the shift names
 pub shift_tells : (set : TaskSet) (words : Words) (kind : Kind) → IsTaskSet set → IsOwn set words → kind_named set.format (words 0) ≡ Some kind
     → IsShift set (shift_by kind set) × (device_of set (shift_by kind set) ≡ record { kind = kind; set = set })
-shift_tells set words Plain t own e = (inl refl, ⊎_elim
-    (λ one. by_kind set 0 Plain (let f : kind_by set.format 0 ≡ Plain = rw (eq-eqb set.format 1 one) refl in f))
-    (λ two. absurd (own (format_two set t two) (named_magic set.format (words 0) Plain e)))
-    (cases_eq set.format 1))
+shift_tells set words Plain t own e = (
+  inl refl,
+  ⊎_elim
+      (λ one. by_kind set 0 Plain (let f : kind_by set.format 0 ≡ Plain = rw (eq-eqb set.format 1 one) refl in f))
+      (λ two. absurd (own (format_two set t two) (named_magic set.format (words 0) Plain e)))
+      (cases_eq set.format 1),
+)
 shift_tells set words Paged t own e = (inl refl, by_kind set 0 Paged (let f : kind_by set.format 0 ≡ Paged = rw (ne_eqb set.format 1 (paged_not_one set.format (words 0) e)) refl in f))
 shift_tells set words Migrated t own e =
     let n = migrated_not_one set.format (words 0) e in

@@ -6,7 +6,7 @@ use Rattle.device_model.specs.Layouts.{kind_named, reads}
 use Rattle.device_model.specs.Decoding.{index_in}
 use Rattle.device_model.specs.Journals.{boot_writes}
 use Rattle.device_model.specs.Devices.{Device, HoldsOn, IsKindOn, held_on, index_on, layout_on, need_on}
-use Rattle.device_model.proofs.DecodesKeeps.{decodes_held}
+use Rattle.device_model.proofs.ForCallers.{decodes_held}
 use Rattle.shadow_index.specs.declared.state.State.{State}
 use Rattle.shadow_index.specs.States.{index_of}
 use Rattle.shadow_index.proofs.Taken.{taken_are_index}

@@ -13,3 +13,6 @@ pub use boot::Boot;
 pub use reader::Reader;
 pub use reading::{read_object, read_state};
 pub use refusals::{BootRefusal, BootTurn};
+
+#[cfg(test)]
+mod tests;

@@ -72,8 +72,11 @@ returns-in-Err-clause-unwritten g c =
     let h = c.requires.booting.later (omega (arith, c.if-self-eq0.false)) in
     let turns = c.boot_turns.ensures d h.layout in
     let whole : r.count ≡ reads (layout_on d) = omega (arith, turns, h.most, c.if-self-boot_turns.false) in
-    ⊎_elim inl (λ made. inr (refl, record {
-      held = held d words r c.args.into.now h whole;
-      last = omega (arith, whole);
-      written = write_is d words r c.args.into.now _ _ h whole made;
-    })) c.in-Err.ensures.either
+    ⊎_elim inl (λ made. inr (
+      refl,
+      record {
+        held = held d words r c.args.into.now h whole;
+        last = omega (arith, whole);
+        written = write_is d words r c.args.into.now _ _ h whole made;
+      },
+    )) c.in-Err.ensures.either

@@ -1,7 +1,7 @@
 use Rattle.std.proofs.Common.{◌≡◌, ◌≢◌, None, Some, ap₂, refl, subst, sym, ◌∙◌}
 use Rattle.device_model.specs.Layouts.{kind_named}
 use Rattle.device_model.specs.Devices.{Device, layout_on}
-use Rattle.device_model.proofs.DecodesKeeps.{decodes_blank, decodes_other}
+use Rattle.device_model.proofs.ForCallers.{decodes_blank, decodes_other}
 use Rattle.shadow_index.specs.declared.state.State.{State}
 use Rattle.shadow_index.specs.Tells.{device_by}
 use Rattle.shadow_index.specs.Views.{kind_of}
