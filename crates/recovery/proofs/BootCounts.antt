@@ -1,13 +1,12 @@
 -- A boot counts by one write more.
-use Rattle.std.proofs.Common.{◌≡◌, ◌≢◌, ℕ, ◌+◌, ◌<◌, ◌≤◌, List, [], ◌∷◌, ◌++◌, length, slice_index, arith, refl, ap, sym, ◌∙◌, subst}
+use Rattle.std.proofs.Common.{◌≡◌, ℕ, ◌+◌, ◌<◌, List, ◌++◌, length, slice_index, arith, ap, ◌∙◌}
 use Rattle.fram_dev.specs.Device.{Change, made_in}
 use Rattle.fram_dev.proofs.MadeIn.{length-made_in, made_in-append}
 use Rattle.set_model.specs.Limits.{IsTaskSet}
-use Rattle.device_model.specs.Words.{Words, made}
-use Rattle.device_model.specs.Layouts.{kind_named, magic_of}
+use Rattle.device_model.specs.Words.{made}
 use Rattle.device_model.specs.Decoding.{Held, decode}
 use Rattle.device_model.specs.Journals.{boot_writes, booted}
-use Rattle.device_model.specs.Devices.{Device, HoldsOn, IsKindOn, need_on}
+use Rattle.device_model.specs.Devices.{Device, HoldsOn, IsKindOn}
 use Rattle.device_model.proofs.ForCallers.{boot_decodes, image_by_place}
 use Rattle.shadow_index.specs.declared.state.State.{State}
 use Rattle.recovery.specs.Images.{IsStateOn, words_of}

@@ -1,5 +1,5 @@
 -- What word 0 tells of a device.
-use Rattle.std.proofs.Common.{◌≡◌, ◌≢◌, ℕ, ◌+◌, ◌<◌, ⊎_elim, Bool, true, false, not, cond, eqb, Option, Some, None, arith, refl, ap, sym, ◌∙◌}
+use Rattle.std.proofs.Common.{◌≡◌, ◌≢◌, ℕ, ◌+◌, ◌<◌, ⊎_elim, Bool, true, false, not, cond, eqb, Option, Some, None, arith, refl, ap, sym, ◌∙◌, subst}
 use Rattle.std.proofs.lemmas.Bool.{eq-eqb, eqb-true, lt-ltb, ne_eqb}
 use Rattle.set_model.specs.Sets.{TaskSet}
 use Rattle.set_model.specs.Numbers.{first_index, words_needed}
@@ -10,7 +10,10 @@ use Rattle.device_model.specs.Devices.{Device, layout_on}
 use Rattle.device_model.specs.Places.{IsLaidOut}
 use Rattle.device_model.proofs.ForCallers.{magic-is}
 use Rattle.recovery.specs.Images.{device_at, kind_or}
-use Rattle.shadow_index.specs.Views.{first_kind}
+use Rattle.shadow_index.specs.declared.kind.DeviceKind.{DeviceKind}
+use Rattle.shadow_index.specs.declared.layout.Layout.{Layout as Places}
+use Rattle.shadow_index.specs.Tells.{IsLayoutOf, device_by, device_of}
+use Rattle.shadow_index.specs.Views.{first_kind, kind_of}
 
 same_kind : (a b : Kind) → Some a ≡ Some b → a ≡ b
 same_kind a b e = cc e
@@ -53,3 +56,7 @@ magic_named d words e = named_magic d.set.format (words 0) d.kind e ∙ sym (mag
 -- where the root of a device stands that was migrated, and how many words are read before its pages
 pub migrated_places : (d : Device) → d.kind ≡ Migrated → ((layout_on d).root ≡ words_needed d.set) × ((layout_on d).head_reads ≡ first_index d.set + 1)
 migrated_places d e = (ap (λ (k : Kind). (layout_of k d.set).root) e, ap (λ (k : Kind). (layout_of k d.set).head_reads) e)
+
+-- the layout of the set's first kind is that of the same kind
+pub same_layout : (set : TaskSet) (first kind : DeviceKind) (places : Places) → IsLayoutOf (device_of set 0) places → kind_of first ≡ (device_of set 0).kind → first ≡ kind → IsLayoutOf (device_by set kind) places
+same_layout set first kind places h e f = subst (λ (d : Device). IsLayoutOf d places) (ap (λ (k : Kind). let d : Device = record { kind = k; set = set } in d) (sym e ∙ ap kind_of f)) h

@@ -1,11 +1,11 @@
 -- A word of an object is in the slot that the state names.
-use Rattle.std.proofs.Common.{◌≡◌, ℕ, ◌+◌, ◌<◌, ◌≤◌, List, [], length, slice_index, arith, refl, ap, sym, ◌∙◌, subst}
+use Rattle.std.proofs.Common.{◌≡◌, ℕ, ◌+◌, ◌<◌, ◌≤◌, List, [], length, slice_index, ap, sym, ◌∙◌}
 use Rattle.kernel_model.specs.Effects.{object_words}
 use Rattle.set_model.specs.Sets.{ObjPart, object_at}
 use Rattle.set_model.specs.Limits.{IsObject, IsTaskSet}
 use Rattle.set_model.proofs.AtFacts.{all_at}
 use Rattle.device_model.specs.Words.{Words}
-use Rattle.device_model.specs.Layouts.{Kind, slot_place}
+use Rattle.device_model.specs.Layouts.{slot_place}
 use Rattle.device_model.specs.IndexWords.{Index}
 use Rattle.device_model.specs.Decoding.{Held, Stored, Blank, Damaged, Holds}
 use Rattle.device_model.specs.Devices.{Device, HoldsOn, KeepsOn, layout_on, need_on}

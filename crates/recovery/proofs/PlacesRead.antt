@@ -1,9 +1,9 @@
 -- Where the words that are read stand, and whether they are faulty.
-use Rattle.std.proofs.Common.{◌≡◌, ◌≢◌, ℕ, ◌-◌, ◌+◌, ◌<◌, ◌≤◌, Bool, true, false, not, cond, eqb, ltb, arith, refl, ap, sym, ◌∙◌}
+use Rattle.std.proofs.Common.{◌≡◌, ◌≢◌, ℕ, ◌-◌, ◌+◌, ◌<◌, ◌≤◌, Bool, true, false, not, cond, ltb, arith, refl, ap, sym, ◌∙◌}
 use Rattle.std.proofs.lemmas.Bool.{eq-eqb, le-ltb, lt-ltb, ne_eqb, not-false}
 use Rattle.set_model.specs.Sets.{TaskSet}
 use Rattle.device_model.specs.Words.{Words}
-use Rattle.device_model.specs.Layouts.{Layout, index_place, index_reads, need, read_place, reads}
+use Rattle.device_model.specs.Layouts.{Layout, index_place, index_reads, need, read_place}
 use Rattle.device_model.specs.IndexWords.{is_faulty}
 use Rattle.device_model.specs.Decoding.{index_in, is_faulty_head, is_faulty_read}
 use Rattle.device_model.specs.Places.{IsLaidOut}

@@ -1,11 +1,11 @@
 -- How far the words of a device were moved tells its kind.
-use Rattle.std.proofs.Common.{◌≡◌, ◌≢◌, ◌⊎◌, inl, inr, ⊎_elim, ℕ, ◌-◌, ◌<◌, Bool, true, false, cond, eqb, Option, Some, None, arith, refl, ap, ap₂, sym, ◌∙◌}
+use Rattle.std.proofs.Common.{◌≡◌, ◌≢◌, inl, inr, ⊎_elim, ℕ, ◌-◌, Bool, true, false, cond, eqb, Option, Some, None, arith, refl, ap, ap₂, sym, ◌∙◌}
 use Rattle.std.proofs.lemmas.Bool.{cases_eq, eq-eqb, ne_eqb}
 use Rattle.set_model.specs.Sets.{TaskSet}
 use Rattle.set_model.specs.Limits.{IsTaskSet}
 use Rattle.set_model.specs.Numbers.{first_index, words_needed}
 use Rattle.device_model.specs.Words.{Words}
-use Rattle.device_model.specs.Layouts.{Kind, Plain, Paged, Migrated, kind_named, layout_of, magic_of}
+use Rattle.device_model.specs.Layouts.{Kind, Plain, Paged, Migrated, kind_named, layout_of}
 use Rattle.device_model.specs.Decoding.{Held, Stored, Blank, Damaged, Holds, decided, decode_by, decode_kind, first_fault}
 use Rattle.device_model.specs.Devices.{Device, HoldsOn}
 use Rattle.shadow_index.specs.Tells.{IsShift, device_of, kind_by}

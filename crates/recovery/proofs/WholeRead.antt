@@ -1,14 +1,13 @@
 -- All words are read.
-use Rattle.std.proofs.Common.{◌≡◌, ◌≢◌, ℕ, ◌+◌, ◌-◌, ◌<◌, ◌≤◌, List, [], ◌∷◌, ◌++◌, length, slice_index, arith, refl, ap, sym, ◌∙◌, subst}
+use Rattle.std.proofs.Common.{◌≡◌, ℕ, ◌+◌, ◌-◌, ◌<◌, ◌≤◌, List, [], ◌∷◌, ◌++◌, length, arith, ap, sym, ◌∙◌, subst}
 use Rattle.set_model.specs.Sets.{TaskSet}
 use Rattle.device_model.specs.Words.{Change, Words}
 use Rattle.device_model.specs.Layouts.{kind_named, reads}
 use Rattle.device_model.specs.Decoding.{index_in}
 use Rattle.device_model.specs.Journals.{boot_writes}
-use Rattle.device_model.specs.Devices.{Device, HoldsOn, IsKindOn, held_on, index_on, layout_on, need_on}
+use Rattle.device_model.specs.Devices.{Device, HoldsOn, IsKindOn, held_on, layout_on, need_on}
 use Rattle.device_model.proofs.ForCallers.{decodes_held}
 use Rattle.shadow_index.specs.declared.state.State.{State}
-use Rattle.shadow_index.specs.States.{index_of}
 use Rattle.shadow_index.proofs.Taken.{taken_are_index}
 use Rattle.recovery.specs.declared.reader.Reader.{Reader}
 use Rattle.shadow_index.specs.Tells.{IsShift, device_of}

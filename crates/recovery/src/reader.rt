@@ -7,7 +7,7 @@ ghost use Rattle.device_model.specs.Layouts.{kind_named, reads};
 ghost use Rattle.device_model.specs.Decoding.{is_faulty_head};
 ghost use Rattle.device_model.specs.Devices.{Device, layout_on, need_on};
 ghost use Rattle.shadow_index.specs.States.{HasRoom, HasTaken};
-ghost use Rattle.shadow_index.specs.Tells.{IsLayoutOf, device_by};
+ghost use Rattle.shadow_index.specs.Tells.{IsLayoutOf, device_by, device_of};
 ghost use Rattle.shadow_index.specs.Views.{kind_of};
 ghost use Rattle.recovery.specs.Images.{device_at, shift_on, words_of};
 ghost use Rattle.recovery.specs.Reading.{HasRead, IsFresh, IsRefusedAt};
@@ -69,11 +69,23 @@ impl Reader {
         match kind_named(set.format(), word) {
             None => Err(BootRefusal::Damaged(0)),
             Some(kind) => {
-                self.layout = Layout::of_kind(set, kind);
+                self.layout_for(set, kind);
                 self.count = 1;
                 into.shift = shift_of(&self.layout);
                 Ok(())
             }
+        }
+    }
+
+    // Makes the layout of a kind, where it is another one than the set's first.
+    fn layout_for(&mut self, set: &TaskSet, kind: DeviceKind)
+        requires { IsLayoutOf (device_of set.now 0) self.old.layout }
+        ensures { IsLayoutOf (device_by set.now kind) self.new.layout }
+    {
+        match (self.layout.kind(), kind) {
+            (DeviceKind::Plain, DeviceKind::Plain) => {}
+            (DeviceKind::Paged, DeviceKind::Paged) => {}
+            _ => self.layout = Layout::of_kind(set, kind),
         }
     }
 

@@ -1,5 +1,4 @@
-use Rattle.std.proofs.Common.{◌≡◌, ◌+◌, arith, sym, ◌∙◌}
-use Rattle.set_model.specs.Numbers.{first_index}
+use Rattle.std.proofs.Common.{◌≡◌, arith, sym}
 use Rattle.device_model.specs.Layouts.{Migrated}
 use Rattle.recovery.proofs.KindLaws.{migrated_places}
 use Rattle.recovery.proofs.kinds.shift_of.Goals as goal
