@@ -1,6 +1,6 @@
 //! A boot in its turns: each of them reads one word, and the last one counts the boot.
 
-ghost use Rattle.std.specs.Prelude.{ℕ, ◌≡◌, ◌+◌, ◌<◌, ◌≤◌, ◌++◌, ◌⊎◌, IfErr, OnErr, OnOk, length};
+ghost use Rattle.std.specs.Prelude.{◌≡◌, ◌+◌, ◌<◌, ◌≤◌, ◌++◌, ◌⊎◌, IfErr, OnErr, OnOk, length};
 ghost use Rattle.device_model.specs.Words.{Words};
 ghost use Rattle.device_model.specs.Layouts.{boot_turns_of, reads};
 ghost use Rattle.device_model.specs.Journals.{boot_writes};
@@ -8,7 +8,7 @@ ghost use Rattle.device_model.specs.Devices.{held_on, layout_on, need_on};
 ghost use Rattle.shadow_index.specs.declared.state.State.{State};
 ghost use Rattle.shadow_index.specs.States.{HasRoom, HasTaken};
 ghost use Rattle.recovery.specs.Images.{IsOwn, device_at, words_of};
-ghost use Rattle.recovery.specs.Reading.{HasRead, IsRefusedAt};
+ghost use Rattle.recovery.specs.Reading.{IsRefusedAt};
 ghost use Rattle.recovery.specs.Booting.{IsBooted, IsBooting, IsCounted, turns_of};
 
 use crate::reader::Reader;

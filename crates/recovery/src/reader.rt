@@ -1,15 +1,11 @@
 //! The words of a device, read one by one.
 
-ghost use Rattle.std.specs.Prelude.{ℕ, ◌≡◌, ◌≢◌, ◌+◌, ◌-◌, ◌<◌, ◌≤◌, ◌==◌, IfOk, IfErr, OnOk, length};
-ghost use Rattle.std.specs.Option.{option_map};
-ghost use Rattle.set_model.specs.Numbers.{first_index};
+ghost use Rattle.std.specs.Prelude.{◌≡◌, ◌+◌, ◌-◌, ◌<◌, ◌≤◌, ◌==◌, IfErr, OnOk, length};
 ghost use Rattle.device_model.specs.Layouts.{kind_named, reads};
-ghost use Rattle.device_model.specs.Decoding.{is_faulty_head};
 ghost use Rattle.device_model.specs.Devices.{Device, layout_on, need_on};
 ghost use Rattle.shadow_index.specs.States.{HasRoom, HasTaken};
 ghost use Rattle.shadow_index.specs.Tells.{IsLayoutOf, device_by, device_of};
-ghost use Rattle.shadow_index.specs.Views.{kind_of};
-ghost use Rattle.recovery.specs.Images.{device_at, shift_on, words_of};
+ghost use Rattle.recovery.specs.Images.{device_at, words_of};
 ghost use Rattle.recovery.specs.Reading.{HasRead, IsFresh, IsRefusedAt};
 
 use crate::kinds::{kind_named, shift_of};

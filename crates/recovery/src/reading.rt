@@ -1,11 +1,11 @@
 //! The state of a device, and a word of an object, read at once. Nothing is written.
 
-ghost use Rattle.std.specs.Prelude.{ℕ, ◌≡◌, ◌<◌, ◌≤◌, IfErr, IfOk, OnErr, OnOk, length, slice_index};
+ghost use Rattle.std.specs.Prelude.{◌≡◌, ◌<◌, ◌≤◌, IfErr, IfOk, OnErr, OnOk, length, slice_index};
 ghost use Rattle.nv_base.specs.Streams.{FaultCounted};
 ghost use Rattle.kernel_model.specs.Effects.{object_words};
 ghost use Rattle.set_model.specs.Sets.{object_at};
 ghost use Rattle.device_model.specs.Decoding.{Held};
-ghost use Rattle.device_model.specs.Devices.{HoldsOn, held_on, need_on};
+ghost use Rattle.device_model.specs.Devices.{HoldsOn, need_on};
 ghost use Rattle.shadow_index.specs.States.{HasRoom, HasTaken};
 ghost use Rattle.shadow_index.specs.Tells.{IsShift, device_of};
 ghost use Rattle.recovery.specs.Images.{IsOwn, IsStateOn, device_at, words_of};

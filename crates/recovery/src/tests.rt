@@ -1,6 +1,6 @@
 //! A device of format 1 by hand: each of its words by another one, a boot in its turns, and calls that are lost.
 
-ghost use Rattle.std.specs.Prelude.{ℕ, ◌≡◌, ◌≤◌, IsTrue, length};
+ghost use Rattle.std.specs.Prelude.{◌≡◌, ◌≤◌, IsTrue, length};
 ghost use Rattle.device_model.specs.Devices.{need_on};
 ghost use Rattle.shadow_index.specs.States.{HasTaken};
 ghost use Rattle.recovery.specs.Images.{IsOwn, device_at, words_of};

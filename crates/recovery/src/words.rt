@@ -1,6 +1,6 @@
 //! One word more of the header, the root, or a word of the index.
 
-ghost use Rattle.std.specs.Prelude.{ℕ, ◌≡◌, ◌≢◌, ◌+◌, ◌<◌, ◌≤◌, IfErr, OnOk, length};
+ghost use Rattle.std.specs.Prelude.{◌≡◌, ◌≢◌, ◌+◌, ◌<◌, ◌≤◌, IfErr, OnOk, length};
 ghost use Rattle.set_model.specs.Numbers.{first_index};
 ghost use Rattle.device_model.specs.Layouts.{reads};
 ghost use Rattle.device_model.specs.Decoding.{is_faulty_head};
