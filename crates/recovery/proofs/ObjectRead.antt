@@ -28,22 +28,17 @@ keeps d h words t e = decodes_keeps d.set.format d.kind d.set h words (λ kind. 
 slots_are : (d : Device) (h : Held) (s : State) → IsStateOn d h s → s.slots.items ≡ h.index.slots
 slots_are d h s e = ap (λ (x : Index). x.slots) e.index
 
-pub slots_long : (d : Device) (h : Held) (words : Words) (s : State) → IsTaskSet d.set → HoldsOn d h words → IsStateOn d h s → length s.slots.items ≡ length d.set.objects
-slots_long d h words s t e f = ap length (slots_are d h s f) ∙ (keeps d h words t e).held.index.slots
-
-pub slot_named : (d : Device) (h : Held) (words : Words) (s : State) (o : ℕ) → IsTaskSet d.set → HoldsOn d h words → IsStateOn d h s → o < length d.set.objects
-    → (slice_index s.slots.items o < (object_at d.set o).slots) × ((object_at d.set o).slots ≤ 8)
-slot_named d h words s o t e f l =
+pub few_slots : (d : Device) (o : ℕ) → IsTaskSet d.set → o < length d.set.objects → (object_at d.set o).slots ≤ 8
+few_slots d o t l =
     let none : ObjPart = record { name = []; size = 0; slots = 0; first = [] } in
-    (rw (slots_are d h s f) ((keeps d h words t e).held.index.named o l), (all_at IsObject d.set.objects none o t.each_object l).slots.1)
+    (all_at IsObject d.set.objects none o t.each_object l).slots.1
 
-pub word_low : (d : Device) (h : Held) (words : Words) (s : State) (o i : ℕ) → IsTaskSet d.set → HoldsOn d h words → IsStateOn d h s → o < length d.set.objects → i < (object_at d.set o).size
+pub word_low : (d : Device) (s : State) (o i : ℕ) → o < length d.set.objects → slice_index s.slots.items o < (object_at d.set o).slots → i < (object_at d.set o).size
     → slot_place (layout_on d) d.set o (slice_index s.slots.items o) + i < need_on d
-word_low d h words s o i t e f l m = slot_place-high (layout_on d) d.set o (slice_index s.slots.items o) i l (slot_named d h words s o t e f l).0 m
+word_low d s o i l slot m = slot_place-high (layout_on d) d.set o (slice_index s.slots.items o) i l slot m
 
-pub word_kept : (d : Device) (g h : Held) (words : Words) (s : State) (o i : ℕ) → IsTaskSet d.set → HoldsOn d g words → IsStateOn d g s → o < length d.set.objects → i < (object_at d.set o).size → HoldsOn d h words
+pub word_kept : (d : Device) (h : Held) (words : Words) (s : State) (o i : ℕ) → IsTaskSet d.set → o < length d.set.objects → i < (object_at d.set o).size → HoldsOn d h words → IsStateOn d h s
     → words (slot_place (layout_on d) d.set o (slice_index s.slots.items o) + i) ≡ slice_index (object_words h.objects o) i
-word_kept d g h words s o i t e f l m a =
-    ap (λ (slots : List ℕ). words (slot_place (layout_on d) d.set o (slice_index slots o) + i)) (slots_are d g s f)
-    ∙ (keeps d g words t e).objects o i l m
-    ∙ ap (λ (x : Held). slice_index (object_words x.objects o) i) (held_once d g h words e a)
+word_kept d h words s o i t l m e f =
+    ap (λ (slots : List ℕ). words (slot_place (layout_on d) d.set o (slice_index slots o) + i)) (slots_are d h s f)
+    ∙ (keeps d h words t e).objects o i l m

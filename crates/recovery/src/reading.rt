@@ -5,7 +5,7 @@ ghost use Rattle.nv_base.specs.Streams.{FaultCounted};
 ghost use Rattle.kernel_model.specs.Effects.{object_words};
 ghost use Rattle.set_model.specs.Sets.{object_at};
 ghost use Rattle.device_model.specs.Decoding.{Held};
-ghost use Rattle.device_model.specs.Devices.{HoldsOn, need_on};
+ghost use Rattle.device_model.specs.Devices.{HoldsOn, need_on, slot_on};
 ghost use Rattle.shadow_index.specs.States.{HasRoom, HasTaken};
 ghost use Rattle.shadow_index.specs.Tells.{IsShift, device_of};
 ghost use Rattle.recovery.specs.Images.{IsOwn, IsStateOn, device_at, words_of};
@@ -51,13 +51,17 @@ pub fn read_object<F: Fram>(
 ) -> Result<u32, Lost>
     requires moved { IsShift set.now state.now.shift }
     requires room { need_on (device_of set.now state.now.shift) ≤ length (F.start dev.old) }
-    requires held { let words = words_of (F.log dev.old) (F.start dev.old) in
-        let d = device_of set.now state.now.shift in
-        (h : Held) × HoldsOn d h words × IsStateOn d h state.now }
+    requires slots { length state.now.slots.items ≡ length set.now.objects }
     requires object { o.0 < length set.now.objects }
     requires index { i < (object_at set.now o.0).size }
+    requires slot { slice_index state.now.slots.items o.0 < (object_at set.now o.0).slots }
     ensures word { let words = words_of (F.log dev.old) (F.start dev.old) in
-        (h : Held) → HoldsOn (device_of set.now state.now.shift) h words
+        let slot = slice_index state.now.slots.items o.0 in
+        let place = slot_on (device_of set.now state.now.shift) o.0 slot i in
+        IfOk result (λ word. word ≡ words place) }
+    ensures held { let words = words_of (F.log dev.old) (F.start dev.old) in
+        let d = device_of set.now state.now.shift in
+        (h : Held) → HoldsOn d h words → IsStateOn d h state.now
         → IfOk result (λ word. word ≡ slice_index (object_words h.objects o.0) i) }
     ensures lost { OnErr result (FaultCounted (F.lost dev.old) (F.lost dev.new)) }
     ensures log { F.log dev.new ≡ F.log dev.old }

@@ -255,7 +255,7 @@ fn first_word<F: Fram>(dev: &mut F, set: &TaskSet, into: &mut State) -> Option<u
     let Ok(()) = read_state(dev, set, into) else {
         return None;
     };
-    if set.objects() == 0 || set.size(ObjId(0)) == 0 {
+    if set.objects() == 0 || set.size(ObjId(0)) == 0 || set.slots(ObjId(0)) <= into.slots[0] {
         return None;
     }
     read_object(dev, set, into, ObjId(0), 0).ok()
