@@ -1,9 +1,13 @@
 -- What crates above may cite of the lemmas on the device's words.
-pub use Rattle.device_model.proofs.Writes.{length-words_from, length-written, made-append, word_from, words_are}
+pub use Rattle.device_model.proofs.Writes.{image_by_place, length-words_from, length-written, made-append, word_from, words_are}
+pub use Rattle.device_model.proofs.PlaceLaws.{slot_place-high}
+pub use Rattle.device_model.proofs.InRange.{read-low}
+pub use Rattle.device_model.proofs.IndexBack.{fault-same}
 pub use Rattle.device_model.proofs.LaidOut.{laid_out_set}
-pub use Rattle.device_model.proofs.KeepsDecodes.{index-read, keeps_decodes}
-pub use Rattle.device_model.proofs.DecodesKeeps.{held_fits}
+pub use Rattle.device_model.proofs.KeepsDecodes.{index-read, keeps_decodes, magic-is}
+pub use Rattle.device_model.proofs.DecodesKeeps.{decodes_blank, decodes_damaged, decodes_held, decodes_keeps, decodes_other, held_fits}
 pub use Rattle.device_model.proofs.Journaled.{boot_whole}
+pub use Rattle.device_model.proofs.Decoded.{boot_decodes}
 pub use Rattle.device_model.proofs.Steps.{fit_index}
 pub use Rattle.device_model.proofs.Counts.{counted_turns, fit_on, length-commit, plain_sizes}
 pub use Rattle.device_model.proofs.UnderWay.{begins, cut, ends, one_more}

@@ -1,0 +1,4 @@
+-- The definitions, in the order to read them.
+pub mod Images
+pub mod Reading
+pub mod Booting
