@@ -8,3 +8,6 @@ pub use Rattle.device_model.proofs.Steps.{fit_index}
 pub use Rattle.device_model.proofs.Counts.{counted_turns, fit_on, length-commit, plain_sizes}
 pub use Rattle.device_model.proofs.UnderWay.{begins, cut, ends, one_more}
 pub use Rattle.device_model.proofs.SlotWrites.{early-write, get-written, late-place, words-other, words-out, words-set}
+pub use Rattle.device_model.proofs.Fresh.{fresh-page, fresh-root, fresh-slot, page_word, size_fits, slot_word, two_slots}
+pub use Rattle.device_model.proofs.PlaceLaws.{before-more, before-total, before-zero, slot_place-high}
+pub use Rattle.device_model.proofs.Decoded.{kept}

@@ -41,7 +41,7 @@ index_place-apart set l root i j d r a b e =
 
 -- ---- slots
 
-before-zero : (objects : List ObjPart) → words_before objects 0 ≡ 0
+pub before-zero : (objects : List ObjPart) → words_before objects 0 ≡ 0
 before-zero [] = refl
 before-zero (p ∷ objects) = refl
 

@@ -1,0 +1,5 @@
+pub mod Putting
+pub mod Places
+pub mod Whole
+pub mod FreshPlaces
+pub mod FirstIndex
