@@ -1,5 +1,5 @@
 -- The index words of a first state, and of a state that is moved.
-use Rattle.std.proofs.Common.{◌≡◌, ℕ, zero, suc, ◌+◌, ◌-◌, ◌*◌, ◌/◌, ◌%◌, ◌<◌, ◌≤◌, List, [], ◌∷◌, length, map, get_or, slice_index, Option, Some, None, arith, refl, ap, sym, ◌∙◌}
+use Rattle.std.proofs.Common.{◌≡◌, ℕ, zero, suc, ◌+◌, ◌-◌, ◌*◌, ◌/◌, ◌%◌, ◌<◌, ◌≤◌, List, [], ◌∷◌, ◌++◌, length, map, get_or, slice_index, Option, Some, None, arith, refl, ap, sym, ◌∙◌}
 use Rattle.std.proofs.lemmas.List.{get_or_past, length-map, length-replicate}
 use Rattle.kernel_model.specs.Items.{Entry}
 use Rattle.kernel_model.specs.OpenTasks.{children}
@@ -7,11 +7,11 @@ use Rattle.kernel_model.proofs.ForCallers.{length-children}
 use Rattle.nv_base.specs.declared.lines.Spawn.{Spawn}
 use Rattle.set_model.specs.Sets.{TaskSet}
 use Rattle.set_model.specs.Views.{spawn_of}
-use Rattle.device_model.specs.IndexWords.{Index, index_word, task_words, with_last}
+use Rattle.device_model.specs.IndexWords.{Index, index_word, task_words}
 use Rattle.device_model.specs.Formats.{first_slots, formatted_index}
 use Rattle.device_model.specs.Migrations.{moved_index}
 use Rattle.device_model.proofs.Fresh.{first_slot}
-use Rattle.device_model.proofs.IndexLists.{length-task_words, word-count, word-slot, word-task}
+use Rattle.device_model.proofs.IndexLists.{front, length-task_words, word-count, word-slot, word-task}
 use Rattle.device_model.proofs.Tests.{nine}
 use Rattle.device_format.specs.Forms.{first_number_word, first_task_word}
 
@@ -59,26 +59,26 @@ record_is set x i n e l =
 
 -- ---- a state that is moved
 
-last_same : (last : Option Entry) (a b : List ℕ) (k : ℕ) → k < 5 → slice_index (with_last last a) k ≡ slice_index (with_last last b) k
-last_same None a b zero l = refl
-last_same None a b (suc zero) l = refl
-last_same None a b (suc (suc zero)) l = refl
-last_same None a b (suc (suc (suc zero))) l = refl
-last_same None a b (suc (suc (suc (suc zero)))) l = refl
-last_same None a b (suc (suc (suc (suc (suc k))))) l = absurd (omega arith)
-last_same (Some e) a b zero l = refl
-last_same (Some e) a b (suc zero) l = refl
-last_same (Some e) a b (suc (suc zero)) l = refl
-last_same (Some e) a b (suc (suc (suc zero))) l = refl
-last_same (Some e) a b (suc (suc (suc (suc zero)))) l = refl
-last_same (Some e) a b (suc (suc (suc (suc (suc k))))) l = absurd (omega arith)
+last_same : (clock number next : ℕ) (last : Option Entry) (a b : List ℕ) (k : ℕ) → k < 5 → front clock number next last a (3 + k) ≡ front clock number next last b (3 + k)
+last_same clock number next None a b zero l = refl
+last_same clock number next None a b (suc zero) l = refl
+last_same clock number next None a b (suc (suc zero)) l = refl
+last_same clock number next None a b (suc (suc (suc zero))) l = refl
+last_same clock number next None a b (suc (suc (suc (suc zero)))) l = refl
+last_same clock number next None a b (suc (suc (suc (suc (suc k))))) l = absurd (omega arith)
+last_same clock number next (Some e) a b zero l = refl
+last_same clock number next (Some e) a b (suc zero) l = refl
+last_same clock number next (Some e) a b (suc (suc zero)) l = refl
+last_same clock number next (Some e) a b (suc (suc (suc zero))) l = refl
+last_same clock number next (Some e) a b (suc (suc (suc (suc zero)))) l = refl
+last_same clock number next (Some e) a b (suc (suc (suc (suc (suc k))))) l = absurd (omega arith)
 
 pub moved_number_is : (set : TaskSet) (x : Index) (i : ℕ) → i < 9 → index_word x i ≡ index_word (moved_index set x) i
 unfolding index_word
 moved_number_is set x = nine (λ i. index_word x i ≡ index_word (moved_index set x) i) refl refl refl (last 0 (omega arith)) (last 1 (omega arith)) (last 2 (omega arith)) (last 3 (omega arith)) (last 4 (omega arith)) (word-count x ∙ sym (word-count (moved_index set x)))
   where
     last : (k : ℕ) → k < 5 → index_word x (3 + k) ≡ index_word (moved_index set x) (3 + k)
-    last k l = last_same x.last _ _ k l
+    last k l = last_same x.clock x.number x.next x.last (length x.tasks ∷ (x.slots ++ task_words x.tasks)) (length x.tasks ∷ (first_slots set ++ task_words x.tasks)) k l
 
 pub moved_record_is : (set : TaskSet) (x : Index) (i : ℕ) → length x.slots ≡ length set.objects → 9 + length set.objects ≤ i → index_word x i ≡ index_word (moved_index set x) i
 moved_record_is set x i e l = sym (record_is set x i (length set.objects) e l) ∙ record_is set (moved_index set x) i (length set.objects) (length-replicate (length set.objects) 0) l

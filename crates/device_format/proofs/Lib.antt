@@ -3,3 +3,4 @@ pub mod Places
 pub mod Whole
 pub mod FreshPlaces
 pub mod FirstIndex
+pub mod Moving

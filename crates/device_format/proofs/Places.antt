@@ -1,5 +1,6 @@
 -- Sums of places.
-use Rattle.std.proofs.Common.{◌≡◌, ℕ, zero, suc, ◌+◌, ◌-◌, ◌*◌, ◌<◌, ◌≤◌, List, [], length, sum_by, ap, arith, refl, sym, ◌∙◌}
+use Rattle.std.proofs.Common.{◌≡◌, ◌≢◌, ℕ, zero, suc, ◌+◌, ◌-◌, ◌*◌, ◌<◌, ◌≤◌, List, [], ◌∷◌, length, sum_by, ap, arith, refl, sym, ◌∙◌}
+use Rattle.std.proofs.lemmas.List.Sums.{sum_by-cons}
 use Rattle.std.proofs.lemmas.Nat.{mul-le}
 use Rattle.set_model.specs.Sets.{ObjPart, TaskSet, object_at}
 use Rattle.set_model.specs.Numbers.{first_index}
@@ -60,3 +61,31 @@ pub others_at : (w : Words) (l : Layout) (set : TaskSet) (o at count : ℕ) (own
 others_at w l set o at count own e f m h i a =
     let u : at + i ≡ slot_place l set o 0 + ((object_at set o).size + i) = omega (arith, e) in
     ap w u ∙ h.others ((object_at set o).size + i) (omega arith) (omega (arith, a, f, m))
+
+pub objects_left : (set : TaskSet) (o : ℕ) → o < length set.objects → words_before set.objects o + slots_words (object_at set o) ≤ sum_by slots_words set.objects
+objects_left set o a = omega (arith, object_more set o a, before-total set.objects (o + 1))
+
+pub all_before : (objects : List ObjPart) → words_before objects (length objects) ≡ sum_by slots_words objects
+all_before [] = refl
+all_before (p ∷ objects) = omega (arith, all_before objects, sum_by-cons slots_words p objects)
+
+-- ---- what stands before the pages
+
+-- in format 1 the header
+pub head_plain : (kind : Kind) (set : TaskSet) → kind ≢ Migrated → (layout_of kind set).root ≡ 1 → ((layout_of kind set).head_reads ≡ first_index set) × ((layout_of kind set).pages_at ≡ first_index set)
+head_plain Plain set n e = (refl, refl)
+head_plain Paged set n e = absurd (omega (arith, e))
+head_plain Migrated set n e = absurd (n refl)
+
+-- in format 2 the header, and the root
+pub head_paged : (kind : Kind) (set : TaskSet) → kind ≢ Migrated → (layout_of kind set).root ≢ 1 → ((layout_of kind set).root ≡ first_index set) × ((layout_of kind set).pages_at ≡ (layout_of kind set).root + 1)
+head_paged Plain set n e = absurd (e refl)
+head_paged Paged set n e = (refl, refl)
+head_paged Migrated set n e = absurd (n refl)
+
+-- the header has seven words at least, and stands before the pages
+pub head_within : (l : Layout) (set : TaskSet) → l.pages_at ≤ need l set
+head_within l set = omega arith
+
+pub seven_words : (set : TaskSet) → 7 ≤ first_index set
+seven_words set = omega arith

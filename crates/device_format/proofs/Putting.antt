@@ -88,3 +88,10 @@ at_places w f p q n m s t d e k h i a =
     let u : p + i ≡ q + i = omega (arith, d) in
     let v : t + i ≡ s + i = omega (arith, k) in
     ap w u ∙ h i (omega (arith, a, e)) ∙ ap f v
+
+-- the same for other words that are these
+pub same_places : (w f g : Words) (p q n m : ℕ) → p ≡ q → n ≡ m → ((i : ℕ) → i < m → f i ≡ g i) → ((i : ℕ) → i < m → w (q + i) ≡ g i) → (i : ℕ) → i < n → w (p + i) ≡ f i
+same_places w f g p q n m d e k h i a =
+    let u : p + i ≡ q + i = omega (arith, d) in
+    let b : i < m = omega (arith, a, e) in
+    ap w u ∙ h i b ∙ sym (k i b)

@@ -1,9 +1,9 @@
 //! A format: the words of a set's first state, in order of place, and the magic last.
 
-ghost use Rattle.std.specs.Prelude.{ℕ, ◌≡◌, ◌≢◌, ◌-◌, ◌<◌, ◌≤◌, ◌++◌, OnOk, OnErr, IsErrOf, length};
+ghost use Rattle.std.specs.Prelude.{ℕ, ◌≡◌, ◌≢◌, ◌-◌, ◌<◌, ◌≤◌, ◌^◌, ◌++◌, OnOk, OnErr, IsErrOf, length};
 ghost use Rattle.nv_base.specs.Streams.{FaultCounted};
+ghost use Rattle.set_model.specs.Limits.{IsTaskSet};
 ghost use Rattle.set_model.specs.Numbers.{first_index};
-ghost use Rattle.device_model.specs.Words.{Words};
 ghost use Rattle.device_model.specs.Layouts.{Migrated};
 ghost use Rattle.device_model.specs.Formats.{format_word};
 ghost use Rattle.device_model.specs.Devices.{format_on, layout_on, need_on};
@@ -15,7 +15,7 @@ ghost use Rattle.device_format.specs.Shown.{IsTable, device_in};
 use crate::pages::put_pages;
 use crate::slots::put_first_objects;
 use fram_dev::{Fram, Lost};
-use shadow_index::{DeviceKind, Layout, need};
+use shadow_index::{Layout, need};
 use task_set::TaskSet;
 
 /// Why a device was not formatted.
@@ -63,7 +63,8 @@ pub fn format<F: Fram>(dev: &mut F, set: &TaskSet) -> Result<(), FormatRefusal>
 
 /// All writes of a format.
 fn write_format<F: Fram>(dev: &mut F, set: &TaskSet) -> Result<(), Lost>
-    requires { need_on (device_of set.now 0) ≤ length (F.start dev.old) }
+    requires room { need_on (device_of set.now 0) ≤ length (F.start dev.old) }
+    requires small { need_on (device_of set.now 0) < 2 ^ 32 }
     ensures whole { OnOk result
         (F.log dev.new ≡ F.log dev.old ++ format_on (device_of set.now 0)) }
     ensures front { OnErr result
@@ -72,6 +73,8 @@ fn write_format<F: Fram>(dev: &mut F, set: &TaskSet) -> Result<(), Lost>
     ensures failed { OnErr result (FaultCounted (F.lost dev.old) (F.lost dev.new)) }
     ensures never_falls { F.lost dev.old ≤ F.lost dev.new }
 {
+    // that the set keeps its limits
+    let _ = set.format();
     let places = Layout::of(set, 0);
     dev.write(0, 0)?;
     put_formatted(dev, set, &places)?;
@@ -80,9 +83,11 @@ fn write_format<F: Fram>(dev: &mut F, set: &TaskSet) -> Result<(), Lost>
 
 /// Each word but word 0.
 fn put_formatted<F: Fram>(dev: &mut F, set: &TaskSet, places: &Layout) -> Result<(), Lost>
+    requires set { IsTaskSet set.now }
     requires table { IsTable set.now places.now }
     requires kind { kind_of places.now.kind ≢ Migrated }
     requires room { need_on (device_in set.now places.now) ≤ length (F.start dev.old) }
+    requires small { need_on (device_in set.now places.now) < 2 ^ 32 }
     ensures put { let d = device_in set.now places.now in OnOk result
         (HasPut (format_word (layout_on d) set.now) 1 (need_on d - 1)
         (F.log dev.old) (F.log dev.new)) }
@@ -111,13 +116,12 @@ fn put_head<F: Fram>(dev: &mut F, set: &TaskSet, places: &Layout) -> Result<(), 
     ensures failed { OnErr result (FaultCounted (F.lost dev.old) (F.lost dev.new)) }
     ensures never_falls { F.lost dev.old ≤ F.lost dev.new }
 {
-    match places.kind() {
-        DeviceKind::Plain => put_header(dev, set, places, places.head_reads()),
-        DeviceKind::Paged | DeviceKind::Migrated => {
-            put_header(dev, set, places, places.head_reads() - 1)?;
-            dev.write(places.root_at(), places.first_root())
-        }
+    let root = places.root_at();
+    if root == 1 {
+        return put_header(dev, set, places, places.head_reads());
     }
+    put_header(dev, set, places, root)?;
+    dev.write(root, places.first_root())
 }
 
 /// The words of the header behind word 0, before a place.

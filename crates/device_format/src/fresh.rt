@@ -56,7 +56,11 @@ impl Fresh for State {
     ghost fits = { λ s set. IsStateOf set s };
 
     fn fresh_word(&self, set: &TaskSet, i: u32) -> u32 {
-        if 9 <= i && i < 9 + u32::from(set.objects()) {
+        let n = u32::from(set.objects());
+        if i < 9 {
+            return self.word(set, i);
+        }
+        if i < 9 + n {
             return 0;
         }
         self.word(set, i)

@@ -17,6 +17,7 @@ use crate::puts::copy_words;
 use crate::slots::put_other_slots;
 use fram_dev::{Fram, Lost};
 use nv_base::ObjId;
+use nv_base::limits::MAX_OBJECTS;
 use shadow_index::{Layout, State};
 use task_set::TaskSet;
 
@@ -74,6 +75,7 @@ fn put_moved_object<F: Fram>(
     requires state { IsStateOf set.now state.now }
     requires slots { IsInSlots set.now state.now }
     requires object { o.0 < length set.now.objects }
+    requires few { o.0 < MAX_OBJECTS }
     ensures put { (w : Words) → let l = layout_on (device_in set.now places.now) in
         let all = slots_words (object_at set.now o.0) in
         let image = slice_index (made_in (F.log dev.old) (F.start dev.old)) in

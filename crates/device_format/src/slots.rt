@@ -13,6 +13,7 @@ ghost use Rattle.device_format.specs.Shown.{IsTable, device_in};
 use crate::puts::{put_words, put_zeros};
 use fram_dev::{Fram, Lost};
 use nv_base::ObjId;
+use nv_base::limits::MAX_OBJECTS;
 use shadow_index::Layout;
 use task_set::TaskSet;
 
@@ -54,6 +55,7 @@ fn put_first_object<F: Fram>(
     requires room { need_on (device_in set.now places.now) ≤ length (F.start dev.old) }
     requires small { need_on (device_in set.now places.now) < 2 ^ 32 }
     requires object { o.0 < length set.now.objects }
+    requires few { o.0 < MAX_OBJECTS }
     ensures put { (w : Words) → let l = layout_on (device_in set.now places.now) in
         let all = slots_words (object_at set.now o.0) in
         HasObject l set.now o.0 (slice_index (object_at set.now o.0).first) w → OnOk result
@@ -81,6 +83,7 @@ pub(crate) fn put_other_slots<F: Fram>(
     requires room { need_on (device_in set.now places.now) ≤ length (F.start dev.old) }
     requires small { need_on (device_in set.now places.now) < 2 ^ 32 }
     requires object { o.0 < length set.now.objects }
+    requires few { o.0 < MAX_OBJECTS }
     ensures put { (w : Words) (own : Words) → let l = layout_on (device_in set.now places.now) in
         let size = (object_at set.now o.0).size in
         let count = slots_words (object_at set.now o.0) - size in
