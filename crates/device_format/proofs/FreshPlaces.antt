@@ -1,5 +1,5 @@
 -- Where the words of a state that is written anew stand.
-use Rattle.std.proofs.Common.{◌≡◌, ℕ, zero, suc, ◌+◌, ◌-◌, ◌*◌, ◌/◌, ◌%◌, ◌<◌, ◌≤◌, List, [], ◌∷◌, length, slice_index, sum_by, arith, refl, ap, sym, ◌∙◌}
+use Rattle.std.proofs.Common.{◌≡◌, ℕ, zero, suc, ◌+◌, ◌-◌, ◌*◌, ◌/◌, ◌%◌, ◌<◌, ◌≤◌, List, [], ◌∷◌, length, get_or, map, slice_index, sum_by, arith, refl, ap, sym, ◌∙◌}
 use Rattle.std.proofs.lemmas.List.{get_or_past}
 use Rattle.std.proofs.lemmas.Nat.{div-mul-add, mod-mul-add}
 use Rattle.kernel_model.specs.Effects.{Objects, object_words}
@@ -10,8 +10,9 @@ use Rattle.device_model.specs.Words.{Words}
 use Rattle.device_model.specs.Layouts.{Layout, copy_place, index_reads, need, slot_place, slots_at, slots_words, words_before}
 use Rattle.device_model.specs.IndexWords.{Index, index_word}
 use Rattle.device_model.specs.Places.{IsLaidOut}
-use Rattle.device_model.specs.Formats.{fresh_page_word, fresh_slot_word, fresh_word}
-use Rattle.device_model.proofs.ForCallers.{before-more, before-total, fresh-page, fresh-slot, page_word, size_fits, slot_word}
+use Rattle.device_model.specs.Formats.{format_word, formatted_index, fresh_page_word, fresh_slot_word, fresh_word}
+use Rattle.device_model.proofs.ForCallers.{before-more, before-total, fresh-page, fresh-slot, page_word, size_fits, slot_word, two_slots}
+use Rattle.set_model.proofs.FormattedFacts.{formatted_is_base}
 use Rattle.device_model.proofs.PlaceLaws.{copy_place-high}
 use Rattle.device_format.specs.Fresh.{HasObject, HasObjects, HasPage, HasPages}
 
@@ -63,3 +64,14 @@ fresh_objects l set x objects d two long o a = record {
 -- the same by other names of an object's words
 pub object_again : (l : Layout) (set : TaskSet) (o : ℕ) (own new w : Words) → ((i : ℕ) → i < (object_at set o).size → own i ≡ new i) → HasObject l set o own w → HasObject l set o new w
 object_again l set o own new w e h = record { current = λ i a. h.current i a ∙ e i a; others = h.others }
+
+-- ---- a first state
+
+first_words : (parts : List ObjPart) (none : ObjPart) (o : ℕ) → o < length parts → object_words (map (λ p. p.first) parts) o ≡ (get_or parts o none).first
+first_words [] none o l = absurd (omega arith)
+first_words (p ∷ parts) none zero l = refl
+first_words (p ∷ parts) none (suc o) l = first_words parts none o (omega arith)
+
+pub first_objects : (l : Layout) (set : TaskSet) → IsTaskSet set → IsLaidOut set l → HasObjects l set (λ o. slice_index (object_at set o).first) (format_word l set)
+first_objects l set t d o a = object_again l set o (slice_index (object_words (formatted set).objects o)) (slice_index (object_at set o).first) (format_word l set) (λ i b. ap (λ (xs : List ℕ). slice_index xs i) (first_words set.objects no_object o a))
+    (fresh_objects l set (formatted_index set) (formatted set).objects d (λ o a. two_slots set o t a) (formatted_is_base set t).words o a)

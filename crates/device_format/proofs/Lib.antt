@@ -4,3 +4,5 @@ pub mod Whole
 pub mod FreshPlaces
 pub mod FirstIndex
 pub mod Moving
+pub mod MovedWords
+pub mod FormatLogs

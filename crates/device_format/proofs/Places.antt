@@ -7,8 +7,8 @@ use Rattle.set_model.specs.Numbers.{first_index}
 use Rattle.device_model.specs.Layouts.{Kind, Plain, Paged, Migrated, Layout, copy_place, index_reads, layout_of, need, slot_place, slots_at, slots_words, words_before}
 use Rattle.device_model.specs.Words.{Words}
 use Rattle.device_format.specs.Fresh.{HasObject}
-use Rattle.device_model.proofs.ForCallers.{before-more, before-total}
-use Rattle.device_model.proofs.PlaceLaws.{slot_place-low}
+use Rattle.device_model.proofs.ForCallers.{before-more, before-total, slot_place-high}
+
 
 abbrev no_object : ObjPart
 no_object = record { name = []; size = 0; slots = 0; first = [] }
@@ -89,3 +89,7 @@ head_within l set = omega arith
 
 pub seven_words : (set : TaskSet) → 7 ≤ first_index set
 seven_words set = omega arith
+
+-- a slot in format 1 ends within its words
+pub old_before : (set : TaskSet) (o slot : ℕ) → o < length set.objects → slot < (object_at set o).slots → 1 ≤ (object_at set o).size → slot_place (layout_of Plain set) set o slot + (object_at set o).size ≤ need (layout_of Plain set) set
+old_before set o slot a b c = omega (arith, slot_place-high (layout_of Plain set) set o slot ((object_at set o).size - 1) a b (omega (arith, c)), c)

@@ -1,5 +1,5 @@
 -- How logs grow by words that are put.
-use Rattle.std.proofs.Common.{◌≡◌, ◌⊎◌, ⊎_elim, ℕ, zero, suc, ◌+◌, ◌<◌, ◌≤◌, List, [], ◌∷◌, ◌++◌, length, set, slice_index, Result, Ok, Err, arith, refl, ap, ap₂, sym, ◌∙◌}
+use Rattle.std.proofs.Common.{◌≡◌, ◌⊎◌, ⊎_elim, inl, inr, ℕ, zero, suc, ◌+◌, ◌<◌, ◌≤◌, List, [], ◌∷◌, ◌++◌, length, set, slice_index, Result, Ok, Err, arith, refl, ap, ap₂, sym, ◌∙◌}
 use Rattle.std.specs.Result.{OnErr}
 use Rattle.std.proofs.lemmas.List.{append_assoc, append-nil, get_or-set_other}
 use Rattle.fram_dev.specs.Device.{made_in}
@@ -15,7 +15,7 @@ one_word : (w : Words) (p : ℕ) → puts w p 1 ≡ (p, w p) ∷ []
 unfolding puts
 one_word w p = refl
 
-puts-append : (w : Words) (p n m : ℕ) → puts w p n ++ puts w (p + n) m ≡ puts w p (n + m)
+pub puts-append : (w : Words) (p n m : ℕ) → puts w p n ++ puts w (p + n) m ≡ puts w p (n + m)
 unfolding puts
 puts-append w p zero m = let e : p + 0 ≡ p = omega arith in let f : 0 + m ≡ m = omega arith in ap (λ (q : ℕ). puts w q m) e ∙ ap (puts w p) (sym f)
 puts-append w p (suc n) m =
@@ -95,3 +95,23 @@ same_places w f g p q n m d e k h i a =
     let u : p + i ≡ q + i = omega (arith, d) in
     let b : i < m = omega (arith, a, e) in
     ap w u ∙ h i b ∙ sym (k i b)
+
+-- ---- the last write, by another name of its word
+
+pub last_word : (p u v : ℕ) (a b : List Change) → u ≡ v → b ≡ a ++ (p, u) ∷ [] → b ≡ a ++ (p, v) ∷ []
+last_word p u v a b e h = h ∙ ap (λ (x : ℕ). a ++ (p, x) ∷ []) e
+
+pub last_or_none : (p u v : ℕ) (a b : List Change) → u ≡ v → (b ≡ a) ⊎ (b ≡ a ++ (p, u) ∷ []) → (b ≡ a) ⊎ (b ≡ a ++ (p, v) ∷ [])
+last_or_none p u v a b e h = ⊎_elim (λ n. inl n) (λ n. inr (last_word p u v a b e n)) h
+
+-- ---- one word
+
+pub put_one : (w : Words) (p q v : ℕ) (a b : List Change) → b ≡ a ++ (q, v) ∷ [] → q ≡ p → v ≡ w p → HasPut w p 1 a b
+put_one w p q v a b h e f =
+    let z : p ≡ p + 0 = omega arith in
+    put_at w p (0 + 1) p 1 a b refl (omega arith) (put_more w p 0 q v a a b (put_none w p a) h (e ∙ z) (f ∙ ap w z))
+
+pub front_one : (w : Words) (p q v total : ℕ) (a b : List Change) → (b ≡ a) ⊎ (b ≡ a ++ (q, v) ∷ []) → q ≡ p → v ≡ w p → 0 < total → HasPutFront w p total a b
+front_one w p q v total a b h e f l = ⊎_elim
+    (λ n. put_front w p 0 total a b (n ∙ put_none w p a) (omega arith))
+    (λ n. put_front w p 1 total a b (put_one w p q v a b n e f) (omega (arith, l))) h

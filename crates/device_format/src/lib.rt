@@ -11,3 +11,6 @@ mod slots;
 
 pub use formatting::{FormatRefusal, format};
 pub use migration::move_words;
+
+#[cfg(test)]
+mod tests;

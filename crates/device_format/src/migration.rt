@@ -1,8 +1,9 @@
 //! What a migration writes: all words of format 2 behind those of format 1, in order of place, and the magic last.
 
-ghost use Rattle.std.specs.Prelude.{ℕ, ◌≡◌, ◌-◌, ◌≤◌, ◌++◌, OnOk, OnErr, length, slice_index};
+ghost use Rattle.std.specs.Prelude.{ℕ, ◌≡◌, ◌-◌, ◌<◌, ◌≤◌, ◌^◌, ◌++◌, OnOk, OnErr, length, slice_index};
 ghost use Rattle.nv_base.specs.Streams.{FaultCounted};
 ghost use Rattle.fram_dev.specs.Device.{made_in};
+ghost use Rattle.set_model.specs.Limits.{IsTaskSet};
 ghost use Rattle.set_model.specs.Numbers.{words_needed};
 ghost use Rattle.device_model.specs.Decoding.{Held};
 ghost use Rattle.device_model.specs.Migrations.{migration_writes, moved_word};
@@ -36,6 +37,9 @@ pub fn move_words<F: Fram>(dev: &mut F, set: &TaskSet, state: &State) -> Result<
     ensures failed { OnErr result (FaultCounted (F.lost dev.old) (F.lost dev.new)) }
     ensures never_falls { F.lost dev.old ≤ F.lost dev.new }
 {
+    // that the set keeps its limits, and that each place is a word
+    let _ = set.format();
+    let _ = dev.len();
     let places = Layout::of_kind(set, DeviceKind::Migrated);
     put_moved(dev, set, &places, state)?;
     dev.write(0, places.kind().magic())
@@ -48,9 +52,10 @@ fn put_moved<F: Fram>(
     places: &Layout,
     state: &State,
 ) -> Result<(), Lost>
+    requires set { IsTaskSet set.now }
     requires table { IsLayoutOf (migrated set.now) places.now }
     requires room { need_on (migrated set.now) ≤ length (F.start dev.old) }
-    requires format { set.now.format ≡ 2 }
+    requires small { need_on (migrated set.now) < 2 ^ 32 }
     requires holds { let image = slice_index (made_in (F.log dev.old) (F.start dev.old)) in
         (h : Held) × IsMovable set.now state.now image h }
     ensures put { (h : Held)
