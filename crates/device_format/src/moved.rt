@@ -17,7 +17,7 @@ use crate::puts::copy_words;
 use crate::slots::put_other_slots;
 use fram_dev::{Fram, Lost};
 use nv_base::ObjId;
-use nv_base::limits::MAX_OBJECTS;
+use nv_base::limits::{MAX_OBJECTS, MAX_SLOTS};
 use shadow_index::{Layout, State};
 use task_set::TaskSet;
 
@@ -90,7 +90,21 @@ fn put_moved_object<F: Fram>(
     ensures failed { OnErr result (FaultCounted (F.lost dev.old) (F.lost dev.new)) }
     ensures never_falls { F.lost dev.old ≤ F.lost dev.new }
 {
-    let from = old.slot_at(o, state.slots[usize::from(o.0)]);
+    let from = old.slot_at(o, state_slot(set, state, o));
     copy_words(dev, from, places.slot_at(o, 0), u32::from(set.size(o)))?;
     put_other_slots(dev, set, places, o)
+}
+
+/// The slot of an object's newest version.
+fn state_slot(set: &TaskSet, state: &State, o: ObjId) -> u8
+    requires state { IsStateOf set.now state.now }
+    requires slots { IsInSlots set.now state.now }
+    requires object { o.0 < length set.now.objects }
+    ensures exact { result ≡ slice_index state.now.slots.items o.0 }
+    ensures own { result < (object_at set.now o.0).slots }
+    ensures few { result < MAX_SLOTS }
+{
+    // that there are few slots
+    let _ = set.slots(o);
+    state.slots[usize::from(o.0)]
 }
