@@ -1,10 +1,10 @@
 -- What a format, or a migration, made of the log, whole or cut.
-use Rattle.std.proofs.Common.{◌≡◌, ◌⊎◌, ℕ, ◌+◌, ◌-◌, List, [], ◌∷◌, ◌++◌, refl, ap, sym, ◌∙◌, subst}
+use Rattle.std.proofs.Common.{◌≡◌, ◌⊎◌, ◌-◌, List, [], ◌∷◌, ◌++◌, ap, sym, subst}
 use Rattle.std.proofs.lemmas.List.{append-nil}
 use Rattle.set_model.specs.Sets.{TaskSet}
 use Rattle.set_model.specs.Numbers.{words_needed}
-use Rattle.device_model.specs.Words.{Change, Words}
-use Rattle.device_model.specs.Layouts.{Kind, Migrated, layout_of, magic_of, need}
+use Rattle.device_model.specs.Words.{Change}
+use Rattle.device_model.specs.Layouts.{Kind, Migrated, magic_of}
 use Rattle.device_model.specs.Decoding.{Held}
 use Rattle.device_model.specs.Formats.{format_word, format_writes}
 use Rattle.device_model.specs.Migrations.{migration_writes, moved_word}

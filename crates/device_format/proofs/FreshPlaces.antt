@@ -1,20 +1,20 @@
 -- Where the words of a state that is written anew stand.
-use Rattle.std.proofs.Common.{◌≡◌, ℕ, zero, suc, ◌+◌, ◌-◌, ◌*◌, ◌/◌, ◌%◌, ◌<◌, ◌≤◌, List, [], ◌∷◌, length, get_or, map, slice_index, sum_by, arith, refl, ap, sym, ◌∙◌}
+use Rattle.std.proofs.Common.{◌≡◌, ℕ, zero, suc, ◌+◌, ◌-◌, ◌*◌, ◌/◌, ◌%◌, ◌<◌, ◌≤◌, List, [], ◌∷◌, length, get_or, map, slice_index, arith, refl, ap, ◌∙◌}
 use Rattle.std.proofs.lemmas.List.{get_or_past}
-use Rattle.std.proofs.lemmas.Nat.{div-mul-add, mod-mul-add}
+use Rattle.std.proofs.lemmas.Nat.{div-mul-add}
 use Rattle.kernel_model.specs.Effects.{Objects, object_words}
 use Rattle.set_model.specs.Sets.{ObjPart, TaskSet, object_at}
 use Rattle.set_model.specs.Limits.{IsTaskSet}
 use Rattle.set_model.specs.Formatted.{formatted}
 use Rattle.device_model.specs.Words.{Words}
-use Rattle.device_model.specs.Layouts.{Layout, copy_place, index_reads, need, slot_place, slots_at, slots_words, words_before}
-use Rattle.device_model.specs.IndexWords.{Index, index_word}
+use Rattle.device_model.specs.Layouts.{Layout, copy_place, slot_place, slots_at, slots_words, words_before}
+use Rattle.device_model.specs.IndexWords.{Index}
 use Rattle.device_model.specs.Places.{IsLaidOut}
 use Rattle.device_model.specs.Formats.{format_word, formatted_index, fresh_page_word, fresh_slot_word, fresh_word}
-use Rattle.device_model.proofs.ForCallers.{before-more, before-total, fresh-page, fresh-slot, page_word, size_fits, slot_word, two_slots}
+use Rattle.device_model.proofs.ForCallers.{fresh-page, fresh-slot, page_word, size_fits, slot_word, two_slots}
 use Rattle.set_model.proofs.FormattedFacts.{formatted_is_base}
 use Rattle.device_model.proofs.PlaceLaws.{copy_place-high}
-use Rattle.device_format.specs.Fresh.{HasObject, HasObjects, HasPage, HasPages}
+use Rattle.device_format.specs.Fresh.{HasObject, HasObjects, HasPages}
 
 -- ---- pages
 

@@ -6,3 +6,4 @@ pub mod FirstIndex
 pub mod Moving
 pub mod MovedWords
 pub mod FormatLogs
+pub mod Images

@@ -1,5 +1,5 @@
 -- Sums of places.
-use Rattle.std.proofs.Common.{◌≡◌, ◌≢◌, ℕ, zero, suc, ◌+◌, ◌-◌, ◌*◌, ◌<◌, ◌≤◌, List, [], ◌∷◌, length, sum_by, ap, arith, refl, sym, ◌∙◌}
+use Rattle.std.proofs.Common.{◌≡◌, ◌≢◌, ℕ, zero, suc, ◌+◌, ◌-◌, ◌*◌, ◌<◌, ◌≤◌, List, [], ◌∷◌, length, sum_by, ap, arith, refl, ◌∙◌}
 use Rattle.std.proofs.lemmas.List.Sums.{sum_by-cons}
 use Rattle.std.proofs.lemmas.Nat.{mul-le}
 use Rattle.set_model.specs.Sets.{ObjPart, TaskSet, object_at}
@@ -8,7 +8,6 @@ use Rattle.device_model.specs.Layouts.{Kind, Plain, Paged, Migrated, Layout, cop
 use Rattle.device_model.specs.Words.{Words}
 use Rattle.device_format.specs.Fresh.{HasObject}
 use Rattle.device_model.proofs.ForCallers.{before-more, before-total, slot_place-high}
-
 
 abbrev no_object : ObjPart
 no_object = record { name = []; size = 0; slots = 0; first = [] }

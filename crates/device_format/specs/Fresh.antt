@@ -1,5 +1,5 @@
 -- The words of a state that is written anew, by where they stand. This project's own.
-use Rattle.std.specs.Prelude.{◌≡◌, ℕ, ◌+◌, ◌*◌, ◌<◌, ◌≤◌, List, length, slice_index}
+use Rattle.std.specs.Prelude.{◌≡◌, ℕ, ◌+◌, ◌*◌, ◌<◌, ◌≤◌, length}
 use Rattle.set_model.specs.Sets.{TaskSet, object_at}
 use Rattle.device_model.specs.Words.{Words}
 use Rattle.device_model.specs.Layouts.{Layout, copy_place, slot_place, slots_words}

@@ -1,5 +1,5 @@
 -- Words that are put in order of place. This project's own.
-use Rattle.std.specs.Prelude.{◌≡◌, ℕ, ◌+◌, ◌<◌, ◌≤◌, List, ◌++◌, length, take}
+use Rattle.std.specs.Prelude.{◌≡◌, ℕ, ◌≤◌, List, ◌++◌, length, take}
 use Rattle.device_model.specs.Words.{Change, Words, words_from, written_at}
 
 -- the writes that put so many words of an image, from a place on

@@ -125,12 +125,7 @@ fn put_head<F: Fram>(dev: &mut F, set: &TaskSet, places: &Layout) -> Result<(), 
 }
 
 /// The words of the header behind word 0, before a place.
-fn put_header<F: Fram>(
-    dev: &mut F,
-    set: &TaskSet,
-    places: &Layout,
-    end: u32,
-) -> Result<(), Lost>
+fn put_header<F: Fram>(dev: &mut F, set: &TaskSet, places: &Layout, end: u32) -> Result<(), Lost>
     requires table { IsTable set.now places.now }
     requires end { end ≡ first_index set.now }
     requires room { need_on (device_in set.now places.now) ≤ length (F.start dev.old) }

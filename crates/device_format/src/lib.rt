@@ -3,6 +3,7 @@
 
 mod formatting;
 mod fresh;
+pub mod laws;
 mod migration;
 mod moved;
 mod pages;

@@ -67,7 +67,14 @@ fn put_page<F: Fram, S: Fresh>(
     ensures never_falls { F.lost dev.old ≤ F.lost dev.new }
 {
     let words = places.page_words();
-    put_index(dev, set, state, places.page_at(page, 0), u32::from(page) * words, words)?;
+    put_index(
+        dev,
+        set,
+        state,
+        places.page_at(page, 0),
+        u32::from(page) * words,
+        words,
+    )?;
     put_zeros(dev, places.page_at(page, 1), words)
 }
 

@@ -44,8 +44,56 @@ const BEFORE: [u32; 50] = [9; 50];
 
 // the header, the directory and the code; copy 0 of the index; copy 1; both slots of the object
 const FORMATTED: [u32; 50] = [
-    0x314B_564E, 1, 0, 1, 1, 1, 1024, 0x201, 100, 12, 115, 115, 115, 115, 115, 115, 115, 115, 115,
-    115, 115, 115, 0, 0, 2, 0, 0, 0, 0, 0, 1, 0, 1, 0, 7, 0, 0, 0, 0, 0, 0, 0, 0, 0, 0, 0, 0, 0, 5, 0,
+    0x314B_564E,
+    1,
+    0,
+    1,
+    1,
+    1,
+    1024,
+    0x201,
+    100,
+    12,
+    115,
+    115,
+    115,
+    115,
+    115,
+    115,
+    115,
+    115,
+    115,
+    115,
+    115,
+    115,
+    0,
+    0,
+    2,
+    0,
+    0,
+    0,
+    0,
+    0,
+    1,
+    0,
+    1,
+    0,
+    7,
+    0,
+    0,
+    0,
+    0,
+    0,
+    0,
+    0,
+    0,
+    0,
+    0,
+    0,
+    0,
+    0,
+    5,
+    0,
 ];
 
 // whether a device that is cut at write k, with that write made or not, is untouched, blank or whole
@@ -53,12 +101,11 @@ fn is_cut_well(rt: &HostRuntime, set: &TaskSet, k: u32, new: bool) -> Result<boo
     let mut dev = MemFram::fused(rt.alloc(), &BEFORE, k, new)?;
     let done = format(&mut dev, set).is_ok();
     let words = dev.words();
-    let made = if new { k + 1 } else { k };
-    if made == 0 {
+    if k == 0 && !new {
         return Ok(!done && words == BEFORE.as_slice());
     }
-    if made >= 51 {
-        return Ok(done == (k >= 51) && words == FORMATTED.as_slice());
+    if k > 50 || k == 50 && new {
+        return Ok(done == (k > 50) && words == FORMATTED.as_slice());
     }
     Ok(!done && words.first() == Some(&0))
 }

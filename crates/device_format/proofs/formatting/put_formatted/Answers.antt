@@ -1,4 +1,4 @@
-use Rattle.std.proofs.Common.{◌≡◌, ◌≢◌, ℕ, ◌+◌, ◌-◌, ◌*◌, ◌<◌, ◌≤◌, length, sum_by, ap, arith, refl, sym, ◌∙◌}
+use Rattle.std.proofs.Common.{◌≡◌, ℕ, ◌+◌, ◌-◌, ◌*◌, sum_by, arith, refl}
 use Rattle.std.proofs.lemmas.Result.{on_err_weaker, on_ok_weaker}
 use Rattle.set_model.specs.Sets.{TaskSet}
 use Rattle.set_model.specs.Formatted.{formatted}
@@ -6,7 +6,7 @@ use Rattle.device_model.specs.Words.{Words}
 use Rattle.device_model.specs.Layouts.{Kind, Layout, index_reads, slots_at, slots_words}
 use Rattle.device_model.specs.Formats.{format_word, formatted_index}
 use Rattle.device_model.specs.Devices.{Device, layout_on, need_on}
-use Rattle.device_model.proofs.ForCallers.{fresh-root, laid_out_set}
+use Rattle.device_model.proofs.ForCallers.{laid_out_set}
 use Rattle.shadow_index.specs.Views.{kind_of}
 use Rattle.device_format.specs.Shown.{device_in}
 use Rattle.device_format.proofs.Putting.{at_err, front_then, put_then}

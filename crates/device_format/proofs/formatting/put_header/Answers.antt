@@ -1,6 +1,5 @@
-use Rattle.std.proofs.Common.{◌≡◌, ℕ, ◌+◌, ◌-◌, ◌<◌, ◌≤◌, ap, arith, refl, sym, ◌∙◌}
+use Rattle.std.proofs.Common.{◌≡◌, ℕ, ◌+◌, ◌-◌, ap, arith, refl, ◌∙◌}
 use Rattle.device_model.specs.Words.{Words}
-use Rattle.device_model.specs.Layouts.{Layout}
 use Rattle.device_model.specs.Formats.{format_word}
 use Rattle.device_model.specs.Devices.{Device, layout_on}
 use Rattle.device_format.specs.Shown.{device_in}

@@ -1,5 +1,4 @@
-use Rattle.std.proofs.Common.{◌≡◌, ℕ, ◌+◌, ◌<◌, ◌≤◌, ◌-◌}
-use Rattle.device_model.specs.Words.{Words}
+use Rattle.std.proofs.Common.{◌≡◌, ◌≤◌, ◌-◌}
 use Rattle.device_model.specs.Formats.{format_word}
 use Rattle.device_model.specs.Devices.{layout_on}
 use Rattle.device_format.specs.Shown.{device_in}

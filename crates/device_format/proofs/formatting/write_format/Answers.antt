@@ -1,7 +1,6 @@
-use Rattle.std.proofs.Common.{◌≡◌, ◌⊎◌, ⊎_elim, inl, inr, ℕ, ◌+◌, ◌-◌, List, [], ◌∷◌, ◌++◌, ap, sym, ◌∙◌, subst}
+use Rattle.std.proofs.Common.{◌≡◌, ◌-◌, ap, sym, ◌∙◌, subst}
 use Rattle.std.proofs.lemmas.Result.{on_err_weaker, on_ok_weaker}
 use Rattle.set_model.specs.Sets.{TaskSet}
-use Rattle.device_model.specs.Words.{Change}
 use Rattle.device_model.specs.Layouts.{magic_of}
 use Rattle.device_model.specs.Formats.{format_word}
 use Rattle.device_model.specs.Devices.{Device, layout_on, need_on}

@@ -1,4 +1,4 @@
-use Rattle.std.proofs.Common.{◌≡◌, ℕ, ◌/◌, ◌<◌, ◌≤◌, length, arith, ◌∙◌}
+use Rattle.std.proofs.Common.{arith, ◌∙◌}
 use Rattle.device_format.proofs.FirstIndex.{first_record_is, no_record_is}
 use Rattle.device_format.proofs.fresh.first_record.Goals as goal
 

@@ -1,4 +1,4 @@
-use Rattle.std.proofs.Common.{◌≡◌, ℕ, ◌+◌, ◌-◌, ◌*◌, ◌^◌, ◌<◌, ◌≤◌, List, length, slice_index, sum_by, ap, arith, refl, sym, ◌∙◌, subst}
+use Rattle.std.proofs.Common.{◌≡◌, ℕ, ◌+◌, ◌-◌, ◌*◌, ◌<◌, ◌≤◌, List, length, slice_index, sum_by, arith, refl, sym, ◌∙◌, subst}
 use Rattle.std.proofs.lemmas.Result.{on_err_weaker, on_ok_weaker}
 use Rattle.std.specs.Result.{OnErr, OnOk}
 use Rattle.fram_dev.specs.Device.{made_in}
@@ -209,7 +209,7 @@ returns-clause-put g c =
     let both : HasPut w l.pages_at (2 * index_reads l) log1 log2 = pages w (moved_pages set s _ h t m) in
     let slots = movable_slots set s _ h t m in
     let later = objects_later w w l set s l.pages_at (2 * index_reads l) log1 log2 _ _ slots (omega arith) both c.put_pages.ensures.same
-        (objects_later w w l set s p 1 log0 log1 _ _ slots (omega arith) root c.write.ensures.same (moved_objects set s _ h t m)) in
+    (objects_later w w l set s p 1 log0 log1 _ _ slots (omega arith) root c.write.ensures.same (moved_objects set s _ h t m)) in
     on_ok_weaker c.put_moved_objects.result
     (λ k. put_then w p (1 + 2 * index_reads l) (slots_at l) all count log0 log2 log3
     (put_then w p 1 l.pages_at (2 * index_reads l) (1 + 2 * index_reads l) log0 log1 log2 root both (omega arith) refl)
@@ -243,7 +243,7 @@ returns-clause-front g c =
     let both : HasPut w l.pages_at (2 * index_reads l) log1 log2 = pages w (moved_pages set s _ h t m) in
     let slots = movable_slots set s _ h t m in
     let later = objects_later w w l set s l.pages_at (2 * index_reads l) log1 log2 _ _ slots (omega arith) both c.put_pages.ensures.same
-        (objects_later w w l set s p 1 log0 log1 _ _ slots (omega arith) root c.write.ensures.same (moved_objects set s _ h t m)) in
+    (objects_later w w l set s p 1 log0 log1 _ _ slots (omega arith) root c.write.ensures.same (moved_objects set s _ h t m)) in
     on_err_weaker c.put_moved_objects.result
     (λ k. front_then w p (1 + 2 * index_reads l) (slots_at l) all count log0 log2 log3
     (put_then w p 1 l.pages_at (2 * index_reads l) (1 + 2 * index_reads l) log0 log1 log2 root both (omega arith) refl)

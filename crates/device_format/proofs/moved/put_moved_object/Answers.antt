@@ -1,11 +1,9 @@
-use Rattle.std.proofs.Common.{◌≡◌, ℕ, ◌+◌, ◌-◌, ◌*◌, ◌<◌, ◌≤◌, List, length, slice_index, ap, ap₂, arith, refl, sym, ◌∙◌}
+use Rattle.std.proofs.Common.{◌≡◌, ℕ, ◌+◌, ◌-◌, slice_index, ap, arith, refl, ◌∙◌}
 use Rattle.std.proofs.lemmas.Result.{on_err_weaker, on_ok_weaker}
 use Rattle.fram_dev.specs.Device.{made_in}
 use Rattle.set_model.specs.Sets.{ObjPart, object_at}
-use Rattle.device_model.specs.Words.{Words}
-use Rattle.device_model.specs.Layouts.{Layout, Plain, layout_of, need, slot_place, slots_at, slots_words}
+use Rattle.device_model.specs.Layouts.{Layout, Plain, layout_of, slot_place, slots_words}
 use Rattle.device_model.specs.Devices.{Device, layout_on, plain}
-use Rattle.device_model.proofs.ForCallers.{slot_place-high}
 use Rattle.device_format.specs.Moves.{old_words}
 use Rattle.device_format.specs.Shown.{device_in}
 use Rattle.device_format.proofs.Putting.{at_err, front_in, front_then, put_at, put_then, same_places}

@@ -1,4 +1,4 @@
-use Rattle.std.proofs.Common.{◌≡◌, ℕ, ◌+◌, ◌<◌, ◌≤◌, slice_index}
+use Rattle.std.proofs.Common.{◌≡◌, ◌≤◌, slice_index}
 use Rattle.device_model.specs.Words.{Words}
 use Rattle.fram_dev.specs.Device.{made_in}
 use Rattle.device_model.specs.Layouts.{slots_at, words_before}

@@ -1,6 +1,6 @@
-use Rattle.std.proofs.Common.{◌≡◌, ℕ, ◌+◌, ◌*◌, ◌<◌, ◌≤◌, ap₂, arith, refl, sym, ◌∙◌}
+use Rattle.std.proofs.Common.{◌≡◌, ℕ, ◌*◌, ap₂, arith, refl, ◌∙◌}
 use Rattle.std.proofs.lemmas.Result.{on_err_weaker, on_ok_weaker}
-use Rattle.device_model.specs.Layouts.{Layout, copy_place, need}
+use Rattle.device_model.specs.Layouts.{copy_place}
 use Rattle.device_model.specs.IndexWords.{index_word}
 use Rattle.device_model.specs.Devices.{layout_on}
 use Rattle.device_format.specs.Shown.{device_in}

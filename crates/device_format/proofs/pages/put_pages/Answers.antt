@@ -1,6 +1,5 @@
-use Rattle.std.proofs.Common.{◌≡◌, ℕ, ◌+◌, ◌*◌, ◌<◌, ◌≤◌, ap, arith, refl, sym, ◌∙◌}
-use Rattle.std.proofs.lemmas.Nat.{mul-le}
-use Rattle.device_model.specs.Layouts.{Layout, copy_place, index_reads}
+use Rattle.std.proofs.Common.{◌≡◌, ℕ, ◌+◌, ◌*◌, ◌<◌, ap, arith, refl, ◌∙◌}
+use Rattle.device_model.specs.Layouts.{copy_place, index_reads}
 use Rattle.device_model.specs.Devices.{layout_on}
 use Rattle.device_format.specs.Shown.{device_in}
 use Rattle.device_format.proofs.Putting.{at_err, front_then, put_at, put_none, put_then}

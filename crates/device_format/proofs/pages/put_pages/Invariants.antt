@@ -1,4 +1,4 @@
-use Rattle.std.proofs.Common.{◌≡◌, ℕ, ◌+◌, ◌<◌, ◌≤◌, ◌*◌}
+use Rattle.std.proofs.Common.{◌≡◌, ◌≤◌, ◌*◌}
 use Rattle.device_model.specs.Words.{Words}
 use Rattle.device_model.specs.Devices.{layout_on}
 use Rattle.device_format.specs.Fresh.{HasPages}

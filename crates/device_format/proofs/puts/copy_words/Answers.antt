@@ -1,4 +1,4 @@
-use Rattle.std.proofs.Common.{◌≡◌, ◌⊎◌, ⊎_elim, inl, inr, ◌+◌, ◌<◌, List, [], ◌∷◌, ◌++◌, arith, ap, refl, sym, ◌∙◌}
+use Rattle.std.proofs.Common.{⊎_elim, inl, inr, ◌+◌, List, [], ◌∷◌, ◌++◌, arith, ap, refl, sym, ◌∙◌}
 use Rattle.device_model.specs.Words.{Change}
 use Rattle.device_format.proofs.Putting.{at_err, front_more, old_stays, put_more, put_none}
 use Rattle.device_format.proofs.puts.copy_words.Goals as goal

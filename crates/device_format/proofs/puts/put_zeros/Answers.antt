@@ -1,4 +1,4 @@
-use Rattle.std.proofs.Common.{◌≡◌, ◌+◌, ◌<◌, length, arith, refl, sym, ◌∙◌}
+use Rattle.std.proofs.Common.{◌+◌, arith, refl, sym, ◌∙◌}
 use Rattle.device_format.proofs.Putting.{at_err, front_more, put_more, put_none}
 use Rattle.device_format.proofs.puts.put_zeros.Goals as goal
 

@@ -1,7 +1,6 @@
-use Rattle.std.proofs.Common.{◌≡◌, ℕ, ◌+◌, ◌-◌, ◌*◌, ◌<◌, ◌≤◌, List, length, slice_index, ap, ap₂, arith, refl, sym, ◌∙◌}
+use Rattle.std.proofs.Common.{◌≡◌, ℕ, ◌+◌, ◌-◌, List, length, slice_index, ap, arith, refl, ◌∙◌}
 use Rattle.std.proofs.lemmas.Result.{on_err_weaker, on_ok_weaker}
 use Rattle.set_model.specs.Sets.{ObjPart, object_at}
-use Rattle.device_model.specs.Words.{Words}
 use Rattle.device_model.specs.Layouts.{Layout, slot_place, slots_words}
 use Rattle.device_model.specs.Devices.{Device, layout_on}
 use Rattle.device_format.specs.Shown.{device_in}

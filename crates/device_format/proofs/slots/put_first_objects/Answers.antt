@@ -1,6 +1,6 @@
-use Rattle.std.proofs.Common.{◌≡◌, ℕ, ◌+◌, ◌*◌, ◌<◌, ◌≤◌, length, slice_index, sum_by, ap, arith, refl, sym, ◌∙◌}
+use Rattle.std.proofs.Common.{◌≡◌, ◌+◌, ◌<◌, length, sum_by, ap, arith, refl, sym, ◌∙◌}
 use Rattle.set_model.specs.Sets.{object_at}
-use Rattle.device_model.specs.Layouts.{Layout, slot_place, slots_at, slots_words, words_before}
+use Rattle.device_model.specs.Layouts.{slot_place, slots_at, slots_words, words_before}
 use Rattle.device_model.specs.Devices.{layout_on}
 use Rattle.device_model.proofs.ForCallers.{before-zero}
 use Rattle.device_format.specs.Shown.{device_in}

@@ -1,4 +1,4 @@
-use Rattle.std.proofs.Common.{◌≡◌, ℕ, ◌+◌, length, arith, refl, ◌∙◌}
+use Rattle.std.proofs.Common.{◌≡◌, length, arith, refl, ◌∙◌}
 use Rattle.device_model.specs.Migrations.{moved_index}
 use Rattle.shadow_index.specs.States.{index_of}
 use Rattle.device_format.proofs.FirstIndex.{first_slot_is, moved_number_is, moved_record_is}
