@@ -1,5 +1,5 @@
 -- How logs grow by words that are put.
-use Rattle.std.proofs.Common.{◌≡◌, ◌⊎◌, ⊎_elim, inl, inr, ℕ, zero, suc, ◌+◌, ◌<◌, ◌≤◌, List, [], ◌∷◌, ◌++◌, length, set, slice_index, Result, Ok, Err, arith, refl, ap, ap₂, sym, ◌∙◌}
+use Rattle.std.proofs.Common.{◌≡◌, ◌⊎◌, ⊎_elim, inl, inr, ℕ, zero, suc, ◌+◌, ◌<◌, ◌≤◌, List, [], ◌∷◌, ◌++◌, set, slice_index, Result, Ok, Err, arith, refl, ap, ap₂, sym, ◌∙◌}
 use Rattle.std.specs.Result.{OnErr}
 use Rattle.std.proofs.lemmas.List.{append_assoc, append-nil, get_or-set_other}
 use Rattle.fram_dev.specs.Device.{made_in}
@@ -66,10 +66,6 @@ old_stays w p n a b start new q h e l =
 pub at_err : {T E P : Type 0} (r : Result T E) → P → OnErr r P
 at_err (Ok x) p = tt
 at_err (Err e) p = p
-
--- a place stays within words of the same number
-pub shorter : {n : ℕ} {old new : List ℕ} → n ≤ length old → new ≡ old → n ≤ length new
-shorter l e = rw e l
 
 -- ---- the same at other names of the places
 

@@ -39,61 +39,16 @@ fn small_set(rt: &HostRuntime, format: u8) -> Result<Option<TaskSet>, NoMemory> 
     Ok(TaskSet::build(rt.alloc(), parts).ok())
 }
 
+// NVK1 as little-endian bytes
+const MAGIC: u32 = 0x314B_564E;
+
 // all words before a format
 const BEFORE: [u32; 50] = [9; 50];
 
 // the header, the directory and the code; copy 0 of the index; copy 1; both slots of the object
 const FORMATTED: [u32; 50] = [
-    0x314B_564E,
-    1,
-    0,
-    1,
-    1,
-    1,
-    1024,
-    0x201,
-    100,
-    12,
-    115,
-    115,
-    115,
-    115,
-    115,
-    115,
-    115,
-    115,
-    115,
-    115,
-    115,
-    115,
-    0,
-    0,
-    2,
-    0,
-    0,
-    0,
-    0,
-    0,
-    1,
-    0,
-    1,
-    0,
-    7,
-    0,
-    0,
-    0,
-    0,
-    0,
-    0,
-    0,
-    0,
-    0,
-    0,
-    0,
-    0,
-    0,
-    5,
-    0,
+    MAGIC, 1, 0, 1, 1, 1, 1024, 0x201, 100, 12, 115, 115, 115, 115, 115, 115, 115, 115, 115, 115,
+    115, 115, 0, 0, 2, 0, 0, 0, 0, 0, 1, 0, 1, 0, 7, 0, 0, 0, 0, 0, 0, 0, 0, 0, 0, 0, 0, 0, 5, 0,
 ];
 
 // whether a device that is cut at write k, with that write made or not, is untouched, blank or whole

@@ -4,7 +4,7 @@ use Rattle.device_model.specs.Layouts.{copy_place}
 use Rattle.device_model.specs.IndexWords.{index_word}
 use Rattle.device_model.specs.Devices.{layout_on}
 use Rattle.device_format.specs.Shown.{device_in}
-use Rattle.device_format.proofs.Putting.{at_err, at_places, front_in, front_then, put_at, put_then, shorter}
+use Rattle.device_format.proofs.Putting.{at_err, at_places, front_in, front_then, put_at, put_then}
 use Rattle.device_format.proofs.Places.{other_begins, page_begins, page_ends}
 use Rattle.device_format.proofs.pages.put_page.Goals as goal
 
@@ -38,7 +38,8 @@ pub put_zeros-requires-clause-room : goal.put_zeros-requires-clause-room
 put_zeros-requires-clause-room g c =
     let d = device_in c.args.set.now c.args.places.now in
     let l = layout_on d in
-    shorter (omega (arith, c.page_at-2.ensures d c.requires.table c.requires.page, c.page_words-words.ensures d c.requires.table, other_begins l c.args.page, page_ends l c.args.page c.requires.page, c.requires.room)) c.put_index.ensures.same
+    rw c.put_index.ensures.same
+    (omega (arith, c.page_at-2.ensures d c.requires.table c.requires.page, c.page_words-words.ensures d c.requires.table, other_begins l c.args.page, page_ends l c.args.page c.requires.page, c.requires.room))
 
 pub put_zeros-requires-clause-small : goal.put_zeros-requires-clause-small
 put_zeros-requires-clause-small g c =
