@@ -26,7 +26,7 @@ put_in_order f words from n p a b =
 
 -- ---- the word at each place
 
-fresh-root : (l : Layout) (set : TaskSet) (x : Index) (objects : Objects) → fresh_word l set x objects l.root ≡ l.first_root
+pub fresh-root : (l : Layout) (set : TaskSet) (x : Index) (objects : Objects) → fresh_word l set x objects l.root ≡ l.first_root
 unfolding fresh_word
 fresh-root l set x objects = rw (eq-eqb l.root l.root refl) refl
 
@@ -34,16 +34,16 @@ pub fresh-header : (l : Layout) (set : TaskSet) (x : Index) (objects : Objects) 
 unfolding fresh_word
 fresh-header l set x objects j n a = rw (ne_eqb j l.root n, lt-ltb j (first_index set) a) refl
 
-fresh-page : (l : Layout) (set : TaskSet) (x : Index) (objects : Objects) (p : ℕ) → IsLaidOut set l → l.pages_at ≤ p → p < slots_at l → fresh_word l set x objects p ≡ fresh_page_word l x (p - l.pages_at)
+pub fresh-page : (l : Layout) (set : TaskSet) (x : Index) (objects : Objects) (p : ℕ) → IsLaidOut set l → l.pages_at ≤ p → p < slots_at l → fresh_word l set x objects p ≡ fresh_page_word l x (p - l.pages_at)
 unfolding fresh_word
 fresh-page l set x objects p d a b = rw (ne_eqb p l.root (λ e. let f = d.root_first in omega arith), le-ltb p (first_index set) (let f = d.header_first in omega arith), lt-ltb p (slots_at l) b) refl
 
-fresh-slot : (l : Layout) (set : TaskSet) (x : Index) (objects : Objects) (p : ℕ) → IsLaidOut set l → slots_at l ≤ p → fresh_word l set x objects p ≡ fresh_slot_word set.objects objects 0 (p - slots_at l)
+pub fresh-slot : (l : Layout) (set : TaskSet) (x : Index) (objects : Objects) (p : ℕ) → IsLaidOut set l → slots_at l ≤ p → fresh_word l set x objects p ≡ fresh_slot_word set.objects objects 0 (p - slots_at l)
 unfolding fresh_word
 fresh-slot l set x objects p d a = rw (ne_eqb p l.root (λ e. let f = d.root_first in omega arith), le-ltb p (first_index set) (let f = d.header_first in omega arith), le-ltb p (slots_at l) a) refl
 
 -- copy 0 of a page
-page_word : (l : Layout) (x : Index) (page i q : ℕ) → i < l.page_words → q ≡ (2 * page) * l.page_words + i → fresh_page_word l x q ≡ index_word x (page * l.page_words + i)
+pub page_word : (l : Layout) (x : Index) (page i q : ℕ) → i < l.page_words → q ≡ (2 * page) * l.page_words + i → fresh_page_word l x q ≡ index_word x (page * l.page_words + i)
 page_word l x page i q a e =
     let row : q / l.page_words ≡ 2 * page = ap (λ (p : ℕ). p / l.page_words) e ∙ div-mul-add (2 * page) l.page_words i a in
     let rest : q % l.page_words ≡ i = ap (λ (p : ℕ). p % l.page_words) e ∙ mod-mul-add (2 * page) l.page_words i a in
@@ -61,7 +61,7 @@ fresh-index l set x objects i d a =
     ∙ ap (index_word x) (div-add-mod' i l.page_words)
 
 -- slot 0 of an object
-slot_word : (parts : List ObjPart) (none : ObjPart) (objects : Objects) (k o i : ℕ) → o < length parts → i < slots_words (get_or parts o none) → fresh_slot_word parts objects k (words_before parts o + i) ≡ slice_index (object_words objects (k + o)) i
+pub slot_word : (parts : List ObjPart) (none : ObjPart) (objects : Objects) (k o i : ℕ) → o < length parts → i < slots_words (get_or parts o none) → fresh_slot_word parts objects k (words_before parts o + i) ≡ slice_index (object_words objects (k + o)) i
 slot_word [] none objects k o i a b = absurd (omega arith)
 slot_word (p ∷ parts) none objects k zero i a b =
     let e : 0 + i ≡ i = omega arith in let f : k ≡ k + 0 = omega arith in
@@ -78,7 +78,7 @@ two_slots set o h a = (all_at IsObject set.objects _ o h.each_object a).slots.0
 abbrev no_object : ObjPart
 no_object = record { name = []; size = 0; slots = 0; first = [] }
 
-size_fits : (size slots i : ℕ) → 2 ≤ slots → i < size → i < size * slots
+pub size_fits : (size slots i : ℕ) → 2 ≤ slots → i < size → i < size * slots
 size_fits size zero i a b = absurd (omega arith)
 size_fits size (suc slots) i a b = omega arith
 
