@@ -165,3 +165,22 @@ then_root g words job nth word p e l = record {
 
 pub then_done : (g : Course) (words : ℕ → List ℕ) (job : Job) → IsNextPosition g words job Root Done
 then_done g words job = record { left = refl; at = tt }
+
+-- ---- something is left
+
+pub some_left : (g : Course) (words : ℕ → List ℕ) (job : Job) (p : own.Position) → IsPosition g words job p → (rest : List Change) × (left g words job p ≡ first_left g words job p ∷ rest)
+some_left g words job (Object nth word) h =
+    (drop (word + 1) (object_writes g words (drop nth job.objects.items)) ++ (page_writes g job.pages.items ++ root_writes g), (next_behind nth word h))
+  where
+    next_behind : (nth word : ℕ) → IsPosition g words job (Object nth word) → left g words job (Object nth word) ≡ first_left g words job (Object nth word) ∷ (drop (word + 1) (object_writes g words (drop nth job.objects.items)) ++ (page_writes g job.pages.items ++ root_writes g))
+    next_behind nth word h = behind (object_write g words (get_or job.objects.items nth no_object).0 word) (drop word (object_writes g words (drop nth job.objects.items))) (drop (word + 1) (object_writes g words (drop nth job.objects.items))) (page_writes g job.pages.items ++ root_writes g) (object_now g words job.objects.items nth word h.0 h.1)
+some_left g words job (Page nth word) h =
+    (drop (word + 1) (page_writes g (drop nth job.pages.items)) ++ root_writes g, behind (page_write g (get_or job.pages.items nth 0) word) (drop word (page_writes g (drop nth job.pages.items))) (drop (word + 1) (page_writes g (drop nth job.pages.items))) (root_writes g) (page_now g job.pages.items nth word h.0 h.1))
+some_left g words job Root h = ([], refl)
+some_left g words job Done h = absurd h
+
+pub at_from : (g : Course) (words : ℕ → List ℕ) (job : Job) (p : own.Position) → IsLeftFrom g words job p → (p ≡ Done → ⊥) → IsPosition g words job p
+at_from g words job (Object nth word) h n = h
+at_from g words job (Page nth word) h n = h
+at_from g words job Root h n = tt
+at_from g words job Done h n = n refl

@@ -10,7 +10,7 @@ use Rattle.device_model.specs.Layouts.{copy_place, index_reads, slot_place}
 use Rattle.device_model.specs.IndexWords.{index_word}
 use Rattle.device_model.specs.Decoding.{Held}
 use Rattle.device_model.specs.Commits.{Commit, IsNext, next_root, object_changes, page_change}
-use Rattle.device_model.specs.Devices.{Device, IsHeldOn, commit_on, layout_on}
+use Rattle.device_model.specs.Devices.{Device, IsHeldOn, commit_on, committed_on, layout_on}
 use Rattle.shadow_index.specs.Tells.{IsLayoutOf}
 use Rattle.commit_writer.specs.declared.job.Job.{Job}
 use Rattle.commit_writer.specs.declared.position.Position as own
@@ -29,6 +29,10 @@ writes_of g = commit_on g.device g.held g.commit
 -- the root after it
 abbrev pub root_after : Course → ℕ
 root_after g = next_root (layout_on g.device) g.device.set g.held g.commit
+
+-- the state after it
+abbrev pub held_after : Course → Held
+held_after g = committed_on g.device g.held g.commit
 
 -- an object, where there is none
 abbrev pub no_object : ObjId

@@ -1,11 +1,11 @@
 -- How far a writer has come with a commit, and what stands on the device then. This project's own.
-use Rattle.std.specs.Prelude.{◌≡◌, ℕ, ◌≤◌, Bool, List, drop, get_or, length, slice_index}
+use Rattle.std.specs.Prelude.{◌≡◌, ◌⊎◌, ℕ, ◌+◌, ◌≤◌, Bool, List, drop, get_or, length, slice_index}
 use Rattle.set_model.specs.Sets.{TaskSet}
 use Rattle.fram_dev.specs.Device.{made_in}
 use Rattle.device_model.specs.Words.{Change, Words}
-use Rattle.device_model.specs.Devices.{IsUnderWayOn, need_on}
+use Rattle.device_model.specs.Devices.{HoldsOn, IsUnderWayOn, need_on}
 use Rattle.commit_writer.specs.declared.writer.Writer.{Writer}
-use Rattle.commit_writer.specs.Courses.{Course, IsBegun, IsPosition, left, writes_of}
+use Rattle.commit_writer.specs.Courses.{Course, IsBegun, IsPosition, held_after, left, writes_of}
 
 -- write number k of a commit
 abbrev pub write_number : Course → ℕ → Change
@@ -27,3 +27,9 @@ words_in start log = slice_index (made_in log start)
 pub record IsUnderWayIn (g : Course) (count : ℕ) (start : List ℕ) (log : List Change) : Type 0 where
   pub long : need_on g.device ≤ length start
   pub under_way : IsUnderWayOn g.device g.held g.commit count (words_in start log)
+
+-- words hold the state before a commit, or, where its last write was to be made, the state after
+abbrev pub IsBeforeOrAfter : Course → (count : ℕ) → Words → Type 0
+IsBeforeOrAfter g count words =
+    HoldsOn g.device g.held words
+    ⊎ ((count + 1 ≡ length (writes_of g)) × HoldsOn g.device (held_after g) words)

@@ -1,7 +1,8 @@
 //! What a commit writes, as tables that are made once: each of its writes is one look.
 
 ghost use Rattle.std.specs.Prelude.{ℕ, ◌≡◌, ◌<◌, ◌∷◌, List, Bool, get_or, length, slice_index};
-ghost use Rattle.commit_writer.specs.Courses.{Course, IsBegun, IsPosition, IsNextPosition, first_left, left, no_object};
+ghost use Rattle.commit_writer.specs.Courses.{Course, IsBegun, IsPosition, IsNextPosition, first_left, left, no_object, writes_of};
+ghost use Rattle.commit_writer.specs.Rooms.{IsFilled};
 
 use crate::position::Position;
 use nv_base::ObjId;
@@ -34,6 +35,19 @@ pub struct Job {
 }
 
 impl Job {
+    /// The position of the first write.
+    pub(crate) fn first(&self) -> Position
+        ensures { (g : Course) (is_written : ℕ → Bool) (words : ℕ → List ℕ)
+            → IsFilled g is_written words self.now
+            → (writes_of g ≡ left g words self.now result)
+            × IsPosition g words self.now result }
+    {
+        if self.objects.len() > 0 {
+            return Position::Object(0, 0);
+        }
+        Position::Page(0, 0)
+    }
+
     /// The write at a position.
     pub(crate) fn write_at<C: Copies>(&self, copies: &C, position: Position) -> Change
         requires { (g : Course) × IsBegun g (C.is_written copies.now) (C.words copies.now) self.now
@@ -87,7 +101,9 @@ impl Job {
         // that its places fit a word is the device's need
         let _ = self.layout.need();
         let page = self.page(nth);
-        let place = self.layout.page_at(page, 1 - self.layout.copy_of(self.root, page));
+        let place = self
+            .layout
+            .page_at(page, 1 - self.layout.copy_of(self.root, page));
         let i = u32::from(page) * self.layout.page_words() + word;
         (place + word, self.words[i as usize])
     }

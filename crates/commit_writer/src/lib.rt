@@ -1,7 +1,9 @@
 //! A commit, one write at a time, from the words of two states.
 #![tactic(auto)]
 
+mod fill;
 mod job;
+pub mod laws;
 mod position;
 mod writer;
 
