@@ -19,7 +19,7 @@ goes_on g start log (suc k) t u l =
     let a : k < length (writes_of g) = omega arith in
     let fits : (write_number g k).0 < need_on d = every_place (λ c. c.0 < need_on d) (writes_of g) k (commit-low d.set (layout_on d) g.held g.commit (laid_out_set d.kind d.set t) u.under_way.kept.held u.under_way.next) a in
     let e : log ++ take (k + 1) (writes_of g) ≡ (log ++ take k (writes_of g)) ++ write_number g k ∷ [] =
-        ap (λ (x : List Change). log ++ x) (take_more (writes_of g) k (0, 0) a) ∙ sym (append_assoc log (take k (writes_of g)) (write_number g k ∷ [])) in
+    ap (λ (x : List Change). log ++ x) (take_more (writes_of g) k (0, 0) a) ∙ sym (append_assoc log (take k (writes_of g)) (write_number g k ∷ [])) in
     let P : ℕ → Type 0 = λ n. IsUnderWayIn g n start (log ++ take n (writes_of g)) in
     let s : k + 1 ≡ suc k = omega arith in
     subst P s (under_way_more g k start (log ++ take k (writes_of g)) (log ++ take (k + 1) (writes_of g)) v a fits e)

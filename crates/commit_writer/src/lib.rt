@@ -8,3 +8,6 @@ mod position;
 mod writer;
 
 pub use writer::{Turn, Writer};
+
+#[cfg(test)]
+mod tests;
