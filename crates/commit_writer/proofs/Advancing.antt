@@ -1,5 +1,5 @@
 -- One write more of a commit, as a list.
-use Rattle.std.proofs.Common.{◌≡◌, ℕ, zero, suc, ◌+◌, ◌-◌, ◌<◌, ◌≤◌, Bool, true, List, [], ◌∷◌, ◌++◌, drop, get_or, length, refl, ap, sym, ◌∙◌, subst, arith}
+use Rattle.std.proofs.Common.{◌≡◌, ℕ, zero, suc, ◌+◌, ◌<◌, ◌≤◌, Bool, List, [], ◌∷◌, drop, get_or, length, ap, sym, ◌∙◌, arith}
 use Rattle.set_model.specs.Sets.{TaskSet}
 use Rattle.device_model.specs.Words.{Change}
 use Rattle.device_model.specs.Devices.{layout_on, need_on}
@@ -8,8 +8,8 @@ use Rattle.device_model.proofs.InRange.{commit-low}
 use Rattle.commit_writer.specs.declared.job.Job.{Job}
 use Rattle.commit_writer.specs.declared.writer.Writer.{Writer}
 use Rattle.commit_writer.specs.declared.position.Position as own
-use Rattle.commit_writer.specs.declared.position.Position.TheVariants.{Object, Page, Root, Done}
-use Rattle.commit_writer.specs.Courses.{Course, IsBegun, IsLeftFrom, IsNextPosition, IsPosition, first_left, left, writes_of}
+use Rattle.commit_writer.specs.declared.position.Position.TheVariants.{Done}
+use Rattle.commit_writer.specs.Courses.{Course, IsBegun, IsNextPosition, first_left, left, writes_of}
 use Rattle.commit_writer.specs.Turns.{IsWriting, write_number}
 use Rattle.commit_writer.proofs.Left.{at_from, some_left}
 use Rattle.commit_writer.proofs.Tables.{laid_out}

@@ -1,16 +1,14 @@
 -- What the tables of a set's layout keep, and the words of one page.
-use Rattle.std.proofs.Common.{◌≡◌, ℕ, zero, suc, ◌+◌, ◌-◌, ◌*◌, ◌/◌, ◌%◌, ◌<◌, ◌≤◌, Bool, true, false, cond, eqb, leb, not, ◌||◌, ◌&&◌, List, length, refl, ap, ap₂, sym, ◌∙◌, arith}
+use Rattle.std.proofs.Common.{◌≡◌, ℕ, zero, suc, ◌+◌, ◌-◌, ◌*◌, ◌/◌, ◌%◌, ◌<◌, ◌≤◌, Bool, true, false, cond, eqb, leb, not, ◌||◌, ◌&&◌, length, refl, ap, ap₂, sym, ◌∙◌, arith}
 use Rattle.std.proofs.lemmas.Bool.{eq-eqb, ne_eqb, leb-true}
 use Rattle.set_model.specs.Sets.{TaskSet}
-use Rattle.set_model.specs.Numbers.{index_words}
 use Rattle.device_model.specs.Words.{Words}
 use Rattle.device_model.specs.Layouts.{Kind, Plain, Paged, Migrated, Layout, count_pages, index_reads, layout_of, turned_bits}
 use Rattle.device_model.specs.Commits.{differs}
 use Rattle.device_model.specs.Places.{IsLaidOut}
-use Rattle.device_model.specs.Devices.{layout_on}
 use Rattle.device_model.proofs.ForCallers.{laid_out_set}
 use Rattle.device_model.proofs.PlaceLaws.{page_of}
-use Rattle.shadow_index.specs.Tells.{device_of, kind_by}
+use Rattle.shadow_index.specs.Tells.{kind_by}
 use Rattle.commit_writer.specs.declared.job.Job.{Job}
 use Rattle.commit_writer.specs.Rooms.{IsFor, layout_by}
 

@@ -1,5 +1,5 @@
 -- The device's words while a commit is written.
-use Rattle.std.proofs.Common.{◌≡◌, ◌≢◌, ◌⊎◌, inl, inr, ⊎_elim, ℕ, ◌+◌, ◌<◌, ◌≤◌, List, [], ◌∷◌, ◌++◌, Result, Ok, Err, OnErr, OnOk, Some, length, slice_index, take, refl, ap, sym, ◌∙◌, subst, arith}
+use Rattle.std.proofs.Common.{◌≡◌, ◌≢◌, ◌⊎◌, inl, inr, ⊎_elim, ℕ, ◌+◌, ◌<◌, ◌≤◌, List, [], ◌∷◌, ◌++◌, Result, Ok, Err, OnErr, OnOk, Some, length, slice_index, take, ap, sym, ◌∙◌, subst, arith}
 use Rattle.std.proofs.lemmas.Bool.{cases_lt}
 use Rattle.std.proofs.lemmas.List.{take_more}
 use Rattle.kernel_model.specs.Effects.{written}
@@ -7,7 +7,6 @@ use Rattle.set_model.specs.Limits.{IsTaskSet}
 use Rattle.fram_dev.specs.Device.{made_in}
 use Rattle.fram_dev.proofs.MadeIn.{length-made_in, made_in-append}
 use Rattle.device_model.specs.Words.{Change, Words, made, with_word}
-use Rattle.device_model.specs.Decoding.{decode}
 use Rattle.device_model.specs.Devices.{HoldsOn, IsKindOn, IsSlotWord, layout_on, need_on, slot_on}
 use Rattle.device_model.proofs.ForCallers.{cut, ends, keeps_decodes, laid_out_set, made-append}
 use Rattle.device_model.proofs.InRange.{kept-slot}

@@ -1,7 +1,6 @@
 -- What is left of a commit at the next position.
-use Rattle.std.proofs.Common.{◌≡◌, ℕ, zero, suc, ◌+◌, ◌-◌, ◌*◌, ◌<◌, ◌≤◌, Bool, true, List, [], ◌∷◌, ◌++◌, drop, get_or, length, map, slice_index, refl, ap, sym, ◌∙◌, arith}
-use Rattle.std.specs.List.{flat_map}
-use Rattle.std.proofs.Math.Seq.{drop-cons, drop-length}
+use Rattle.std.proofs.Common.{◌≡◌, ℕ, suc, ◌+◌, ◌-◌, ◌*◌, ◌<◌, ◌≤◌, Bool, List, [], ◌∷◌, ◌++◌, drop, get_or, length, slice_index, refl, ap, sym, ◌∙◌, arith}
+use Rattle.std.proofs.Math.Seq.{drop-cons}
 use Rattle.std.proofs.Math.ListN.{get_or-append, drop_of_length-le}
 use Rattle.std.proofs.lemmas.List.{length-append}
 use Rattle.std.proofs.lemmas.List.Concat.{flat_map-cons}
@@ -15,7 +14,7 @@ use Rattle.device_model.proofs.ForCallers.{get-written, length-words_from, lengt
 use Rattle.commit_writer.specs.declared.job.Job.{Job}
 use Rattle.commit_writer.specs.declared.position.Position as own
 use Rattle.commit_writer.specs.declared.position.Position.TheVariants.{Object, Page, Root, Done}
-use Rattle.commit_writer.specs.Courses.{Course, IsBegun, IsLeftFrom, IsNextPosition, IsPosition, first_left, left, no_object, object_write, object_writes, page_write, page_writes, root_writes}
+use Rattle.commit_writer.specs.Courses.{Course, IsLeftFrom, IsNextPosition, IsPosition, first_left, left, no_object, object_write, object_writes, page_write, page_writes, root_writes}
 
 -- ---- one run of words, and what comes behind it
 

@@ -1,12 +1,12 @@
 -- What the tables of a commit say of one object or one page.
-use Rattle.std.proofs.Common.{◌≡◌, ℕ, ◌+◌, ◌-◌, ◌*◌, ◌<◌, ◌≤◌, Bool, true, List, [], get_or, length, slice_index, ap, ap₂, sym, ◌∙◌, subst, arith}
+use Rattle.std.proofs.Common.{◌≡◌, ℕ, ◌+◌, ◌-◌, ◌<◌, Bool, true, List, [], get_or, length, slice_index, ap, ap₂, sym, ◌∙◌, subst, arith}
 use Rattle.nv_base.specs.declared.ids.ObjId.{ObjId}
 use Rattle.nv_base.specs.declared.limits.TheConstants.{MAX_OBJECTS, MAX_SLOTS}
 use Rattle.set_model.specs.Sets.{TaskSet, object_at}
 use Rattle.set_model.specs.Limits.{IsObject}
 use Rattle.set_model.proofs.AtFacts.{all_at}
 use Rattle.set_model.proofs.LimitFacts.{few_objects}
-use Rattle.device_model.specs.Layouts.{copy_place, index_reads, slot_place, slots_at}
+use Rattle.device_model.specs.Layouts.{copy_place, slot_place}
 use Rattle.device_model.specs.Devices.{layout_on, need_on}
 use Rattle.device_model.specs.Places.{IsLaidOut}
 use Rattle.device_model.proofs.ForCallers.{laid_out_set}

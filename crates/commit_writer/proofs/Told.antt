@@ -1,19 +1,18 @@
 -- The tables that a plan and two states fill are those of the commit that they tell.
-use Rattle.std.proofs.Common.{◌≡◌, ℕ, zero, suc, ◌+◌, ◌-◌, ◌*◌, ◌<◌, ◌≤◌, Bool, true, eqb, ◌||◌, List, [], ◌∷◌, ◌++◌, drop, get_or, length, map, slice_index, refl, ap, ap₂, sym, ◌∙◌, subst, arith}
+use Rattle.std.proofs.Common.{◌≡◌, ℕ, ◌+◌, ◌*◌, ◌<◌, ◌≤◌, Bool, true, eqb, ◌||◌, List, [], ◌∷◌, ◌++◌, get_or, length, map, slice_index, refl, ap, ap₂, sym, ◌∙◌, subst, arith}
 use Rattle.std.specs.List.{AllByRecursion}
 use Rattle.std.proofs.lemmas.List.{append_assoc}
 use Rattle.nv_base.specs.declared.ids.ObjId.{ObjId}
 use Rattle.object_sets.specs.ObjectSets.{is_among}
 use Rattle.kernel_model.specs.Effects.{Write}
-use Rattle.set_model.specs.Sets.{TaskSet, object_at}
+use Rattle.set_model.specs.Sets.{TaskSet}
 use Rattle.set_model.specs.Limits.{IsTaskSet}
 use Rattle.set_model.proofs.AtFacts.{all_at}
-use Rattle.device_model.specs.Words.{Change, Words}
+use Rattle.device_model.specs.Words.{Change}
 use Rattle.device_model.specs.Layouts.{index_reads}
 use Rattle.device_model.specs.IndexWords.{Index, index_word}
 use Rattle.device_model.specs.Decoding.{Held}
 use Rattle.device_model.specs.Commits.{Commit, commit_writes, differs, is_changed, names_slot, object_changes}
-use Rattle.device_model.specs.Devices.{layout_on}
 use Rattle.device_model.proofs.ForCallers.{laid_out_set}
 use Rattle.shadow_index.specs.declared.plan.Plan.{Plan}
 use Rattle.shadow_index.specs.declared.state.State.{State}
@@ -21,8 +20,8 @@ use Rattle.shadow_index.specs.States.{word_of}
 use Rattle.shadow_index.specs.Tells.{kind_by}
 use Rattle.commit_writer.specs.declared.job.Job.{Job}
 use Rattle.commit_writer.specs.declared.position.Position.TheVariants.{Object, Page}
-use Rattle.commit_writer.specs.Courses.{Course, IsBegun, IsCopied, IsPosition, left, no_object, object_writes, page_writes, root_writes, writes_of}
-use Rattle.commit_writer.specs.Lists.{is_page_changed, names_object, objects_by, pages_by}
+use Rattle.commit_writer.specs.Courses.{Course, IsCopied, IsPosition, left, no_object, object_writes, page_writes, root_writes, writes_of}
+use Rattle.commit_writer.specs.Lists.{names_object, objects_by}
 use Rattle.commit_writer.specs.Rooms.{IsFilled, IsTabled, IsTold, changed_by, course_of, layout_by}
 use Rattle.commit_writer.proofs.Fields.{differs_within, flipped_same, page_end}
 use Rattle.commit_writer.proofs.Lists.{each_page, each_written, names_are, pages_are, some_first, writes_are}

@@ -1,5 +1,5 @@
 -- A commit on a device, and what a writer has left of it. This project's own.
-use Rattle.std.specs.Prelude.{◌≡◌, ℕ, ◌+◌, ◌-◌, ◌*◌, ◌<◌, ◌≤◌, Bool, true, List, [], ◌∷◌, ◌++◌, drop, get_or, length, map, slice_index}
+use Rattle.std.specs.Prelude.{◌≡◌, ℕ, ◌+◌, ◌-◌, ◌*◌, ◌<◌, Bool, true, List, [], ◌∷◌, ◌++◌, drop, get_or, length, map, slice_index}
 use Rattle.std.specs.List.{flat_map}
 use Rattle.nv_base.specs.declared.ids.ObjId.{ObjId}
 use Rattle.kernel_model.specs.Effects.{Write}

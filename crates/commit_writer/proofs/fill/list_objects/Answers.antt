@@ -1,7 +1,5 @@
-use Rattle.std.proofs.Common.{◌≡◌, ◌<◌, ◌≤◌, ◌+◌, ◌-◌, ◌++◌, ℕ, List, arith, ap, sym, ◌∙◌, vec_len, vec_capacity}
+use Rattle.std.proofs.Common.{◌++◌, List, arith, ap, sym, ◌∙◌}
 use Rattle.nv_base.specs.declared.ids.ObjId.{ObjId}
-use Rattle.object_sets.specs.ObjectSets.{is_among}
-use Rattle.commit_writer.specs.Lists.{objects_by}
 use Rattle.commit_writer.proofs.Lists.{object_passed, object_taken}
 use Rattle.commit_writer.proofs.fill.list_objects.Goals as goal
 use Rattle.commit_writer.proofs.fill.list_objects.Goals.{then-has, else-has}

@@ -1,4 +1,4 @@
-use Rattle.std.proofs.Common.{◌≡◌, ◌<◌, ◌≤◌, ◌+◌, ◌-◌, ◌++◌, ℕ, List, arith, ap, sym, ◌∙◌, vec_len, vec_capacity}
+use Rattle.std.proofs.Common.{◌+◌, ◌-◌, ◌++◌, ℕ, List, arith, ap, sym, ◌∙◌}
 use Rattle.commit_writer.specs.Lists.{marked, pages_by}
 use Rattle.commit_writer.proofs.Lists.{page_passed, page_taken}
 use Rattle.commit_writer.proofs.fill.list_pages.Goals as goal

@@ -1,4 +1,4 @@
-use Rattle.std.proofs.Common.{◌≡◌, ◌+◌, ◌^◌, ◌<◌, arith}
+use Rattle.std.proofs.Common.{◌^◌, ◌<◌, arith}
 use Rattle.commit_writer.proofs.Turned.{has_room}
 use Rattle.commit_writer.proofs.fill.turn_bit.Goals as goal
 

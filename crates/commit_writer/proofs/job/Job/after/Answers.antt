@@ -1,4 +1,4 @@
-use Rattle.std.proofs.Common.{◌≡◌, sym, subst}
+use Rattle.std.proofs.Common.{sym, subst}
 use Rattle.commit_writer.specs.declared.position.Position as own
 use Rattle.commit_writer.specs.Courses.{IsNextPosition, IsPosition}
 use Rattle.commit_writer.proofs.job.Job.after.Goals as goal

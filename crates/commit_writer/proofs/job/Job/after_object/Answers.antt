@@ -1,5 +1,4 @@
-use Rattle.std.proofs.Common.{◌≡◌, ◌+◌, ◌<◌, ◌≤◌, get_or, length, arith}
-use Rattle.device_model.specs.Devices.{layout_on}
+use Rattle.std.proofs.Common.{◌≡◌, ◌+◌, ◌<◌, get_or, length, arith}
 use Rattle.commit_writer.specs.Courses.{no_object}
 use Rattle.commit_writer.proofs.Left.{first_page, next_object, next_object_word}
 use Rattle.commit_writer.proofs.Tables.{sized, some_size, some_words}

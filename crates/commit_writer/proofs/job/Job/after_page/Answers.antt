@@ -1,4 +1,4 @@
-use Rattle.std.proofs.Common.{◌≡◌, ◌+◌, ◌<◌, ◌≤◌, length, arith}
+use Rattle.std.proofs.Common.{◌≡◌, ◌+◌, arith}
 use Rattle.device_model.specs.Devices.{layout_on}
 use Rattle.commit_writer.proofs.Left.{next_page, next_page_word, then_root}
 use Rattle.commit_writer.proofs.Tables.{some_words}

@@ -1,4 +1,4 @@
-use Rattle.std.proofs.Common.{◌≡◌, ℕ, ◌+◌, ◌-◌, ◌*◌, ◌<◌, ◌≤◌, length, slice_index, arith, ap, ap₂, sym, ◌∙◌}
+use Rattle.std.proofs.Common.{◌≡◌, ℕ, ◌+◌, ◌-◌, ◌*◌, ◌<◌, ◌≤◌, length, slice_index, arith, ap₂, sym, ◌∙◌}
 use Rattle.shadow_index.specs.Tells.{device_of}
 use Rattle.commit_writer.specs.Rooms.{layout_by}
 use Rattle.shadow_index.specs.States.{word_of}

@@ -1,4 +1,4 @@
-use Rattle.std.proofs.Common.{◌≡◌, ℕ, ◌+◌, ◌<◌, ◌≤◌, Bool, length, slice_index, refl, ap, sym, ◌∙◌, subst, arith}
+use Rattle.std.proofs.Common.{◌≡◌, ℕ, ◌+◌, ◌<◌, Bool, length, slice_index, refl, ap, ◌∙◌, subst, arith}
 use Rattle.object_sets.specs.ObjectSets.{is_among}
 use Rattle.device_model.specs.Layouts.{index_reads}
 use Rattle.shadow_index.specs.States.{word_of}

@@ -1,4 +1,4 @@
-use Rattle.std.proofs.Common.{◌≡◌, ◌<◌, ◌≤◌, [], length, arith}
+use Rattle.std.proofs.Common.{arith}
 use Rattle.commit_writer.proofs.Told.{first_object, first_page_of, none_of}
 use Rattle.commit_writer.proofs.job.Job.first.Goals as goal
 

@@ -1,9 +1,9 @@
-use Rattle.std.proofs.Common.{◌≡◌, ◌<◌, ◌≤◌, ◌+◌, ◌/◌, ℕ, List, false, get_or, length, rules, arith, ap, ap₂, sym, ◌∙◌}
+use Rattle.std.proofs.Common.{◌≡◌, ◌<◌, ◌≤◌, ◌+◌, ◌/◌, ℕ, List, false, get_or, length, rules, arith, ap, ap₂, ◌∙◌}
 use Rattle.std.proofs.lemmas.List.{get_or-replicate, take_all}
 use Rattle.nv_base.specs.declared.ids.ObjId.{ObjId}
 use Rattle.shadow_index.specs.Tells.{device_of}
 use Rattle.commit_writer.specs.Courses.{no_object}
-use Rattle.commit_writer.specs.Lists.{marked, names_object}
+use Rattle.commit_writer.specs.Lists.{names_object}
 use Rattle.commit_writer.proofs.Fields.{few_pages, laid_out_by, page_of_slot}
 use Rattle.commit_writer.proofs.job.Job.named_pages.Goals as goal
 

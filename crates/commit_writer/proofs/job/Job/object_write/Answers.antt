@@ -1,7 +1,7 @@
-use Rattle.std.proofs.Common.{◌≡◌, ℕ, ◌+◌, ◌<◌, length, get_or, slice_index, ap, ap₂, sym, ◌∙◌, arith}
+use Rattle.std.proofs.Common.{ℕ, ◌+◌, slice_index, ap, ap₂, ◌∙◌, arith}
 use Rattle.nv_base.specs.declared.ids.ObjId.{ObjId}
 use Rattle.device_model.specs.Words.{Change}
-use Rattle.commit_writer.proofs.Tables.{few_numbers, few_slots, object_place, slot_word_fits}
+use Rattle.commit_writer.proofs.Tables.{object_place, slot_word_fits}
 use Rattle.commit_writer.proofs.job.Job.object_write.Goals as goal
 
 pub overflow_add-result : goal.overflow_add-result

@@ -1,4 +1,4 @@
-use Rattle.std.proofs.Common.{◌≡◌, ◌+◌, ◌<◌, arith}
+use Rattle.std.proofs.Common.{arith}
 use Rattle.commit_writer.proofs.Tables.{page_place, page_word_fits}
 use Rattle.commit_writer.proofs.job.Job.page_write.Goals as goal
 

@@ -1,4 +1,4 @@
-use Rattle.std.proofs.Common.{◌≤◌, arith}
+use Rattle.std.proofs.Common.{arith}
 use Rattle.shadow_index.specs.Tells.{device_of}
 use Rattle.commit_writer.proofs.job.Job.room.Goals as goal
 

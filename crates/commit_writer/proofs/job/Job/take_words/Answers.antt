@@ -1,4 +1,4 @@
-use Rattle.std.proofs.Common.{◌≡◌, ◌<◌, ◌≤◌, length, arith}
+use Rattle.std.proofs.Common.{arith}
 use Rattle.shadow_index.specs.Tells.{device_of}
 use Rattle.commit_writer.proofs.Fields.{same_reads}
 use Rattle.commit_writer.proofs.job.Job.take_words.Goals as goal

@@ -1,4 +1,4 @@
-use Rattle.std.proofs.Common.{◌≡◌, ℕ, ◌+◌, ◌*◌, ◌^◌, ap, sym, ◌∙◌}
+use Rattle.std.proofs.Common.{ℕ, ◌+◌, ◌*◌, ◌^◌, ap, sym, ◌∙◌}
 use Rattle.device_model.specs.Layouts.{bit}
 use Rattle.commit_writer.specs.Lists.{marked}
 use Rattle.commit_writer.proofs.Turned.{turned_passed, turned_taken}

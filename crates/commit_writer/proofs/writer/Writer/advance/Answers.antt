@@ -1,7 +1,5 @@
-use Rattle.std.proofs.Common.{◌≡◌, ℕ, ◌+◌, ⊎_elim, inl, inr, List, [], ◌∷◌, ◌++◌, ap, sym, ◌∙◌, rules}
+use Rattle.std.proofs.Common.{⊎_elim, inl, inr, [], ◌∷◌, ◌++◌, ap, ◌∙◌, rules}
 use Rattle.device_model.specs.Words.{Change}
-use Rattle.commit_writer.specs.Courses.{Course}
-use Rattle.commit_writer.specs.Turns.{IsWriting}
 use Rattle.commit_writer.proofs.Advancing.{looked_up_fits, then_done, then_writing, write_is}
 use Rattle.commit_writer.proofs.Images.{on_err}
 use Rattle.commit_writer.proofs.writer.Writer.advance.Goals as goal

@@ -1,4 +1,4 @@
-use Rattle.std.proofs.Common.{◌≡◌, refl}
+use Rattle.std.proofs.Common.{refl}
 use Rattle.commit_writer.specs.Rooms.{course_of}
 use Rattle.commit_writer.proofs.Told.{tables_are_told}
 use Rattle.commit_writer.proofs.writer.Writer.begin.Goals as goal

@@ -1,9 +1,8 @@
-use Rattle.std.proofs.Common.{◌≡◌, ◌⊎◌, inl, inr, ℕ, ◌+◌, ◌≤◌, List, [], ◌∷◌, ◌++◌, OnOk, OnErr, length, sym, ◌∙◌, subst, arith}
-use Rattle.device_model.specs.Words.{Change, Words}
+use Rattle.std.proofs.Common.{◌≡◌, ◌⊎◌, inr, ℕ, ◌+◌, ◌≤◌, List, [], ◌∷◌, ◌++◌, length, sym, subst, arith}
 use Rattle.device_model.specs.Devices.{HoldsOn, slot_on}
 use Rattle.commit_writer.specs.declared.writer.Turn.TheVariants as turn
-use Rattle.commit_writer.specs.Courses.{Course, held_after, writes_of}
-use Rattle.commit_writer.specs.Turns.{IsBeforeOrAfter, IsUnderWayIn, IsWriting, words_in, write_number}
+use Rattle.commit_writer.specs.Courses.{held_after, writes_of}
+use Rattle.commit_writer.specs.Turns.{IsBeforeOrAfter, IsUnderWayIn, words_in, write_number}
 use Rattle.commit_writer.proofs.Advancing.{some_more, write_fits}
 use Rattle.commit_writer.proofs.Images.{either_way, err_then, holds_after, holds_before, holds_one, of_ok, ok_then, slot_stays, under_way_more}
 use Rattle.commit_writer.proofs.writer.Writer.turn.Goals as goal
