@@ -83,7 +83,8 @@ impl Job {
         requires state { IsStateOf set.now after.now }
         ensures set { IsFor set.now self.new }
         ensures rest { self.new ≡ record self.old { words = self.new.words } }
-        ensures long { length self.new.words.items ≡ index_reads (layout_by set.now self.old.shift) }
+        ensures long { length self.new.words.items
+            ≡ index_reads (layout_by set.now self.old.shift) }
         ensures words { (i : ℕ) → i < index_reads (layout_by set.now self.old.shift)
             → slice_index self.new.words.items i ≡ word_of after.now i }
     {
@@ -99,7 +100,8 @@ impl Job {
         requires objects { (k : ℕ) → k < length self.now.objects.items
             → (get_or self.now.objects.items k no_object).0 < length set.now.objects }
         ensures { (page : ℕ) → page < MAX_PAGES → marked result page
-            ≡ names_object (layout_by set.now self.now.shift).page_words self.now.objects.items page }
+            ≡ names_object (layout_by set.now self.now.shift).page_words
+            self.now.objects.items page }
     {
         let words = self.layout.page_words();
         let mut named = [false; MAX_PAGES];
@@ -113,7 +115,8 @@ impl Job {
     fn differs(&self, set: &TaskSet, before: &State, page: u8) -> bool
         requires set { IsFor set.now self.now }
         requires state { IsStateOf set.now before.now }
-        requires long { length self.now.words.items ≡ index_reads (layout_by set.now self.now.shift) }
+        requires long { length self.now.words.items
+            ≡ index_reads (layout_by set.now self.now.shift) }
         requires page { page < (layout_by set.now self.now.shift).pages }
         ensures { let words = (layout_by set.now self.now.shift).page_words in result
             ≡ differs (9 + length set.now.objects) (word_of before.now)
@@ -133,7 +136,8 @@ impl Job {
     fn changed_pages(&self, set: &TaskSet, before: &State) -> Marks
         requires set { IsFor set.now self.now }
         requires state { IsStateOf set.now before.now }
-        requires long { length self.now.words.items ≡ index_reads (layout_by set.now self.now.shift) }
+        requires long { length self.now.words.items
+            ≡ index_reads (layout_by set.now self.now.shift) }
         requires objects { (k : ℕ) → k < length self.now.objects.items
             → (get_or self.now.objects.items k no_object).0 < length set.now.objects }
         ensures { (page : ℕ) → page < (layout_by set.now self.now.shift).pages

@@ -88,7 +88,8 @@ impl Writer {
         // The writer stands for one write more, or the write was the commit's last.
         ensures wrote { result ≡ Ok Turn.Wrote → (g : Course) (count : ℕ)
             → IsWriting set.now g (C.is_written copies.now) (C.words copies.now) count self.old
-            → IsWriting set.now g (C.is_written copies.now) (C.words copies.now) (count + 1) self.new
+            → IsWriting set.now g (C.is_written copies.now) (C.words copies.now) (count + 1)
+            self.new
             × (count + 1 < length (writes_of g)) }
         ensures flipped { result ≡ Ok Turn.Flipped → (g : Course) (count : ℕ)
             → IsWriting set.now g (C.is_written copies.now) (C.words copies.now) count self.old
@@ -148,7 +149,8 @@ impl Writer {
         ensures never_falls { F.lost dev.old ≤ F.lost dev.new }
         ensures wrote { result ≡ Ok Turn.Wrote → (g : Course) (count : ℕ)
             → IsWriting set.now g (C.is_written copies.now) (C.words copies.now) count self.old
-            → IsWriting set.now g (C.is_written copies.now) (C.words copies.now) (count + 1) self.new
+            → IsWriting set.now g (C.is_written copies.now) (C.words copies.now) (count + 1)
+            self.new
             × (count + 1 < length (writes_of g)) }
         ensures flipped { result ≡ Ok Turn.Flipped → (g : Course) (count : ℕ)
             → IsWriting set.now g (C.is_written copies.now) (C.words copies.now) count self.old
