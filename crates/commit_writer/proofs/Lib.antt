@@ -1,0 +1,9 @@
+pub mod Left
+pub mod Tables
+pub mod Advancing
+pub mod Images
+pub mod Lists
+pub mod Fields
+pub mod Turned
+pub mod Told
+pub mod Whole
