@@ -40,12 +40,19 @@ fn answers(
 
 /// What the smallest run puts, between its first line and its finish's kind, and behind.
 const START: &str = "start core 0 task 1 at 0\n";
-const FINISH: &str = " 1 task 1 point 1 exit 0 first 2\nend clock 1 number 1 next 2 boots 0\nobject x 12\ndone\n";
+
+const FINISH: &str =
+    " 1 task 1 point 1 exit 0 first 2\nend clock 1 number 1 next 2 boots 0\nobject x 12\ndone\n";
+
 const OPEN: &str = "end clock 0 number 0 next 2 boots 0\nobject x 5\nopen 1 add 7\ndone\n";
 
 #[test]
 fn smallest_runs_are_done(rt: HostRuntime) -> Result<(), Fail> {
-    for (steps, word, end) in [(40, "finish", FINISH), (30, "found", FINISH), (29, "", OPEN)] {
+    for (steps, word, end) in [
+        (40, "finish", FINISH),
+        (30, "found", FINISH),
+        (29, "", OPEN),
+    ] {
         let text = format!(in rt.alloc(); "{ADDING_SET}task add 7\nsteps 0*{steps}\nrun\n")?;
         let expected = format!(in rt.alloc(); "{START}{word}{end}")?;
         assert!(rt; answers(&rt, &["run"], text.as_str(), 0, expected.as_str())?);
@@ -61,8 +68,24 @@ fn other_inputs_and_words_are_named(rt: HostRuntime) -> Result<(), Fail> {
     assert!(rt; answers(&rt, &["run"], TWO, 11, "error notbuilt\n")?);
     assert!(rt; answers(&rt, &["run"], "", 3, "error script 1 end\n")?);
     assert!(rt; answers(&rt, &["pack"], "nvk 3\n", 3, "error script 1 range\n")?);
-    assert!(rt; answers(&rt, &["asm"], "foo a0\n", 3, "error script 1 code mnemonic\n")?);
-    assert!(rt; answers(&rt, &["asm"], "li a0, 0x7FFFF800\n", 0, "80000537\n80050513\n")?);
+    assert!(rt;
+        answers(
+            &rt,
+            &["asm"],
+            "foo a0\n",
+            3,
+            "error script 1 code mnemonic\n"
+        )?
+    );
+    assert!(rt;
+        answers(
+            &rt,
+            &["asm"],
+            "li a0, 0x7FFFF800\n",
+            0,
+            "80000537\n80050513\n"
+        )?
+    );
     assert!(rt; answers(&rt, &["dis"], "NVK", 3, "error packed 0\n")?);
     assert!(rt; answers(&rt, &[], "", 2, "error usage\n")?);
     assert!(rt; answers(&rt, &["run", "now"], "", 2, "error usage\n")?);
