@@ -9,3 +9,4 @@ pub mod Told
 pub mod Whole
 pub mod Finishing
 pub mod NextState
+pub mod FirstCommit
