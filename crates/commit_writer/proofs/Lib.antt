@@ -7,3 +7,6 @@ pub mod Fields
 pub mod Turned
 pub mod Told
 pub mod Whole
+pub mod Finishing
+pub mod NextState
+pub mod FirstCommit

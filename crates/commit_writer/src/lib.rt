@@ -1,6 +1,7 @@
 //! A commit, one write at a time, from the words of two states.
 #![tactic(auto)]
 
+pub mod after;
 mod fill;
 mod job;
 pub mod laws;

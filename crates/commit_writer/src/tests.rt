@@ -3,6 +3,8 @@
 ghost use Rattle.std.specs.Prelude.{◌≡◌, IfOk};
 ghost use Rattle.commit_writer.specs.Rooms.{IsStateOf};
 
+mod cut;
+
 use super::*;
 use crate::job::Job;
 use nv_base::limits::MAX_OBJECTS;

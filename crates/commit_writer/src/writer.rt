@@ -29,7 +29,7 @@ impl Writer {
     ghost use Rattle.nv_base.specs.Streams.{FaultCounted};
     ghost use Rattle.kernel_model.specs.Effects.{written};
     ghost use Rattle.device_model.specs.Devices.{HoldsOn, IsKindOn, IsSlotWord, need_on, slot_on};
-    ghost use Rattle.commit_writer.specs.Courses.{Course, held_after, writes_of};
+    ghost use Rattle.commit_writer.specs.Courses.{Course, IsBegun, held_after, root_after, writes_of};
     ghost use Rattle.device_model.specs.Decoding.{Held};
     ghost use Rattle.device_model.specs.Commits.{Commit};
     ghost use Rattle.shadow_index.specs.Tells.{IsShift};
@@ -125,6 +125,14 @@ impl Writer {
             ≡ words_in (F.start dev.old) (F.log dev.old) (slot_on g.device o slot i) }
     {
         self.advance(dev, set, copies)
+    }
+
+    /// The root after the commit that was begun: that of the state after it, once its last write is made.
+    pub fn next_root(&self) -> u32
+        ensures { (g : Course) (is_written : ℕ → Bool) (words : ℕ → List ℕ)
+            → IsBegun g is_written words self.now.job → result ≡ root_after g }
+    {
+        self.job.next_root
     }
 
     // The same, as far as the log and the writer go.

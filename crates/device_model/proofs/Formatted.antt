@@ -17,7 +17,7 @@ use Rattle.device_model.proofs.Fresh.{first_slot, fresh-header, fresh_keeps, put
 
 -- ---- the state
 
-formatted_fits : (set : TaskSet) (l : Layout) → IsLaidOut set l → IsTaskSet set → IsHeld set l (formatted_held l set)
+pub formatted_fits : (set : TaskSet) (l : Layout) → IsLaidOut set l → IsTaskSet set → IsHeld set l (formatted_held l set)
 formatted_fits set l d t =
     let b = formatted_is_base set t in record {
       index = record {
