@@ -10,7 +10,9 @@ use Rattle.kernel_model.specs.Replay.{DeviceState, TaskRec, task_under}
 use Rattle.kernel_model.specs.OpenTasks.{children, others_than}
 use Rattle.kernel_model.specs.History.{IsNumbered}
 use Rattle.kernel_model.specs.Fit.{IsWrite}
-use Rattle.kernel_model.proofs.ForCallers.{length-children, open_old, open_order, open_positive, open_programs, task_under-below, written-size}
+use Rattle.kernel_model.proofs.ForCallers.{length-children, open_order, written-size}
+use Rattle.kernel_model.proofs.OpenLaws.{open_old, open_positive, open_programs}
+use Rattle.kernel_model.proofs.Theorem.{task_under-below}
 use Rattle.set_model.specs.Sets.{TaskSet, object_at}
 use Rattle.set_model.specs.Numbers.{sizes_of}
 use Rattle.device_model.specs.IndexWords.{Index, IsIndex, base_of}

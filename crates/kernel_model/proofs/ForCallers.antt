@@ -4,9 +4,9 @@ pub use Rattle.kernel_model.proofs.Insertion.{object_words-put}
 pub use Rattle.kernel_model.proofs.VersionLaws.{EndsBy, ends_by, length-after_history, length-put_from, newest_words, put-seen, tops, object_words-put_written, written_by}
 pub use Rattle.kernel_model.proofs.Points.{found, last_touch-clock, start_lo}
 pub use Rattle.kernel_model.proofs.Ordered.{lawful_of}
-pub use Rattle.kernel_model.proofs.Theorem.{clock_base, history_added, task_under-below}
+pub use Rattle.kernel_model.proofs.Theorem.{clock_base, history_added}
 pub use Rattle.kernel_model.proofs.RunFacts.{base-sized, fit-runs, history-runs, next_id-bound, with_write-all, written-size, written-with_write}
-pub use Rattle.kernel_model.proofs.OpenLaws.{children_order, children_programs, length-children, length-open_tasks, open_old, open_order, open_positive, open_programs}
+pub use Rattle.kernel_model.proofs.OpenLaws.{children_order, children_programs, length-children, length-open_tasks, open_order}
 pub use Rattle.kernel_model.proofs.Soundness.{still_open}
 pub use Rattle.kernel_model.proofs.CoreLaws.{IsAfter, as_before, core_at, durable_commit-idle, durable_commit-none, durable_commit-one, durable_commit-set, finishes, get_or-idle, get_or-replicate_idle, no_commit, no_core, others_commit, run_gives, turned_now, word_gives}
 pub use Rattle.kernel_model.proofs.StepLaws.{all_sound, history-step, next_sound, opened_sound, sound-ids}
