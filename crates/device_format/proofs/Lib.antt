@@ -7,3 +7,4 @@ pub mod Moving
 pub mod MovedWords
 pub mod FormatLogs
 pub mod Images
+pub mod ForCallers
