@@ -18,4 +18,6 @@ pub use reading::{read_object, read_state};
 pub use refusals::{BootRefusal, BootTurn, MigrateRefusal};
 
 #[cfg(test)]
+mod migration_tests;
+#[cfg(test)]
 mod tests;
