@@ -5,3 +5,4 @@ pub mod WholeRead
 pub mod ShiftLaws
 pub mod BootCounts
 pub mod ObjectRead
+pub mod MovedState

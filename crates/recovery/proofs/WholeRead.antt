@@ -1,5 +1,6 @@
 -- All words are read.
-use Rattle.std.proofs.Common.{◌≡◌, ℕ, ◌+◌, ◌-◌, ◌<◌, ◌≤◌, List, [], ◌∷◌, ◌++◌, length, arith, ap, sym, ◌∙◌, subst}
+use Rattle.std.proofs.Common.{◌≡◌, ℕ, ◌+◌, ◌-◌, ◌<◌, ◌≤◌, List, [], ◌∷◌, ◌++◌, length, Result, Ok, Err, arith, ap, sym, ◌∙◌, subst}
+use Rattle.std.specs.Result.{OnOk}
 use Rattle.set_model.specs.Sets.{TaskSet}
 use Rattle.device_model.specs.Words.{Change, Words}
 use Rattle.device_model.specs.Layouts.{kind_named, reads}
@@ -41,6 +42,12 @@ whole_read set words r into own h e =
       moved = subst (IsShift set) (sym h.shift) shift.0;
       device = ap (device_of set) h.shift ∙ shift.1;
     }
+
+-- the same, where it was read by words that are these
+pub whole_on_ok : {T E : Type 0} (set : TaskSet) (words now : Words) (result : Result T E) (r : Reader) (into : State) → IsOwn set words → now ≡ words → OnOk result (HasRead (device_at set now) now r into) → OnOk result (r.count ≡ reads (layout_on (device_at set now))) → OnOk result (IsRead set words into)
+whole_on_ok set words now (Ok x) r into own e h n =
+    whole_read set words r into own (subst (λ (w : Words). HasRead (device_at set w) w r into) e h) (n ∙ ap (λ (w : Words). reads (layout_on (device_at set w))) e)
+whole_on_ok set words now (Err x) r into own e h n = tt
 
 -- devices of this kind are looked for
 pub kind_read : (d : Device) (words : Words) (r : Reader) (into : State) → HasRead d words r into → IsKindOn d

@@ -2,3 +2,4 @@
 pub mod Images
 pub mod Reading
 pub mod Booting
+pub mod Migrating

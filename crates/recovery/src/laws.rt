@@ -4,9 +4,9 @@ ghost use Rattle.std.specs.Prelude.{◌≡◌};
 ghost use Rattle.set_model.specs.Sets.{TaskSet};
 ghost use Rattle.set_model.specs.Limits.{IsTaskSet};
 ghost use Rattle.device_model.specs.Words.{Words};
-ghost use Rattle.device_model.specs.Layouts.{reads};
+ghost use Rattle.device_model.specs.Layouts.{Migrated, magic_of, reads};
 ghost use Rattle.device_model.specs.Decoding.{Held};
-ghost use Rattle.device_model.specs.Devices.{Device, HoldsOn, held_on, layout_on};
+ghost use Rattle.device_model.specs.Devices.{Device, HoldsOn, held_on, layout_on, migrated};
 ghost use Rattle.shadow_index.specs.Tells.{IsShift, device_of};
 ghost use Rattle.shadow_index.specs.declared.state.State.{State};
 ghost use Rattle.recovery.specs.declared.reader.Reader.{Reader};
@@ -41,4 +41,11 @@ pub fn shift_tells_device()
 pub fn unmoved_words_are_first_device()
     ensures { (set : TaskSet) (words : Words) → IsTaskSet set
         → IsUnmoved set words → device_at set words ≡ device_of set 0 }
+{}
+
+/// Words that a migration leaves are those of a device of format 2 behind the words of format 1.
+pub fn moved_words_are_migrated_device()
+    ensures own { (set : TaskSet) (words : Words) → words 0 ≡ magic_of Migrated → IsOwn set words }
+    ensures device { (set : TaskSet) (words : Words) → set.format ≡ 2
+        → words 0 ≡ magic_of Migrated → device_at set words ≡ migrated set }
 {}

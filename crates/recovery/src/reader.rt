@@ -1,8 +1,9 @@
 //! The words of a device, read one by one.
 
 ghost use Rattle.std.specs.Prelude.{◌≡◌, ◌+◌, ◌-◌, ◌<◌, ◌≤◌, ◌==◌, IfErr, OnOk, length};
-ghost use Rattle.device_model.specs.Layouts.{kind_named, reads};
-ghost use Rattle.device_model.specs.Devices.{Device, layout_on, need_on};
+ghost use Rattle.device_model.specs.Words.{Words};
+ghost use Rattle.device_model.specs.Layouts.{Plain, kind_named, magic_of, reads};
+ghost use Rattle.device_model.specs.Devices.{Device, layout_on, need_on, plain};
 ghost use Rattle.shadow_index.specs.States.{HasRoom, HasTaken};
 ghost use Rattle.shadow_index.specs.Tells.{IsLayoutOf, device_by, device_of};
 ghost use Rattle.recovery.specs.Images.{device_at, words_of};
@@ -31,6 +32,22 @@ impl Reader {
         Reader {
             layout: Layout::of(set, 0),
             count: 0,
+        }
+    }
+
+    /// Word 0 was read, and it names format 1.
+    pub fn begin_plain(set: &TaskSet, into: &mut State) -> Reader
+        requires { HasTaken set.now 0 into.old }
+        ensures read { (words : Words) → words 0 ≡ magic_of Plain
+            → HasRead (plain set.now) words result into.new }
+        ensures one { result.count ≡ 1 }
+    {
+        // that the set keeps its limits
+        let _ = set.format();
+        into.shift = 0;
+        Reader {
+            layout: Layout::of_kind(set, DeviceKind::Plain),
+            count: 1,
         }
     }
 

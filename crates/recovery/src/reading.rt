@@ -5,11 +5,12 @@ ghost use Rattle.nv_base.specs.Streams.{FaultCounted};
 ghost use Rattle.kernel_model.specs.Effects.{object_words};
 ghost use Rattle.set_model.specs.Sets.{object_at};
 ghost use Rattle.device_model.specs.Decoding.{Held};
-ghost use Rattle.device_model.specs.Devices.{HoldsOn, need_on, slot_on};
+ghost use Rattle.device_model.specs.Layouts.{reads};
+ghost use Rattle.device_model.specs.Devices.{HoldsOn, layout_on, need_on, slot_on};
 ghost use Rattle.shadow_index.specs.States.{HasRoom, HasTaken};
 ghost use Rattle.shadow_index.specs.Tells.{IsShift, device_of};
 ghost use Rattle.recovery.specs.Images.{IsOwn, IsStateOn, device_at, words_of};
-ghost use Rattle.recovery.specs.Reading.{IsRead, IsRefused};
+ghost use Rattle.recovery.specs.Reading.{HasRead, IsRead, IsRefused};
 
 use crate::reader::Reader;
 use crate::refusals::BootRefusal;
@@ -35,7 +36,32 @@ pub fn read_state<F: Fram>(dev: &mut F, set: &TaskSet, into: &mut State) -> Resu
 {
     let mut reader = Reader::begin(set);
     reader.first(dev, set, into)?;
-    for _ in 0..reader.layout.boot_turns() - 2 {
+    read_rest(&mut reader, dev, set, into)
+}
+
+/// All words that were not read yet. `Damaged` and `Lost` come as in `read_state`.
+pub(crate) fn read_rest<F: Fram>(
+    reader: &mut Reader,
+    dev: &mut F,
+    set: &TaskSet,
+    into: &mut State,
+) -> Result<(), BootRefusal>
+    requires read { let words = words_of (F.log dev.old) (F.start dev.old) in
+        HasRead (device_at set.now words) words reader.old into.old }
+    requires room { let words = words_of (F.log dev.old) (F.start dev.old) in
+        need_on (device_at set.now words) ≤ length (F.start dev.old) }
+    ensures read { let words = words_of (F.log dev.old) (F.start dev.old) in
+        OnOk result (HasRead (device_at set.now words) words reader.new into.new) }
+    ensures all { let words = words_of (F.log dev.old) (F.start dev.old) in
+        OnOk result (reader.new.count ≡ reads (layout_on (device_at set.now words))) }
+    ensures refused { let words = words_of (F.log dev.old) (F.start dev.old) in
+        IfErr result (IsRefused set.now words (F.lost dev.old) (F.lost dev.new)) }
+    ensures room { HasRoom set.now into.new }
+    ensures log { F.log dev.new ≡ F.log dev.old }
+    ensures start { F.start dev.new ≡ F.start dev.old }
+    ensures never_falls { F.lost dev.old ≤ F.lost dev.new }
+{
+    for _ in reader.count..reader.layout.boot_turns() - 1 {
         reader.next(dev, set, into)?;
     }
     Ok(())

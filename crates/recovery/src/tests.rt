@@ -15,8 +15,8 @@ use task_set::{
     Name, ObjPart, ObjectParts, ProgPart, ProgramParts, SetParts, TaskSet, Tasks, Words,
 };
 
-// one object of one word in two slots, one program of twelve words, one record, in format 1
-fn small_set(rt: &HostRuntime) -> Result<Option<TaskSet>, NoMemory> {
+// one object of one word in two slots, one program of twelve words, one record
+pub(crate) fn small_set(rt: &HostRuntime, format: u8) -> Result<Option<TaskSet>, NoMemory> {
     let mut objects = ObjectParts::new(rt.alloc());
     objects.push(ObjPart {
         name: Name::from_slice(rt.alloc(), b"x")?,
@@ -35,7 +35,7 @@ fn small_set(rt: &HostRuntime) -> Result<Option<TaskSet>, NoMemory> {
         arg: 7,
     };
     let parts = SetParts {
-        format: 1,
+        format,
         cores: 1,
         memory: 1024,
         records: 1,
@@ -180,7 +180,7 @@ fn read_with(
 
 #[test]
 fn each_word_is_looked_at(rt: HostRuntime) -> Result<(), Fail> {
-    let Some(set) = small_set(&rt)? else {
+    let Some(set) = small_set(&rt, 1)? else {
         return Err(Fail::new("the set is within its limits"));
     };
     for at in 0..50 {
@@ -219,7 +219,7 @@ fn boot_whole<F: Fram>(
 
 #[test]
 fn a_boot_counts_in_its_last_turn(rt: HostRuntime) -> Result<(), Fail> {
-    let Some(set) = small_set(&rt)? else {
+    let Some(set) = small_set(&rt, 1)? else {
         return Err(Fail::new("the set is within its limits"));
     };
     let mut dev = MemFram::new(rt.alloc(), &DEVICE, 1)?;
@@ -245,13 +245,23 @@ fn a_boot_counts_in_its_last_turn(rt: HostRuntime) -> Result<(), Fail> {
     Ok(())
 }
 
-// reads the state of a device, and then the first word of object 0
-fn first_word<F: Fram>(dev: &mut F, set: &TaskSet, into: &mut State) -> Option<u32>
+// reads the state of a device that no migration wrote, and then the first word of object 0
+pub(crate) fn first_word<F: Fram>(dev: &mut F, set: &TaskSet, into: &mut State) -> Option<u32>
     requires { HasTaken set.now 0 into.old }
 {
     if !fits(dev, set) {
         return None;
     }
+    read_word(dev, set, into)
+}
+
+// the same of a device that is large enough
+pub(crate) fn read_word<F: Fram>(dev: &mut F, set: &TaskSet, into: &mut State) -> Option<u32>
+    requires state { HasTaken set.now 0 into.old }
+    requires own { IsOwn set.now (words_of (F.log dev.old) (F.start dev.old)) }
+    requires room { let words = words_of (F.log dev.old) (F.start dev.old) in
+        need_on (device_at set.now words) ≤ length (F.start dev.old) }
+{
     let Ok(()) = read_state(dev, set, into) else {
         return None;
     };
@@ -263,7 +273,7 @@ fn first_word<F: Fram>(dev: &mut F, set: &TaskSet, into: &mut State) -> Option<u
 
 #[test]
 fn an_object_is_read_in_its_slot(rt: HostRuntime) -> Result<(), Fail> {
-    let Some(set) = small_set(&rt)? else {
+    let Some(set) = small_set(&rt, 1)? else {
         return Err(Fail::new("the set is within its limits"));
     };
     let mut dev = MemFram::new(rt.alloc(), &DEVICE, 1)?;

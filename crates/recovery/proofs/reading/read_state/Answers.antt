@@ -1,35 +1,11 @@
-use Rattle.std.proofs.Common.{◌≡◌, ◌<◌, arith, ap₂, subst, sym}
-use Rattle.device_model.specs.Words.{Words}
-use Rattle.device_model.specs.Layouts.{reads}
-use Rattle.device_model.specs.Devices.{layout_on}
-use Rattle.recovery.specs.Images.{device_at, words_of}
-use Rattle.recovery.proofs.WholeRead.{whole_read}
+use Rattle.std.proofs.Common.{◌≡◌, ap₂}
+use Rattle.recovery.specs.Images.{words_of}
+use Rattle.recovery.proofs.WholeRead.{whole_on_ok}
 use Rattle.recovery.proofs.reading.read_state.Goals as goal
-
-pub overflow_sub-end : goal.overflow_sub-end
-overflow_sub-end g c =
-    let words = words_of (g.F.Fram.log c.args.dev.now) (g.F.Fram.start c.args.dev.now) in
-    let d = device_at c.args.set.now words in
-    let h = c.in_ok-first.ensures.read in
-    omega (arith, c.boot_turns-end.ensures d h.layout, h.some, h.most)
-
-pub next-requires-clause-more : goal.next-requires-clause-more
-next-requires-clause-more g c =
-    let set = c.args.set.now in
-    let words = words_of (g.F.Fram.log c.args.dev.now) (g.F.Fram.start c.args.dev.now) in
-    let d = device_at set words in
-    let turns = c.boot_turns-end.ensures d c.in_ok-first.ensures.read.layout in
-    let l = c.loop.invariant in
-    let same : words ≡ words_of (g.F.Fram.log c.loop.dev) (g.F.Fram.start c.loop.dev) = ap₂ words_of (sym l.log) (sym l.start) in
-    subst (λ (w : Words). c.loop.reader.count < reads (layout_on (device_at set w))) same (omega (arith, turns, l.number, c.loop-test.true))
 
 pub returns-clause-held : goal.returns-clause-held
 returns-clause-held g c =
     let set = c.args.set.now in
     let words = words_of (g.F.Fram.log c.args.dev.now) (g.F.Fram.start c.args.dev.now) in
-    let d = device_at set words in
-    let turns = c.boot_turns-end.ensures d c.in_ok-first.ensures.read.layout in
-    let l = c.loop.invariant in
-    let h = c.in_ok-first.ensures.read in
-    let whole : c.loop.reader.count ≡ reads (layout_on d) = omega (arith, turns, l.number, l.read.most, h.some, h.most, c.loop-test.false) in
-    whole_read set words c.loop.reader c.loop.into c.requires.own l.read whole
+    let first : words_of (g.F.Fram.log c.first.new.dev) (g.F.Fram.start c.first.new.dev) ≡ words = ap₂ words_of c.first.ensures.log c.first.ensures.start in
+    whole_on_ok set words _ c.read_rest.result c.read_rest.new.reader c.read_rest.new.into c.requires.own first c.read_rest.ensures.read c.read_rest.ensures.all
