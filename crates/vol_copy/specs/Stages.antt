@@ -1,0 +1,20 @@
+-- How far an attempt is, as a verdict asks. This project's own.
+use Rattle.std.specs.Prelude.{Bool, true, false, Option, Some, None}
+use Rattle.nv_base.specs.declared.lines.Outcome.{Outcome}
+use Rattle.vol_copy.specs.declared.attempt.Stage.{Stage}
+use Rattle.vol_copy.specs.declared.attempt.Stage.TheVariants as stage
+
+-- how it has ended, if it has
+abbrev pub outcome_in : Stage → Option Outcome
+outcome_in stage.Blank = None
+outcome_in stage.Running = None
+outcome_in (stage.Fetching object want) = None
+outcome_in (stage.Copying object want copied) = None
+outcome_in (stage.Ready outcome) = Some outcome
+
+abbrev pub is_waiting : Stage → Bool
+is_waiting stage.Blank = false
+is_waiting stage.Running = false
+is_waiting (stage.Fetching object want) = false
+is_waiting (stage.Copying object want copied) = false
+is_waiting (stage.Ready outcome) = true
