@@ -3,7 +3,7 @@ use Rattle.std.proofs.Common.{◌≡◌, ℕ, zero, suc, ◌+◌, ◌<◌, ◌�
 use Rattle.std.specs.List.{list_any}
 use Rattle.std.proofs.lemmas.Bool.{eqb-true, eqb-false, ne_eqb, le-leb, lt-leb}
 use Rattle.object_sets.specs.ObjectSets.{is_among}
-use Rattle.ver_table.specs.Chains.{Chain, Stored}
+use Rattle.ver_table.specs.Chains.{Chain, Place}
 use Rattle.ver_table.specs.Places.{all_older, count, has_place, is_taken}
 use Rattle.ver_table.specs.Slots.{AreSlots}
 
@@ -72,18 +72,18 @@ below-slots n [] s = none n
 below-slots n (k ∷ ks) s = let rest = below-slots n ks s.2 in let more = below-more n k (λ j. is_among j ks) s.0 s.1 in omega (arith, rest, more)
 
 -- the slots of these versions
-abbrev pub slots_of : List Stored → List ℕ
+abbrev pub slots_of : List Place → List ℕ
 slots_of vs = map (λ v. v.slot) vs
 
-not-taken : (needed : Stored → Bool) (k : ℕ) (vs : List Stored) → is_among k (slots_of vs) ≡ false → list_any (λ (u : Stored). eqb u.slot k && needed u) vs ≡ false
+not-taken : (needed : Place → Bool) (k : ℕ) (vs : List Place) → is_among k (slots_of vs) ≡ false → list_any (λ (u : Place). eqb u.slot k && needed u) vs ≡ false
 not-taken needed k [] e = refl
 not-taken needed k (v ∷ vs) e = at (not-taken needed k vs) (eqb v.slot k) e
   where
-    at : (is_among k (slots_of vs) ≡ false → list_any (λ (u : Stored). eqb u.slot k && needed u) vs ≡ false) → (b : Bool) → (b || is_among k (slots_of vs)) ≡ false → ((b && needed v) || list_any (λ (u : Stored). eqb u.slot k && needed u) vs) ≡ false
+    at : (is_among k (slots_of vs) ≡ false → list_any (λ (u : Place). eqb u.slot k && needed u) vs ≡ false) → (b : Bool) → (b || is_among k (slots_of vs)) ≡ false → ((b && needed v) || list_any (λ (u : Place). eqb u.slot k && needed u) vs) ≡ false
     at rest true e = absurd (cc e)
     at rest false e = rest e
 
-below-needed : (n : ℕ) (needed : Stored → Bool) (vs : List Stored) → AreSlots n (slots_of vs) → below n (λ k. list_any (λ (u : Stored). eqb u.slot k && needed u) vs) ≡ count needed vs
+below-needed : (n : ℕ) (needed : Place → Bool) (vs : List Place) → AreSlots n (slots_of vs) → below n (λ k. list_any (λ (u : Place). eqb u.slot k && needed u) vs) ≡ count needed vs
 below-needed n needed [] s = none n
   where
     none : (m : ℕ) → below m (λ k. false) ≡ 0
@@ -92,7 +92,7 @@ below-needed n needed [] s = none n
 below-needed n needed (v ∷ vs) s = at (needed v) (below-needed n needed vs s.2)
   where
     rest : ℕ → Bool
-    rest k = list_any (λ (u : Stored). eqb u.slot k && needed u) vs
+    rest k = list_any (λ (u : Place). eqb u.slot k && needed u) vs
 
     both : (b c : Bool) → ((b && true) || c) ≡ (b || c)
     both true c = refl
@@ -102,27 +102,27 @@ below-needed n needed (v ∷ vs) s = at (needed v) (below-needed n needed vs s.2
     none true c = refl
     none false c = refl
 
-    at : (b : Bool) → below n (λ k. list_any (λ (u : Stored). eqb u.slot k && needed u) vs) ≡ count needed vs →
-        below n (λ k. (eqb v.slot k && b) || list_any (λ (u : Stored). eqb u.slot k && needed u) vs) ≡ cond b (count needed vs + 1) (count needed vs)
+    at : (b : Bool) → below n (λ k. list_any (λ (u : Place). eqb u.slot k && needed u) vs) ≡ count needed vs →
+        below n (λ k. (eqb v.slot k && b) || list_any (λ (u : Place). eqb u.slot k && needed u) vs) ≡ cond b (count needed vs + 1) (count needed vs)
     at true e =
-        below-same n (λ k. (eqb v.slot k && true) || list_any (λ (u : Stored). eqb u.slot k && needed u) vs) (λ k. eqb v.slot k || list_any (λ (u : Stored). eqb u.slot k && needed u) vs) (λ k l. both (eqb v.slot k) (list_any (λ (u : Stored). eqb u.slot k && needed u) vs))
-        ∙ below-more n v.slot (λ k. list_any (λ (u : Stored). eqb u.slot k && needed u) vs) s.0 (not-taken needed v.slot vs s.1)
+        below-same n (λ k. (eqb v.slot k && true) || list_any (λ (u : Place). eqb u.slot k && needed u) vs) (λ k. eqb v.slot k || list_any (λ (u : Place). eqb u.slot k && needed u) vs) (λ k l. both (eqb v.slot k) (list_any (λ (u : Place). eqb u.slot k && needed u) vs))
+        ∙ below-more n v.slot (λ k. list_any (λ (u : Place). eqb u.slot k && needed u) vs) s.0 (not-taken needed v.slot vs s.1)
         ∙ ap (λ (m : ℕ). m + 1) e
     at false e =
-        below-same n (λ k. (eqb v.slot k && false) || list_any (λ (u : Stored). eqb u.slot k && needed u) vs) (λ k. list_any (λ (u : Stored). eqb u.slot k && needed u) vs) (λ k l. none (eqb v.slot k) (list_any (λ (u : Stored). eqb u.slot k && needed u) vs))
+        below-same n (λ k. (eqb v.slot k && false) || list_any (λ (u : Place). eqb u.slot k && needed u) vs) (λ k. list_any (λ (u : Place). eqb u.slot k && needed u) vs) (λ k l. none (eqb v.slot k) (list_any (λ (u : Place). eqb u.slot k && needed u) vs))
         ∙ e
 
-below-taken : (n : ℕ) (needed : Stored → Bool) (vs : List Stored) → 1 ≤ length vs → AreSlots n (slots_of vs) → below n (is_taken needed vs) ≡ 1 + count needed (all_older vs)
+below-taken : (n : ℕ) (needed : Place → Bool) (vs : List Place) → 1 ≤ length vs → AreSlots n (slots_of vs) → below n (is_taken needed vs) ≡ 1 + count needed (all_older vs)
 below-taken n needed [] l s = absurd (omega (arith, l))
 below-taken n needed (v ∷ vs) l s =
-    let more = below-more n v.slot (λ k. list_any (λ (u : Stored). eqb u.slot k && needed u) vs) s.0 (not-taken needed v.slot vs s.1) in
+    let more = below-more n v.slot (λ k. list_any (λ (u : Place). eqb u.slot k && needed u) vs) s.0 (not-taken needed v.slot vs s.1) in
     let rest = below-needed n needed vs s.2 in
     omega (arith, more, rest)
 
 -- where a slot is free there is a place
-pub place_of_free : (needed : Stored → Bool) (c : Chain) → 1 ≤ length c.stored → AreSlots c.slots (slots_of c.stored) → (k : ℕ) → k < c.slots → is_taken needed c.stored k ≡ false → has_place needed c ≡ true
+pub place_of_free : (needed : Place → Bool) (c : Chain) → 1 ≤ length c.stored → AreSlots c.slots (slots_of c.stored) → (k : ℕ) → k < c.slots → is_taken needed c.stored k ≡ false → has_place needed c ≡ true
 place_of_free needed c l s k b e = let gap = below-gap c.slots (is_taken needed c.stored) k b e in let taken = below-taken c.slots needed c.stored l s in le-leb (1 + count needed (all_older c.stored) + 1) c.slots (omega (arith, gap, taken))
 
 -- where all are taken there is none
-pub no_place : (needed : Stored → Bool) (c : Chain) → 1 ≤ length c.stored → AreSlots c.slots (slots_of c.stored) → ((k : ℕ) → k < c.slots → is_taken needed c.stored k ≡ true) → has_place needed c ≡ false
+pub no_place : (needed : Place → Bool) (c : Chain) → 1 ≤ length c.stored → AreSlots c.slots (slots_of c.stored) → ((k : ℕ) → k < c.slots → is_taken needed c.stored k ≡ true) → has_place needed c ≡ false
 no_place needed c l s all = let full = below-all c.slots (is_taken needed c.stored) all in let taken = below-taken c.slots needed c.stored l s in lt-leb (1 + count needed (all_older c.stored) + 1) c.slots (omega (arith, full, taken))

@@ -11,7 +11,7 @@ use Rattle.kernel_model.specs.Versions.{Version, chosen, older}
 use Rattle.kernel_model.specs.Intervals.{Interval}
 use Rattle.kernel_model.specs.Cores.{Core}
 use Rattle.kernel_model.specs.Room.{count_needed, interval_of, is_below, is_copied_by, is_needed as is_needed_in, meet, meets}
-use Rattle.ver_table.specs.Chains.{Stored, holds_newest, newest_before}
+use Rattle.ver_table.specs.Chains.{Place, holds_newest, newest_before}
 use Rattle.ver_table.specs.Places.{all_older, count, is_needed, is_pinned, is_taken}
 use Rattle.ver_table.specs.StandsFor.{Held, IsSpare, held_before, intervals_of, stored_of, versions_of}
 use Rattle.ver_table.proofs.Orders.{find-map}
@@ -33,10 +33,10 @@ held_found hi held v e = at (held_before hi held) refl (sym (find-map (λ (u : V
 
 -- and in the table
 pub stored_found : (hi : Option ℕ) (held : List Held) (h : Held) → held_before hi held ≡ Some h → newest_before hi (map stored_of held) ≡ Some (stored_of h)
-stored_found hi held h e = find-map (λ (u : Stored). is_below u.begin hi) stored_of held ∙ ap (option_map stored_of) e
+stored_found hi held h e = find-map (λ (u : Place). is_below u.begin hi) stored_of held ∙ ap (option_map stored_of) e
 
 -- one of two tests
-any-or : {A : Type 0} → (p q : A → Bool) (xs : List A) → list_any (λ x. p x || q x) xs ≡ (list_any p xs || list_any q xs)
+pub any-or : {A : Type 0} → (p q : A → Bool) (xs : List A) → list_any (λ x. p x || q x) xs ≡ (list_any p xs || list_any q xs)
 any-or p q [] = refl
 any-or {A} p q (x ∷ xs) = at (p x) (q x) (list_any p xs) (list_any q xs) (any-or p q xs)
   where
@@ -68,7 +68,7 @@ pub needs_of : {M : Type 0} → (base : DeviceState) (history : List FinishRecor
 needs_of base history o cores others pins [] e p = tt
 needs_of base history o cores others pins (h ∷ held) e p = (need_of base history o cores others pins h e p.0, needs_of base history o cores others pins held e p.1)
 
-count_held : {M : Type 0} → (base : DeviceState) (history : List FinishRecord) (o : ℕ) (cores : List (Core M)) (needed : Stored → Bool) (held : List Held) → AllByRecursion (λ h. needed (stored_of h) ≡ is_needed_in base history o cores h.version) held
+count_held : {M : Type 0} → (base : DeviceState) (history : List FinishRecord) (o : ℕ) (cores : List (Core M)) (needed : Place → Bool) (held : List Held) → AllByRecursion (λ h. needed (stored_of h) ≡ is_needed_in base history o cores h.version) held
     → count needed (map stored_of held) ≡ count_needed base history o cores (versions_of held)
 count_held base history o cores needed [] n = refl
 count_held base history o cores needed (h ∷ held) n =
@@ -76,7 +76,7 @@ count_held base history o cores needed (h ∷ held) n =
     ap₂ (λ (b : Bool) (m : ℕ). cond b (m + 1) m) n.0 rest
 
 -- the older versions that are needed are as many
-pub count_older : {M : Type 0} → (base : DeviceState) (history : List FinishRecord) (o : ℕ) (cores : List (Core M)) (needed : Stored → Bool) (held : List Held) → AllByRecursion (λ h. needed (stored_of h) ≡ is_needed_in base history o cores h.version) held
+pub count_older : {M : Type 0} → (base : DeviceState) (history : List FinishRecord) (o : ℕ) (cores : List (Core M)) (needed : Place → Bool) (held : List Held) → AllByRecursion (λ h. needed (stored_of h) ≡ is_needed_in base history o cores h.version) held
     → count needed (all_older (map stored_of held)) ≡ count_needed base history o cores (older (versions_of held))
 count_older base history o cores needed [] n = refl
 count_older base history o cores needed (h ∷ held) n = count_held base history o cores needed held n.1
@@ -86,16 +86,16 @@ and-false true b f e = e
 and-false false b f e = absurd (cc f)
 
 -- what a slot that is not taken holds is not needed
-spare_rest : {M : Type 0} → (base : DeviceState) (history : List FinishRecord) (o : ℕ) (cores : List (Core M)) (needed : Stored → Bool) (k : ℕ) (held : List Held) → AllByRecursion (λ h. needed (stored_of h) ≡ is_needed_in base history o cores h.version) held
-    → list_any (λ (u : Stored). eqb u.slot k && needed u) (map stored_of held) ≡ false → IsSpare base history o cores k held
+spare_rest : {M : Type 0} → (base : DeviceState) (history : List FinishRecord) (o : ℕ) (cores : List (Core M)) (needed : Place → Bool) (k : ℕ) (held : List Held) → AllByRecursion (λ h. needed (stored_of h) ≡ is_needed_in base history o cores h.version) held
+    → list_any (λ (u : Place). eqb u.slot k && needed u) (map stored_of held) ≡ false → IsSpare base history o cores k held
 spare_rest base history o cores needed k [] n e = tt
 spare_rest base history o cores needed k (h ∷ held) n e =
-    let s = or_parts (eqb h.slot k && needed (stored_of h)) (list_any (λ (u : Stored). eqb u.slot k && needed u) (map stored_of held)) e in
+    let s = or_parts (eqb h.slot k && needed (stored_of h)) (list_any (λ (u : Place). eqb u.slot k && needed u) (map stored_of held)) e in
     (λ g. sym n.0 ∙ and-false (eqb h.slot k) (needed (stored_of h)) g s.0, spare_rest base history o cores needed k held n.1 s.1)
 
-pub spare_of_free : {M : Type 0} → (base : DeviceState) (history : List FinishRecord) (o : ℕ) (cores : List (Core M)) (needed : Stored → Bool) (k : ℕ) (held : List Held) → AllByRecursion (λ h. needed (stored_of h) ≡ is_needed_in base history o cores h.version) held
+pub spare_of_free : {M : Type 0} → (base : DeviceState) (history : List FinishRecord) (o : ℕ) (cores : List (Core M)) (needed : Place → Bool) (k : ℕ) (held : List Held) → AllByRecursion (λ h. needed (stored_of h) ≡ is_needed_in base history o cores h.version) held
     → is_taken needed (map stored_of held) k ≡ false → (holds_newest k (map stored_of held) ≡ false) × IsSpare base history o cores k held
 spare_of_free base history o cores needed k [] n e = (refl, tt)
 spare_of_free base history o cores needed k (h ∷ held) n e =
-    let s = or_parts (eqb h.slot k) (list_any (λ (u : Stored). eqb u.slot k && needed u) (map stored_of held)) e in
+    let s = or_parts (eqb h.slot k) (list_any (λ (u : Place). eqb u.slot k && needed u) (map stored_of held)) e in
     (s.0, (λ g. absurd (let a = s.0 in cc (a, g)), spare_rest base history o cores needed k held n.1 s.1))

@@ -5,7 +5,7 @@ use Rattle.std.proofs.lemmas.Bool.{eqb-false}
 use Rattle.object_sets.specs.ObjectSets.{is_among}
 use Rattle.nv_base.specs.declared.ids.Point.{Point}
 use Rattle.interval.specs.Ranges.{number_of}
-use Rattle.ver_table.specs.Chains.{Stored, newest_ended, without}
+use Rattle.ver_table.specs.Chains.{Place, newest_ended, without}
 use Rattle.ver_table.specs.Slots.{AreSlots, begin_at, stored_at}
 use Rattle.ver_table.proofs.Counts.{below-gap, below-slots}
 
@@ -55,13 +55,13 @@ without-map begins ends k (j ∷ ks) = at (not (eqb j k)) (without-map begins en
   where
     at : (b : Bool) → without k (map (stored_at begins ends) ks) ≡ map (stored_at begins ends) (others k ks) →
         cond b (stored_at begins ends j ∷ without k (map (stored_at begins ends) ks)) (without k (map (stored_at begins ends) ks)) ≡ map (stored_at begins ends) (cond b (j ∷ others k ks) (others k ks))
-    at true e = ap (λ (vs : List Stored). stored_at begins ends j ∷ vs) e
+    at true e = ap (λ (vs : List Place). stored_at begins ends j ∷ vs) e
     at false e = e
 
 -- a slot that is not written has what it had
 stored_other : (begins : List Point) (ends : List (Option Point)) (p : Point) (k0 k j : ℕ) → (j ≡ k → ⊥) → (j ≡ k0 → ⊥) → stored_at (set begins k p) (set (set ends k0 (Some p)) k None) j ≡ stored_at begins ends j
 stored_other begins ends p k0 k j n m =
-    ap₂ (λ (b : ℕ) (e : Option ℕ). let v : Stored = record { slot = j; begin = b; end = e } in v)
+    ap₂ (λ (b : ℕ) (e : Option ℕ). let v : Place = record { slot = j; begin = b; end = e } in v)
     (ap (λ (q : Point). q.0) (get_or-set_other begins k j p (record { 0 = 0 }) n))
     (ap number_of (get_or-set_other (set ends k0 (Some p)) k j None None n ∙ get_or-set_other ends k0 j (Some p) None m))
 
@@ -74,28 +74,28 @@ map-other begins ends p k0 k (j ∷ ks) n m = at (map-other begins ends p k0 k k
         stored_at (set begins k p) (set (set ends k0 (Some p)) k None) j ∷ map (stored_at (set begins k p) (set (set ends k0 (Some p)) k None)) ks ≡ stored_at begins ends j ∷ map (stored_at begins ends) ks
     at rest true c f g n m = absurd (cc n)
     at rest false true f g n m = absurd (cc m)
-    at rest false false f g n m = ap₂ (λ (v : Stored) (vs : List Stored). v ∷ vs) (stored_other begins ends p k0 k j (eqb-false j k f) (eqb-false j k0 g)) (rest n m)
+    at rest false false f g n m = ap₂ (λ (v : Place) (vs : List Place). v ∷ vs) (stored_other begins ends p k0 k j (eqb-false j k f) (eqb-false j k0 g)) (rest n m)
 
 -- the chain after a new version
 pub stored_installed : (begins : List Point) (ends : List (Option Point)) (p : Point) (k0 k n : ℕ) (ks : List ℕ) → AreSlots n (k0 ∷ ks) → k < length begins → k < length ends → k0 < length ends → eqb k0 k ≡ false →
     map (stored_at (set begins k p) (set (set ends k0 (Some p)) k None)) (k ∷ others k (k0 ∷ ks)) ≡ record { slot = k; begin = p.0; end = None } ∷ newest_ended p.0 (without k (map (stored_at begins ends) (k0 ∷ ks)))
 stored_installed begins ends p k0 k n ks s kb ke k0e e =
     rw e
-    (ap₂ (λ (v : Stored) (vs : List Stored). v ∷ vs)
+    (ap₂ (λ (v : Place) (vs : List Place). v ∷ vs)
     (new kb ke)
-    (ap₂ (λ (v : Stored) (vs : List Stored). v ∷ vs)
+    (ap₂ (λ (v : Place) (vs : List Place). v ∷ vs)
     (old (eqb-false k0 k e) k0e)
     (map-other begins ends p k0 k (others k ks) (not-among k ks) (others-among k k0 ks s.1) ∙ sym (without-map begins ends k ks))))
   where
     new : k < length begins → k < length ends → stored_at (set begins k p) (set (set ends k0 (Some p)) k None) k ≡ record { slot = k; begin = p.0; end = None }
     new lb le =
         let long : k < length (set ends k0 (Some p)) = omega (arith, le, length-set ends k0 (Some p)) in
-        ap₂ (λ (b : ℕ) (e : Option ℕ). let v : Stored = record { slot = k; begin = b; end = e } in v)
+        ap₂ (λ (b : ℕ) (e : Option ℕ). let v : Place = record { slot = k; begin = b; end = e } in v)
         (ap (λ (q : Point). q.0) (get_or-set_same begins k p (record { 0 = 0 }) lb))
         (ap number_of (get_or-set_same (set ends k0 (Some p)) k None None long))
 
     old : (k0 ≡ k → ⊥) → k0 < length ends → stored_at (set begins k p) (set (set ends k0 (Some p)) k None) k0 ≡ record { slot = k0; begin = begin_at begins k0; end = Some p.0 }
     old n l =
-        ap₂ (λ (b : ℕ) (e : Option ℕ). let v : Stored = record { slot = k0; begin = b; end = e } in v)
+        ap₂ (λ (b : ℕ) (e : Option ℕ). let v : Place = record { slot = k0; begin = b; end = e } in v)
         (ap (λ (q : Point). q.0) (get_or-set_other begins k k0 p (record { 0 = 0 }) n))
         (ap number_of (get_or-set_other (set ends k0 (Some p)) k k0 None None n ∙ get_or-set_same ends k0 (Some p) None l))

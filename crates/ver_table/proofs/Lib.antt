@@ -9,3 +9,5 @@ pub mod SpareLaws
 pub mod PinLaws
 pub mod GoesOn
 pub mod PinStays
+pub mod ChainsTabled
+pub mod FreePlaces

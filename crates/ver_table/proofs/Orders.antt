@@ -5,7 +5,7 @@ use Rattle.std.specs.List.{list_any}
 use Rattle.std.specs.Option.{option_map}
 use Rattle.std.proofs.lemmas.Bool.{eqb-true}
 use Rattle.nv_base.specs.declared.ids.Point.{Point}
-use Rattle.ver_table.specs.Chains.{Stored, in_slot}
+use Rattle.ver_table.specs.Chains.{Place, in_slot}
 use Rattle.ver_table.specs.Slots.{AreSlots, stored_at}
 
 pub slots_below : (n : ℕ) (ks : List ℕ) → AreSlots n ks → (i : ℕ) → i < length ks → get_or ks i 0 < n
@@ -45,8 +45,8 @@ any_below n p (i ∷ ks) s j e = at (any_below n p ks s.2 j) (p i) e
     at rest false e = rest e
 
 -- the version in a slot is what the slot has
-pub in_slot_is : (begins : List Point) (ends : List (Option Point)) (n k : ℕ) (ks : List ℕ) → AreSlots n ks → (v : Stored) → in_slot k (map (stored_at begins ends) ks) ≡ Some v → (v ≡ stored_at begins ends k) × (k < n)
-in_slot_is begins ends n k ks s v e = at (find (λ i. eqb i k) ks) refl (sym (find-map (λ (u : Stored). eqb u.slot k) (stored_at begins ends) ks) ∙ e)
+pub in_slot_is : (begins : List Point) (ends : List (Option Point)) (n k : ℕ) (ks : List ℕ) → AreSlots n ks → (v : Place) → in_slot k (map (stored_at begins ends) ks) ≡ Some v → (v ≡ stored_at begins ends k) × (k < n)
+in_slot_is begins ends n k ks s v e = at (find (λ i. eqb i k) ks) refl (sym (find-map (λ (u : Place). eqb u.slot k) (stored_at begins ends) ks) ∙ e)
   where
     at : (o : Option ℕ) → find (λ i. eqb i k) ks ≡ o → option_map (stored_at begins ends) o ≡ Some v → (v ≡ stored_at begins ends k) × (k < n)
     at None f e = absurd (cc e)
@@ -56,12 +56,12 @@ in_slot_is begins ends n k ks s v e = at (find (λ i. eqb i k) ks) refl (sym (fi
         (sym is ∙ ap (stored_at begins ends) found.0, found.1)
 
 -- one of the slots is k, and what it holds passes, where k is among them and its version passes
-pub any_at : (begins : List Point) (ends : List (Option Point)) (p : Stored → Bool) (k : ℕ) (ks : List ℕ) → list_any (λ (u : Stored). eqb u.slot k && p u) (map (stored_at begins ends) ks) ≡ (list_any (λ j. eqb j k) ks && p (stored_at begins ends k))
+pub any_at : (begins : List Point) (ends : List (Option Point)) (p : Place → Bool) (k : ℕ) (ks : List ℕ) → list_any (λ (u : Place). eqb u.slot k && p u) (map (stored_at begins ends) ks) ≡ (list_any (λ j. eqb j k) ks && p (stored_at begins ends k))
 any_at begins ends p k [] = refl
 any_at begins ends p k (j ∷ ks) = at (eqb j k) refl (any_at begins ends p k ks)
   where
     rest : Bool
-    rest = list_any (λ (u : Stored). eqb u.slot k && p u) (map (stored_at begins ends) ks)
+    rest = list_any (λ (u : Place). eqb u.slot k && p u) (map (stored_at begins ends) ks)
 
     pick : (b c : Bool) → ((b || (c && b))) ≡ b
     pick true c = refl

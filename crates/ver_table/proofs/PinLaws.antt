@@ -13,7 +13,7 @@ use Rattle.kernel_model.specs.Room.{is_copied_by, is_newest_read}
 use Rattle.kernel_model.specs.History.{IsNumbered}
 use Rattle.kernel_model.specs.Chain.{IsChain, IsPart}
 use Rattle.kernel_model.proofs.ForCallers.{tops, writers_below}
-use Rattle.ver_table.specs.Chains.{Chain, Stored}
+use Rattle.ver_table.specs.Chains.{Chain, Place}
 use Rattle.ver_table.specs.Places.{is_pinned}
 use Rattle.ver_table.specs.Slots.{AreSlots, IsLaid}
 use Rattle.ver_table.specs.StandsFor.{ArePins, Held, IsPinOfNewest, StandsFor, held_in, stored_of, versions_of}
@@ -57,7 +57,7 @@ apart_chain floor needed chain (v ∷ vs) a c = rw c.1 (other_part v.writer floo
 abbrev pub slots_held : List Held → List ℕ
 slots_held held = map (λ h. h.slot) held
 
-pub slots_stored : (held : List Held) → map (λ (v : Stored). v.slot) (map stored_of held) ≡ slots_held held
+pub slots_stored : (held : List Held) → map (λ (v : Place). v.slot) (map stored_of held) ≡ slots_held held
 slots_stored [] = refl
 slots_stored (h ∷ held) = ap (λ (ks : List ℕ). h.slot ∷ ks) (slots_stored held)
 
@@ -136,5 +136,5 @@ copies {M} n o held s a (Copying t copied ∷ cores) pins e = subst (λ (ps : Li
 pub pins_are : {M : Type 0} → (base : DeviceState) (floor o : ℕ) (history : List FinishRecord) (needed : Version → Bool) (c : Chain) (held : List Held) (cores : List (Core M)) (pins : List Pin) → IsNumbered base history → IsLaid c → StandsFor floor needed base o history c held → ArePins o held cores pins
     → AllByRecursion (λ h. is_pinned o pins h.slot ≡ list_any (is_copied_by o h.version) cores) held
 pins_are base floor o history needed c held cores pins n laid st p =
-    let slots = subst (AreSlots c.slots) (ap (λ (vs : List Stored). map (λ (v : Stored). v.slot) vs) st.stored ∙ slots_stored held) laid.are in
+    let slots = subst (AreSlots c.slots) (ap (λ (vs : List Place). map (λ (v : Place). v.slot) vs) st.stored ∙ slots_stored held) laid.are in
     copies c.slots o held slots (apart_chain floor needed (versions_of held) (versions base o history) (apart_versions None base o history n) st.chain) cores pins p

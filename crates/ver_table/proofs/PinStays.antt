@@ -11,7 +11,7 @@ use Rattle.kernel_model.specs.Versions.{Read, Version}
 use Rattle.kernel_model.specs.Cores.{Attempt, Copying, Core, Idle}
 use Rattle.kernel_model.specs.Room.{interval_of, is_needed, is_newest_read, meets}
 use Rattle.kernel_model.proofs.ForCallers.{at_needed}
-use Rattle.ver_table.specs.Chains.{Chain, Stored}
+use Rattle.ver_table.specs.Chains.{Chain, Place}
 use Rattle.ver_table.specs.Slots.{AreSlots, IsLaid}
 use Rattle.ver_table.specs.StandsFor.{Held, IsHeldAs, IsPinOf, IsPlanned, IsPlannedFor, IsUnneeded, StandsFor, held_after, held_ended, held_in, held_joining, held_with, held_without}
 use Rattle.ver_table.proofs.PinLaws.{slots_held, slots_stored}
@@ -46,7 +46,7 @@ found_in n p (x ∷ held) h s e = at (found_in n p held h s.2) (p x) (eqb x.slot
 pub pin_chosen : (base : DeviceState) (floor o : ℕ) (history : List FinishRecord) (needed : Version → Bool) (hi : Option ℕ) (c : Chain) (held : List Held) (v : Version) (h : Held) (p : Pin) → IsLaid c → StandsFor floor needed base o history c held
     → IsHeldAs floor hi c held v h → p.object.0 ≡ o → p.slot ≡ h.slot → IsPinOf o held (record { object = o; writer = v.writer }) p
 pin_chosen base floor o history needed hi c held v h p laid st is e f =
-    let slots = subst (AreSlots c.slots) (ap (λ (vs : List Stored). map (λ (u : Stored). u.slot) vs) st.stored ∙ slots_stored held) laid.are in
+    let slots = subst (AreSlots c.slots) (ap (λ (vs : List Place). map (λ (u : Place). u.slot) vs) st.stored ∙ slots_stored held) laid.are in
     record {
       object = e;
       holds = λ g. (h, ap (λ (k : ℕ). held_in k held) f ∙ found_in c.slots _ held h slots is.found, ap (λ (u : Version). u.writer) is.version);

@@ -7,7 +7,7 @@ use Rattle.std.proofs.lemmas.Bool.{eqb-true, eqb-false, ne_eqb}
 use Rattle.std.proofs.lemmas.List.{length-map}
 use Rattle.nv_base.specs.declared.ids.Point.{Point}
 use Rattle.kernel_model.specs.Room.{is_below}
-use Rattle.ver_table.specs.Chains.{Chain, Stored, holds_newest, in_slot, installed, newest_before}
+use Rattle.ver_table.specs.Chains.{Chain, Place, holds_newest, in_slot, installed, newest_before}
 use Rattle.ver_table.specs.Places.{is_taken}
 use Rattle.ver_table.specs.Slots.{AreSlots, IsKept, IsLaid, begin_at, stored_at}
 use Rattle.ver_table.proofs.Counts.{slots_of}
@@ -28,7 +28,7 @@ shown slots bound order begins ends t e kept =
     })
 
 -- a slot that does not hold the newest version is taken where it is in the order, and its version is needed
-pub taken_at : (needed : Stored → Bool) (begins : List Point) (ends : List (Option Point)) (order : List ℕ) (k : ℕ) (b : Bool) → 1 ≤ length order → (get_or order 0 0 ≡ k → ⊥) → list_any (λ j. eqb j k) order ≡ b
+pub taken_at : (needed : Place → Bool) (begins : List Point) (ends : List (Option Point)) (order : List ℕ) (k : ℕ) (b : Bool) → 1 ≤ length order → (get_or order 0 0 ≡ k → ⊥) → list_any (λ j. eqb j k) order ≡ b
     → is_taken needed (map (stored_at begins ends) order) k ≡ (b && needed (stored_at begins ends k))
 taken_at needed begins ends [] k b l n e = absurd (omega (arith, l))
 taken_at needed begins ends (k0 ∷ ks) k b l n e =
@@ -37,7 +37,7 @@ taken_at needed begins ends (k0 ∷ ks) k b l n e =
     rw other (any_at begins ends needed k ks ∙ ap (λ (c : Bool). c && needed (stored_at begins ends k)) rest)
 
 -- that which holds it is taken
-pub taken_first : (needed : Stored → Bool) (begins : List Point) (ends : List (Option Point)) (order : List ℕ) (k : ℕ) → 1 ≤ length order → eqb (get_or order 0 0) k ≡ true → is_taken needed (map (stored_at begins ends) order) k ≡ true
+pub taken_first : (needed : Place → Bool) (begins : List Point) (ends : List (Option Point)) (order : List ℕ) (k : ℕ) → 1 ≤ length order → eqb (get_or order 0 0) k ≡ true → is_taken needed (map (stored_at begins ends) order) k ≡ true
 taken_first needed begins ends [] k l e = absurd (omega (arith, l))
 taken_first needed begins ends (k0 ∷ ks) k l e = rw e refl
 
@@ -53,14 +53,14 @@ slot_there begins ends p (k ∷ ks) j e = at (slot_there begins ends p ks j) (p 
     at rest false false f e = rest e
 
 -- the version that is chosen is that of a slot
-pub record IsChosenAt (begins : List Point) (ends : List (Option Point)) (hi : Option ℕ) (n : ℕ) (order : List ℕ) (v : Stored) : Type 0 where
+pub record IsChosenAt (begins : List Point) (ends : List (Option Point)) (hi : Option ℕ) (n : ℕ) (order : List ℕ) (v : Place) : Type 0 where
   pub found : find (λ k. is_below (begin_at begins k) hi) order ≡ Some v.slot
   pub begin_is : begin_at begins v.slot ≡ v.begin
   pub inside : v.slot < n
   pub there : in_slot v.slot (map (stored_at begins ends) order) ≡ Some v
 
-pub chosen_at : (begins : List Point) (ends : List (Option Point)) (hi : Option ℕ) (n : ℕ) (order : List ℕ) → AreSlots n order → (v : Stored) → newest_before hi (map (stored_at begins ends) order) ≡ Some v → IsChosenAt begins ends hi n order v
-chosen_at begins ends hi n order s v e = at (find (λ k. is_below (begin_at begins k) hi) order) refl (sym (find-map (λ (u : Stored). is_below u.begin hi) (stored_at begins ends) order) ∙ e)
+pub chosen_at : (begins : List Point) (ends : List (Option Point)) (hi : Option ℕ) (n : ℕ) (order : List ℕ) → AreSlots n order → (v : Place) → newest_before hi (map (stored_at begins ends) order) ≡ Some v → IsChosenAt begins ends hi n order v
+chosen_at begins ends hi n order s v e = at (find (λ k. is_below (begin_at begins k) hi) order) refl (sym (find-map (λ (u : Place). is_below u.begin hi) (stored_at begins ends) order) ∙ e)
   where
     at : (o : Option ℕ) → find (λ k. is_below (begin_at begins k) hi) order ≡ o → option_map (stored_at begins ends) o ≡ Some v → IsChosenAt begins ends hi n order v
     at None f g = absurd (cc g)
@@ -82,7 +82,7 @@ shows_installed n bound (k0 ∷ ks) begins ends k p kept l b e o =
     let k0e : k0 < length ends = omega (arith, kept.are.0, kept.few, e) in
     let kb : k < length begins = omega (arith, l, kept.few, b) in
     let ke : k < length ends = omega (arith, l, kept.few, e) in
-    ap (λ (vs : List Stored). let c : Chain = record { slots = n; bound = p.0; stored = vs } in c) (stored_installed begins ends p k0 k n ks kept.are kb ke k0e o)
+    ap (λ (vs : List Place). let c : Chain = record { slots = n; bound = p.0; stored = vs } in c) (stored_installed begins ends p k0 k n ks kept.are kb ke k0e o)
 
 -- the slot of the newest version
 pub newest_slot : (begins : List Point) (ends : List (Option Point)) (order : List ℕ) (k : ℕ) → 1 ≤ length order → holds_newest k (map (stored_at begins ends) order) ≡ eqb (get_or order 0 0) k

@@ -21,7 +21,7 @@ use Rattle.kernel_model.specs.Sound.{IsSound}
 use Rattle.kernel_model.specs.Bounds.{bound_of, with_touch}
 use Rattle.kernel_model.specs.Chain.{IsChain, IsFloor, IsPart, ended_at, floored, joining, with_joining, with_version}
 use Rattle.kernel_model.proofs.ForCallers.{begin_chain, begin_history, bound_at_clock, bound_next, bound_with, chain_kept, chain_of_one, fetch_chain, fetch_history, finish_chain, finish_history, finish_keeps, floor_needs, marks_start, newest}
-use Rattle.ver_table.specs.Chains.{Chain, Stored, holds_newest, installed, newest_ended, noted, one_version, without}
+use Rattle.ver_table.specs.Chains.{Chain, Place, holds_newest, installed, newest_ended, noted, one_version, without}
 use Rattle.ver_table.specs.StandsFor.{Held, StandsFor, StandsIn, held_ended, held_with, held_without, stored_of, versions_of}
 
 -- what a slot holds may go where nobody needs it
@@ -63,7 +63,7 @@ without_stored k [] = refl
 without_stored k (h ∷ held) = at (not (eqb h.slot k)) (without_stored k held)
   where
     at : (b : Bool) → without k (map stored_of held) ≡ map stored_of (held_without k held) → cond b (stored_of h ∷ without k (map stored_of held)) (without k (map stored_of held)) ≡ map stored_of (cond b (h ∷ held_without k held) (held_without k held))
-    at true e = ap (λ (vs : List Stored). stored_of h ∷ vs) e
+    at true e = ap (λ (vs : List Place). stored_of h ∷ vs) e
     at false e = e
 
 ended_stored : (p : ℕ) (held : List Held) → newest_ended p (map stored_of held) ≡ map stored_of (held_ended p held)
@@ -177,11 +177,11 @@ pub joins_installed : (floor : ℕ) (n m : Version → Bool) (base : DeviceState
     → StandsFor floor n base o g c held → written i.run.writes o ≡ Some words → holds_newest k c.stored ≡ false → c.bound ≤ i.point → AllByRecursion (λ x. eqb x.slot k ≡ true → n x.version ≡ false) held
     → StandsFor floor m base o h (installed k i.point c) (held_with k i words held)
 joins_installed floor n m base o k i words g h c held j st w older low spare =
-    let now : Stored = record { slot = k; begin = i.point; end = None } in
+    let now : Place = record { slot = k; begin = i.point; end = None } in
     let version : Version = record { writer = i.number; begin = i.point; end = None; words = words } in
     let kept = chain_without floor n j.same k held (versions base o g) (ap (holds_newest k) (sym st.stored) ∙ older) spare st.chain in
     record {
-      stored = ap (λ (vs : List Stored). now ∷ vs) (ap (λ (vs : List Stored). newest_ended i.point (without k vs)) st.stored ∙ ap (newest_ended i.point) (without_stored k held) ∙ ended_stored i.point (held_without k held));
+      stored = ap (λ (vs : List Place). now ∷ vs) (ap (λ (vs : List Place). newest_ended i.point (without k vs)) st.stored ∙ ap (newest_ended i.point) (without_stored k held) ∙ ended_stored i.point (held_without k held));
       chain =
           subst (λ (vs : List Version). IsChain floor m (version ∷ vs) (versions base o h)) (ended_versions i.point (held_without k held))
           (chain_after floor n m base o i g h (Some words) (versions_of (held_without k held)) j w kept);
@@ -196,7 +196,7 @@ pub reopened : {M : Type 0} → (base : DeviceState) (s : State M) (o slots k : 
 reopened base s o slots k v idle e =
     let clock = clock_of base s.history in
     record {
-      stored = ap (λ (x : Option ℕ). let u : Stored = record { slot = k; begin = clock; end = x } in u ∷ []) (sym (newest base o s.history v e).0);
+      stored = ap (λ (x : Option ℕ). let u : Place = record { slot = k; begin = clock; end = x } in u ∷ []) (sym (newest base o s.history v e).0);
       chain = chain_of_one base s idle o v e;
       bound = sym (bound_at_clock base s.history o);
     }

@@ -2,42 +2,38 @@
 use Rattle.std.specs.Prelude.{◌≡◌, ◌<◌, ℕ, ◌==◌, max, Bool, false, not, List, [], ◌∷◌, Option, Some, None, filter, find, get_or, length, slice_index}
 use Rattle.kernel_model.specs.Versions.{Version}
 use Rattle.kernel_model.specs.Room.{is_below}
-
 -- a version: the slot that has its words, the first point of its life, and the first point after it, if it has ended
-pub record Stored : Type 0 where
-  pub slot : ℕ
-  pub begin : ℕ
-  pub end : Option ℕ
+pub use Rattle.slot_model.specs.Tabled.{Place}
 
 -- an object: how many slots it has, the greatest point that read or wrote it, and its versions, newest first
 pub record Chain : Type 0 where
   pub slots : ℕ
   pub bound : ℕ
-  pub stored : List Stored
+  pub stored : List Place
 
 -- a version of the model that lives from begin to end; its writer and its words are of no account
 abbrev pub lived : ℕ → Option ℕ → Version
 lived begin end = record { writer = 0; begin = begin; end = end; words = [] }
 
 -- the newest version that begins before hi
-abbrev pub newest_before : Option ℕ → List Stored → Option Stored
+abbrev pub newest_before : Option ℕ → List Place → Option Place
 newest_before hi vs = find (λ v. is_below v.begin hi) vs
 
 -- the version in a slot
-abbrev pub in_slot : ℕ → List Stored → Option Stored
+abbrev pub in_slot : ℕ → List Place → Option Place
 in_slot k vs = find (λ v. v.slot == k) vs
 
 -- all versions but that in a slot
-abbrev pub without : ℕ → List Stored → List Stored
+abbrev pub without : ℕ → List Place → List Place
 without k vs = filter (λ v. not (v.slot == k)) vs
 
 -- whether a slot holds the newest version
-abbrev pub holds_newest : ℕ → List Stored → Bool
+abbrev pub holds_newest : ℕ → List Place → Bool
 holds_newest k [] = false
 holds_newest k (v ∷ vs) = v.slot == k
 
 -- the newest version ends at p
-abbrev pub newest_ended : ℕ → List Stored → List Stored
+abbrev pub newest_ended : ℕ → List Place → List Place
 newest_ended p [] = []
 newest_ended p (v ∷ vs) = record v { end = Some p } ∷ vs
 

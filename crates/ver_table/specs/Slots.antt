@@ -1,10 +1,11 @@
 -- How a chain lies in memory: the slots of its versions, newest first, and each slot's begin and end. This project's own.
-use Rattle.std.specs.Prelude.{◌≡◌, ◌<◌, ◌≤◌, ℕ, false, List, [], ◌∷◌, Option, None, get_or, length, map}
+use Rattle.std.specs.Prelude.{◌≡◌, ◌<◌, ◌≤◌, ℕ, false, List, [], ◌∷◌, Option, None, is_none, get_or, length, map}
+use Rattle.std.specs.List.{AllByRecursion}
 use Rattle.object_sets.specs.ObjectSets.{is_among}
 use Rattle.nv_base.specs.declared.limits.TheConstants.{MAX_SLOTS}
 use Rattle.nv_base.specs.declared.ids.Point.{Point}
 use Rattle.interval.specs.Ranges.{number_of}
-use Rattle.ver_table.specs.Chains.{Chain, Stored}
+use Rattle.ver_table.specs.Chains.{Chain, Place}
 
 -- slots below a number, none of them twice
 abbrev pub AreSlots : ℕ → List ℕ → Type 0
@@ -20,8 +21,13 @@ abbrev pub end_at : List (Option Point) → ℕ → Option ℕ
 end_at ends k = number_of (get_or ends k None)
 
 -- the version in a slot
-abbrev pub stored_at : List Point → List (Option Point) → ℕ → Stored
+abbrev pub stored_at : List Point → List (Option Point) → ℕ → Place
 stored_at begins ends k = record { slot = k; begin = begin_at begins k; end = end_at ends k }
+
+-- the newest version lives on, and all older ones have ended
+abbrev pub AreEnded : List Place → Type 0
+AreEnded [] = Unit {0}
+AreEnded (v ∷ vs) = (v.end ≡ None) × AllByRecursion (λ u. is_none u.end ≡ false) vs
 
 -- at most as many slots as the limits allow, of which one at least has a version
 pub record IsKept (slots : ℕ) (order : List ℕ) : Type 0 where

@@ -13,7 +13,7 @@ use Rattle.kernel_model.specs.Events.{State}
 use Rattle.kernel_model.specs.Live.{CallState, cores_of}
 use Rattle.kernel_model.specs.Chain.{IsChain, floored}
 use Rattle.kernel_model.specs.Bounds.{bound_of}
-use Rattle.ver_table.specs.Chains.{Chain, Stored, holds_newest, installed, newest_before, noted}
+use Rattle.ver_table.specs.Chains.{Chain, Place, holds_newest, installed, newest_before, noted}
 use Rattle.ver_table.specs.Places.{is_pinned}
 
 -- a slot, and the version of the model that it holds, as it is seen after a boot
@@ -29,7 +29,7 @@ first_held base o slot = record {
 }
 
 -- as the table has it
-abbrev pub stored_of : Held → Stored
+abbrev pub stored_of : Held → Place
 stored_of h = record { slot = h.slot; begin = h.version.begin; end = h.version.end }
 
 -- the versions that are held

@@ -4,7 +4,7 @@ ghost use Rattle.std.specs.Prelude.{◌≡◌, ◌<◌, ◌≤◌, ◌==◌, not
 ghost use Rattle.std.specs.List.{list_any};
 ghost use Rattle.kernel_model.specs.Room.{is_below, meet};
 ghost use Rattle.interval.specs.Ranges.{number_of, range_of};
-ghost use Rattle.ver_table.specs.Chains.{Stored, holds_newest, in_slot, installed, lived, newest_before, noted, one_version};
+ghost use Rattle.ver_table.specs.Chains.{Place, holds_newest, in_slot, installed, lived, newest_before, noted, one_version};
 ghost use Rattle.ver_table.specs.Places.{IsFreeSlot, is_needed, is_pinned, is_taken};
 ghost use Rattle.ver_table.specs.Slots.{IsLaid, begin_at};
 
@@ -91,7 +91,7 @@ impl Chain {
     /// The slot and the begin of the newest version that begins before `hi`.
     pub(crate) fn choose(&self, hi: Option<Point>) -> (u8, Point)
         requires { IsSome (newest_before (number_of hi) self.now.stored) }
-        ensures chosen { (v : Stored) → newest_before (number_of hi) self.now.stored ≡ Some v
+        ensures chosen { (v : Place) → newest_before (number_of hi) self.now.stored ≡ Some v
             → (result.0 ≡ v.slot) × (result.1.0 ≡ v.begin)
             × (in_slot result.0 self.now.stored ≡ Some v) }
         ensures inside { result.0 < self.now.slots }
@@ -106,7 +106,7 @@ impl Chain {
     /// The end of the version in a slot.
     pub(crate) fn end_of(&self, slot: u8) -> Option<Point>
         requires { IsSome (in_slot slot self.now.stored) }
-        ensures { (v : Stored) → in_slot slot self.now.stored ≡ Some v → number_of result ≡ v.end }
+        ensures { (v : Place) → in_slot slot self.now.stored ≡ Some v → number_of result ≡ v.end }
     {
         self.ends[usize::from(slot)]
     }
@@ -190,7 +190,7 @@ fn is_needed(
     others: &[Interval],
     pins: &[Pin],
 ) -> bool
-    ensures { let s : Stored = record { slot = slot; begin = begin.0; end = number_of end } in
+    ensures { let s : Place = record { slot = slot; begin = begin.0; end = number_of end } in
         result ≡ is_needed o.0 (map range_of others.now) pins.now s }
 {
     is_pinned(o, slot, pins) || is_met(begin, end, others)

@@ -5,6 +5,7 @@ pub mod calls;
 mod chain;
 pub mod laws;
 mod table;
+pub mod tabled;
 
 pub use interval::{Pin, Version};
 pub use table::Versions;

@@ -2,7 +2,7 @@
 
 ghost use Rattle.std.specs.Prelude.{◌≡◌, ◌<◌, ◌≤◌, Some, false, IfOk, IsSome, length, map, slice_set};
 ghost use Rattle.interval.specs.Ranges.{number_of, range_of};
-ghost use Rattle.ver_table.specs.Chains.{AreNamed, AreOpened, Stored, chain_at, holds_newest, in_slot, installed, newest_before, noted};
+ghost use Rattle.ver_table.specs.Chains.{AreNamed, AreOpened, Place, chain_at, holds_newest, in_slot, installed, newest_before, noted};
 ghost use Rattle.ver_table.specs.Places.{IsFreeSlot, is_needed};
 ghost use Rattle.ver_table.specs.Slots.{IsLaid};
 
@@ -78,7 +78,7 @@ impl Versions {
         requires inside { o.0 < length self.now }
         requires begun { IsSome (newest_before (number_of hi) (chain_at self.now o.0).stored) }
         ensures object { result.object ≡ o }
-        ensures chosen { (v : Stored)
+        ensures chosen { (v : Place)
             → newest_before (number_of hi) (chain_at self.now o.0).stored ≡ Some v
             → (result.slot ≡ v.slot) × (result.begin.0 ≡ v.begin)
             × (in_slot result.slot (chain_at self.now o.0).stored ≡ Some v) }
@@ -114,7 +114,7 @@ impl Versions {
     pub fn end_of(&self, v: Version) -> Option<Point>
         requires inside { v.object.0 < length self.now }
         requires stands { IsSome (in_slot v.slot (chain_at self.now v.object.0).stored) }
-        ensures { (s : Stored) → in_slot v.slot (chain_at self.now v.object.0).stored ≡ Some s
+        ensures { (s : Place) → in_slot v.slot (chain_at self.now v.object.0).stored ≡ Some s
             → number_of result ≡ s.end }
     {
         self.chain(v.object).end_of(v.slot)

@@ -1,5 +1,5 @@
 use Rattle.std.proofs.Common.{ap, sym, ◌∙◌, arith}
-use Rattle.ver_table.specs.Chains.{Chain, Stored, in_slot}
+use Rattle.ver_table.specs.Chains.{Chain, Place, in_slot}
 use Rattle.ver_table.specs.Slots.{end_at}
 use Rattle.ver_table.proofs.Orders.{in_slot_is, some_of}
 use Rattle.ver_table.proofs.chain.Chain.end_of.Goals as goal
@@ -14,4 +14,4 @@ pub returns : goal.returns
 returns c =
     λ v e.
     let at = in_slot_is c.self.inside.begins c.self.inside.ends c.self.inside.slots c.args.slot c.self.inside.order.items c.self.invariant.are v (ap (λ (x : Chain). in_slot c.args.slot x.stored) c.self.view_is ∙ e) in
-    ap (end_at c.self.inside.ends) c.from.ensures ∙ sym (ap (λ (u : Stored). u.end) at.0)
+    ap (end_at c.self.inside.ends) c.from.ensures ∙ sym (ap (λ (u : Place). u.end) at.0)
