@@ -2,6 +2,7 @@ pub mod Orders
 pub mod Counts
 pub mod Installs
 pub mod Shown
+pub mod Ended
 pub mod Reopens
 pub mod HeldLaws
 pub mod StandLaws

@@ -9,7 +9,7 @@ use Rattle.nv_base.specs.declared.ids.Point.{Point}
 use Rattle.kernel_model.specs.Room.{is_below}
 use Rattle.ver_table.specs.Chains.{Chain, Place, holds_newest, in_slot, installed, newest_before}
 use Rattle.ver_table.specs.Places.{is_taken}
-use Rattle.ver_table.specs.Slots.{AreSlots, IsKept, IsLaid, begin_at, stored_at}
+use Rattle.ver_table.specs.Slots.{AreEnded, AreSlots, IsKept, IsLaid, begin_at, stored_at}
 use Rattle.ver_table.proofs.Counts.{slots_of}
 use Rattle.ver_table.proofs.Installs.{front-slots, others, stored_installed}
 use Rattle.ver_table.proofs.Orders.{any_at, find-map, any_below}
@@ -19,13 +19,17 @@ slots-map begins ends [] = refl
 slots-map begins ends (k ∷ ks) = ap (λ (js : List ℕ). k ∷ js) (slots-map begins ends ks)
 
 -- so it is laid out
-pub shown : (slots bound : ℕ) (order : List ℕ) (begins : List Point) (ends : List (Option Point)) (t : Chain) → (let c : Chain = record { slots = slots; bound = bound; stored = map (stored_at begins ends) order } in c) ≡ t → IsKept slots order → IsLaid t
+pub shown : (slots bound : ℕ) (order : List ℕ) (begins : List Point) (ends : List (Option Point)) (t : Chain) → (let c : Chain = record { slots = slots; bound = bound; stored = map (stored_at begins ends) order } in c) ≡ t → IsKept slots order (map (stored_at begins ends) order) → IsLaid t
 shown slots bound order begins ends t e kept =
     subst IsLaid e (record {
       few = kept.few;
       some = (let long = length-map order (stored_at begins ends) in omega (arith, long, kept.some));
       are = subst (AreSlots slots) (sym (slots-map begins ends order)) kept.are;
     })
+
+-- and its versions have ended, but the newest
+pub shown_ended : (slots bound : ℕ) (order : List ℕ) (begins : List Point) (ends : List (Option Point)) (t : Chain) → (let c : Chain = record { slots = slots; bound = bound; stored = map (stored_at begins ends) order } in c) ≡ t → IsKept slots order (map (stored_at begins ends) order) → AreEnded t.stored
+shown_ended slots bound order begins ends t e kept = subst (λ (c : Chain). AreEnded c.stored) e kept.ended
 
 -- a slot that does not hold the newest version is taken where it is in the order, and its version is needed
 pub taken_at : (needed : Place → Bool) (begins : List Point) (ends : List (Option Point)) (order : List ℕ) (k : ℕ) (b : Bool) → 1 ≤ length order → (get_or order 0 0 ≡ k → ⊥) → list_any (λ j. eqb j k) order ≡ b
@@ -70,11 +74,11 @@ chosen_at begins ends hi n order s v e = at (find (λ k. is_below (begin_at begi
         subst (IsChosenAt begins ends hi n order) is (record { found = f; begin_is = refl; inside = inside; there = slot_there begins ends (λ k. is_below (begin_at begins k) hi) order j f })
 
 -- the order with a new slot in front is kept
-pub kept_front : (n k : ℕ) (order : List ℕ) → IsKept n order → k < n → IsKept n (k ∷ others k order)
-kept_front n k order kept l = record { few = kept.few; some = omega arith; are = front-slots n k order l kept.are }
+pub kept_front : (n k : ℕ) (order : List ℕ) (old new : List Place) → IsKept n order old → k < n → AreEnded new → IsKept n (k ∷ others k order) new
+kept_front n k order old new kept l ended = record { few = kept.few; some = omega arith; are = front-slots n k order l kept.are; ended = ended }
 
 -- the chain with a new version
-pub shows_installed : (n bound : ℕ) (order : List ℕ) (begins : List Point) (ends : List (Option Point)) (k : ℕ) (p : Point) → IsKept n order → k < n → length begins ≡ 8 → length ends ≡ 8 → eqb (get_or order 0 0) k ≡ false →
+pub shows_installed : (n bound : ℕ) (order : List ℕ) (begins : List Point) (ends : List (Option Point)) (k : ℕ) (p : Point) → IsKept n order (map (stored_at begins ends) order) → k < n → length begins ≡ 8 → length ends ≡ 8 → eqb (get_or order 0 0) k ≡ false →
     (let c : Chain = record { slots = n; bound = p.0; stored = map (stored_at (set begins k p) (set (set ends (get_or order 0 0) (Some p)) k None)) (k ∷ others k order) } in c)
     ≡ installed k p.0 (record { slots = n; bound = bound; stored = map (stored_at begins ends) order })
 shows_installed n bound [] begins ends k p kept l b e o = absurd (omega (arith, kept.some))

@@ -29,11 +29,12 @@ abbrev pub AreEnded : List Place → Type 0
 AreEnded [] = Unit {0}
 AreEnded (v ∷ vs) = (v.end ≡ None) × AllByRecursion (λ u. is_none u.end ≡ false) vs
 
--- at most as many slots as the limits allow, of which one at least has a version
-pub record IsKept (slots : ℕ) (order : List ℕ) : Type 0 where
+-- at most as many slots as the limits allow, of which one at least has a version, and all versions but the newest have ended
+pub record IsKept (slots : ℕ) (order : List ℕ) (stored : List Place) : Type 0 where
   pub few : slots ≤ MAX_SLOTS
   pub some : 1 ≤ length order
   pub are : AreSlots slots order
+  pub ended : AreEnded stored
 
 -- at most as many slots as the limits allow, of which one at least has a version, and none has two
 pub record IsLaid (c : Chain) : Type 0 where

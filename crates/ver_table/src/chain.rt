@@ -6,7 +6,7 @@ ghost use Rattle.kernel_model.specs.Room.{is_below, meet};
 ghost use Rattle.interval.specs.Ranges.{number_of, range_of};
 ghost use Rattle.ver_table.specs.Chains.{Place, holds_newest, in_slot, installed, lived, newest_before, noted, one_version};
 ghost use Rattle.ver_table.specs.Places.{IsFreeSlot, is_needed, is_pinned, is_taken};
-ghost use Rattle.ver_table.specs.Slots.{IsLaid, begin_at};
+ghost use Rattle.ver_table.specs.Slots.{AreEnded, IsLaid, begin_at};
 
 use arrayvec::ArrayVec;
 use interval::{Interval, Pin};
@@ -38,7 +38,8 @@ impl Model for Chain {
 
     ghost view = { λ c. record { slots = c.slots; bound = c.bound.0; stored = map (stored_at c.begins c.ends) c.order.items } };
 
-    ghost invariant = { λ c. IsKept c.slots c.order.items };
+    ghost invariant = { λ c. IsKept c.slots c.order.items
+        (map (stored_at c.begins c.ends) c.order.items) };
 }
 
 impl Chain {
@@ -132,7 +133,9 @@ impl Chain {
 
     /// The least slot that holds neither the newest nor a needed version: None exactly where there is no place.
     pub(crate) fn free_slot(&self, o: ObjId, others: &[Interval], pins: &[Pin]) -> Option<u8>
-        ensures { IsFreeSlot (is_needed o.0 (map range_of others.now) pins.now) self.now result }
+        ensures free { IsFreeSlot (is_needed o.0 (map range_of others.now) pins.now) self.now result }
+        ensures laid { IsLaid self.now }
+        ensures ended { AreEnded self.now.stored }
     {
         for slot in 0..self.slots {
             if !self.is_taken(slot, o, others, pins) {

@@ -1,13 +1,14 @@
 // The table of versions: the versions of all objects, and what the kernel asks of them.
 
-ghost use Rattle.std.specs.Prelude.{◌≡◌, ◌<◌, ◌≤◌, Some, false, IfOk, IsSome, length, map, slice_set};
+ghost use Rattle.std.specs.Prelude.{◌≡◌, ◌<◌, ◌≤◌, Some, false, IfOk, IsSome, length, map, min, slice_set};
 ghost use Rattle.interval.specs.Ranges.{number_of, range_of};
 ghost use Rattle.ver_table.specs.Chains.{AreNamed, AreOpened, Place, chain_at, holds_newest, in_slot, installed, newest_before, noted};
 ghost use Rattle.ver_table.specs.Places.{IsFreeSlot, is_needed};
-ghost use Rattle.ver_table.specs.Slots.{IsLaid};
+ghost use Rattle.ver_table.specs.Slots.{AreEnded, IsLaid};
 
 use crate::chain::Chain;
 use interval::{Interval, Pin, Version};
+use nv_base::limits::MAX_OBJECTS;
 use nv_base::{NoMemory, ObjId, Point};
 use std::alloc::Global;
 use std::marker::Model;
@@ -58,12 +59,11 @@ impl Versions {
         }
     }
 
-    /// How many objects there are.
-    #[cfg(test)]
-    pub(crate) fn len(&self) -> usize
-        ensures { result ≡ length self.now }
+    /// How many objects there are, up to the most that a set may have.
+    pub fn objects(&self) -> u8
+        ensures { result ≡ min (length self.now) MAX_OBJECTS }
     {
-        self.chains.len()
+        self.chains.len().min(usize::from(MAX_OBJECTS)) as u8
     }
 
     pub(crate) fn chain(&self, o: ObjId) -> &Chain
@@ -124,8 +124,10 @@ impl Versions {
     /// where the object has no room.
     pub fn free_slot(&self, o: ObjId, others: &[Interval], pins: &[Pin]) -> Option<u8>
         requires { o.0 < length self.now }
-        ensures { let needed = is_needed o.0 (map range_of others.now) pins.now in
+        ensures free { let needed = is_needed o.0 (map range_of others.now) pins.now in
             IsFreeSlot needed (chain_at self.now o.0) result }
+        ensures laid { IsLaid (chain_at self.now o.0) }
+        ensures ended { AreEnded (chain_at self.now o.0).stored }
     {
         self.chain(o).free_slot(o, others, pins)
     }

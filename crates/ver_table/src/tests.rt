@@ -63,7 +63,7 @@ fn opened(rt: &HostRuntime, slots: u8, clock: u32) -> Result<Option<Versions>, N
 // What the calls answer where their conditions hold.
 
 fn choose(versions: &Versions, o: u8, hi: Option<Point>) -> Option<Version> {
-    if usize::from(o) < versions.len() && has_before(versions.chain(ObjId(o)), hi) {
+    if o < versions.objects() && has_before(versions.chain(ObjId(o)), hi) {
         Some(versions.choose(ObjId(o), hi))
     } else {
         None
@@ -71,7 +71,7 @@ fn choose(versions: &Versions, o: u8, hi: Option<Point>) -> Option<Version> {
 }
 
 fn end_of(versions: &Versions, v: Version) -> Option<Option<Point>> {
-    if usize::from(v.object.0) < versions.len() && holds(versions.chain(v.object), v.slot) {
+    if v.object.0 < versions.objects() && holds(versions.chain(v.object), v.slot) {
         Some(versions.end_of(v))
     } else {
         None
@@ -79,7 +79,7 @@ fn end_of(versions: &Versions, v: Version) -> Option<Option<Point>> {
 }
 
 fn bound(versions: &Versions, o: u8) -> Option<u32> {
-    if usize::from(o) < versions.len() {
+    if o < versions.objects() {
         Some(versions.bound(ObjId(o)).0)
     } else {
         None
@@ -87,7 +87,7 @@ fn bound(versions: &Versions, o: u8) -> Option<u32> {
 }
 
 fn free_slot(versions: &Versions, o: u8, others: &[Interval], pins: &[Pin]) -> Option<Option<u8>> {
-    if usize::from(o) < versions.len() {
+    if o < versions.objects() {
         Some(versions.free_slot(ObjId(o), others, pins))
     } else {
         None
@@ -95,14 +95,14 @@ fn free_slot(versions: &Versions, o: u8, others: &[Interval], pins: &[Pin]) -> O
 }
 
 fn note(versions: &mut Versions, o: u8, p: u32) {
-    if usize::from(o) < versions.len() {
+    if o < versions.objects() {
         versions.note(ObjId(o), Point(p));
     }
 }
 
 // whether the condition of `install` held
 fn install(versions: &mut Versions, o: u8, slot: u8, p: u32) -> bool {
-    if usize::from(o) >= versions.len() || versions.bound(ObjId(o)).0 > p {
+    if o >= versions.objects() || versions.bound(ObjId(o)).0 > p {
         return false;
     }
     if slot >= slots(versions.chain(ObjId(o))) || holds_newest(versions.chain(ObjId(o)), slot) {

@@ -1,0 +1,12 @@
+//! Which version an outside read takes, and whether an attempt that has ended may finish.
+#![tactic(auto)]
+
+mod beside;
+pub mod laws;
+mod reading;
+mod slots;
+mod verdict;
+
+pub use beside::View;
+pub use reading::{Stale, admit, opened};
+pub use verdict::{Verdict, validate};
