@@ -166,6 +166,13 @@ impl Queue {
         self.tasks.len().saturating_sub(1) + usize::from(spawns) <= usize::from(self.records)
     }
 
+    /// How many tasks are open.
+    pub fn pending(&self) -> u16
+        ensures { result ≡ length self.now.tasks }
+    {
+        self.tasks.len() as u16
+    }
+
     /// The open tasks, in order of id.
     pub fn open_tasks(&self) -> &[TaskRec]
         ensures { map task_of result.now ≡ self.now.tasks }

@@ -3,6 +3,8 @@
 ghost use Rattle.std.specs.Prelude.{◌≡◌, ◌<◌, ◌≤◌, ◌-◌, ◌^◌, true, length, map};
 ghost use Rattle.set_model.specs.Sets.{TaskSet};
 ghost use Rattle.vol_copy.specs.Stages.{is_waiting};
+ghost use Rattle.vol_copy.specs.declared.attempt.Stage.{Stage};
+ghost use Rattle.nv_base.specs.declared.lines.Outcome.{Outcome};
 ghost use Rattle.validate.specs.Views.{view_of};
 ghost use Rattle.validate.specs.Answers.{AreForOne, IsAnswer, Seen};
 
@@ -77,4 +79,29 @@ pub fn validate(
         written,
         slots,
     })
+}
+
+// The finish that is granted.
+fn entry(queue: &Queue, attempt: &Attempt, point: Point, number: Seq) -> Entry
+    requires ready { is_waiting attempt.now.stage ≡ true }
+    requires number { number.0 < 2 ^ 32 - 1 }
+    ensures { (o : Outcome) → attempt.now.stage ≡ Stage.Ready o
+        → result ≡ record {
+            number = record { 0 = number.0 + 1 };
+            task = attempt.now.task;
+            point = point;
+            first = record { 0 = queue.now.next };
+            outcome = o;
+        } }
+{
+    let Some(outcome) = attempt.outcome() else {
+        unreachable!()
+    };
+    Entry {
+        number: Seq(number.0 + 1),
+        task: attempt.task(),
+        point,
+        first: queue.next(),
+        outcome,
+    }
 }

@@ -23,10 +23,10 @@ abbrev pub writes_in : (written : List ℕ) → Objects → List Write
 writes_in written words = map (λ o. record { object = o; words = object_words words o }) written
 
 -- copies of these objects, each once, with the words that are kept of them
-pub record AreCopies (reads : List ℕ) (words : Objects) (copies : List Copy) : Type 0 where
+pub record AreCopies (reads : List ℕ) (kept : Objects) (copies : List Copy) : Type 0 where
   pub objects : objects_of copies ≡ reads
   pub once : AllPairsByRecursion (λ c d. c.object ≡ d.object → ⊥) copies
-  pub words : AllByRecursion (λ c. c.words ≡ object_words words c.object) copies
+  pub words : AllByRecursion (λ c. c.words ≡ object_words kept c.object) copies
 
 -- a try of the same task, which has written and spawned the same
 pub record HasDone (a : Attempt) (t : Try MachineState) : Type 0 where
