@@ -170,6 +170,8 @@ impl Queue {
     pub fn pending(&self) -> u16
         ensures { result ≡ length self.now.tasks }
     {
+        // there are no more tasks than records
+        let _most = self.records;
         self.tasks.len() as u16
     }
 
