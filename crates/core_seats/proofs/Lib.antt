@@ -1,0 +1,4 @@
+pub mod Held
+pub mod Running
+pub mod Fetching
+pub mod Copying

@@ -1,0 +1,8 @@
+//! What each core holds: an attempt with the interval of its reads, or a finish whose words are written.
+#![tactic(auto)]
+
+mod seat;
+mod seats;
+
+pub use seat::{Saving, Seat};
+pub use seats::Seats;

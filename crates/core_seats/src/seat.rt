@@ -1,0 +1,134 @@
+//! What one core holds, and what its own steps make of it.
+
+ghost use Rattle.std.specs.Prelude.{◌≡◌, ◌<◌, ℕ, IfOk, IsSome, Some, None, false, length, map};
+ghost use Rattle.kernel_model.specs.Intervals.{is_empty};
+ghost use Rattle.set_model.specs.Views.{task_of};
+ghost use Rattle.device_model.specs.IndexWords.{Index};
+ghost use Rattle.task_model.specs.TaskSteps.{task_steps};
+ghost use Rattle.table_machine.specs.Tables.{Vacant};
+ghost use Rattle.table_machine.specs.Seats.{start_try};
+ghost use Rattle.interval.specs.Ranges.{number_of, range_of};
+ghost use Rattle.ver_table.specs.Chains.{chain_at, newest_before};
+ghost use Rattle.vol_copy.specs.Tries.{IsFor};
+ghost use Rattle.vol_copy.specs.Stages.{IsCopying, IsFetching};
+ghost use Rattle.vol_copy.specs.declared.attempt.Stage.{Stage};
+ghost use Rattle.core_seats.specs.Holding.{StandsFor};
+ghost use Rattle.core_seats.specs.Steps.{CopiesOn, Fetches, HasVersions, RunsOn};
+
+use interval::Interval;
+use nv_base::{Entry, NoMemory, ObjId, Point, TaskRec};
+use std::alloc::Global;
+use task_set::TaskSet;
+use validate::{Stale, admit, opened};
+use ver_table::Versions;
+use vol_copy::{Attempt, Need};
+
+/// A finish that commits.
+#[derive(Clone, Copy, Debug)]
+pub struct Saving {
+    /// The finish.
+    pub entry: Entry,
+    /// Whether all its writes are made.
+    pub is_whole: bool,
+}
+
+/// What one core holds. Its memory is taken once.
+#[derive(Debug, Drop)]
+pub struct Seat {
+    /// Its try of a task, if it has one.
+    pub attempt: Attempt,
+    /// The points at which the attempt may stand, by what it has read.
+    pub reads: Interval,
+    /// The slot that it copies from, if it copies.
+    pub slot: u8,
+    /// Its finish, once it was granted.
+    pub saving: Option<Saving>,
+}
+
+impl Seat {
+    /// A core without a task. `NoMemory` where there is none for an attempt.
+    pub fn new(alloc: Global, set: &TaskSet) -> Result<Seat, NoMemory>
+        ensures kept { IfOk result (λ s. IsFor set.now s.attempt) }
+        ensures vacant { (after : Index) → IfOk result (λ s. StandsFor s after Vacant) }
+    {
+        Ok(Seat {
+            attempt: Attempt::new(alloc, set)?,
+            reads: Interval::from(Point(0)),
+            slot: 0,
+            saving: None,
+        })
+    }
+
+    /// The core gives its task up, if it has one.
+    pub fn clear(&mut self)
+        ensures kept { (set : TaskSet) → IsFor set self.old.attempt → IsFor set self.new.attempt }
+        ensures vacant { (after : Index) → StandsFor self.new after Vacant }
+    {
+        self.attempt.clear();
+        self.saving = None;
+    }
+
+    /// The try of a task begins at the clock.
+    pub fn start(&mut self, set: &TaskSet, task: TaskRec, clock: Point)
+        requires kept { IsFor set.now self.old.attempt }
+        requires program { task.program.0 < length set.now.programs }
+        ensures kept { IsFor set.now self.new.attempt }
+        ensures stands { (after : Index) (n : ℕ) → StandsFor self.new after
+            (start_try (task_steps set.now) clock.0 n (Some (task_of task))).seat }
+    {
+        self.attempt.load(set, task, clock);
+        self.reads = Interval::from(clock);
+        self.saving = None;
+    }
+
+    /// One step of a try that runs: an outside read takes a version, or drops the try where none is left for it, and
+    /// tells so. It takes no memory.
+    pub fn run(&mut self, set: &TaskSet, versions: &Versions) -> Option<Stale>
+        requires kept { IsFor set.now self.old.attempt }
+        requires running { self.old.attempt.stage ≡ Stage.Running }
+        requires trying { self.old.saving ≡ None }
+        requires versions { HasVersions set.now self.old.reads versions.now }
+        ensures kept { IsFor set.now self.new.attempt }
+        ensures runs { RunsOn set.now versions.now self.old self.new result }
+    {
+        match self.attempt.advance(set) {
+            Need::Went => None,
+            Need::Ready => None,
+            Need::Fetch(object) => self.fetch(versions, object),
+        }
+    }
+
+    // An outside read of an object.
+    fn fetch(&mut self, versions: &Versions, object: ObjId) -> Option<Stale>
+        requires kept { (set : TaskSet) × IsFor set self.old.attempt
+            × HasVersions set self.old.reads versions.now }
+        requires fetching { IsFetching object self.old.attempt.stage }
+        requires trying { self.old.saving ≡ None }
+        ensures kept { (set : TaskSet) → IsFor set self.old.attempt → IsFor set self.new.attempt }
+        ensures fetches { Fetches versions.now self.old object self.new result }
+    {
+        match admit(versions, self.reads, object) {
+            Err(stale) => {
+                self.clear();
+                Some(stale)
+            }
+            Ok(version) => {
+                self.reads = opened(versions, self.reads, version);
+                self.slot = version.slot;
+                self.attempt.open_read(version);
+                None
+            }
+        }
+    }
+
+    /// The next word of a copy. With the last one the try runs on.
+    pub fn copy(&mut self, word: u32)
+        requires kept { (set : TaskSet) × IsFor set self.old.attempt }
+        requires copying { IsCopying self.old.attempt.stage }
+        requires trying { self.old.saving ≡ None }
+        ensures kept { (set : TaskSet) → IsFor set self.old.attempt → IsFor set self.new.attempt }
+        ensures copies { CopiesOn self.old word self.new }
+    {
+        self.attempt.copy_word(word);
+    }
+}

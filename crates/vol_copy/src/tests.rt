@@ -1,0 +1,1 @@
+//! Small tasks on two objects, turn by turn.
