@@ -15,7 +15,7 @@ use Rattle.vol_copy.specs.declared.want.Want.{Want}
 use Rattle.core_seats.specs.Holding.{StandsFor, StandsForBy}
 use Rattle.core_seats.specs.Steps.{CopiesOn}
 use Rattle.core_seats.specs.declared.seat.Seat as own
-use Rattle.core_seats.proofs.Held.{copying_try}
+use Rattle.core_seats.proofs.Standing.{copying_try}
 
 -- whether it was the last one or not
 copied_to : (old : own.Seat) (a : Attempt) (after : Index) (o : ObjId) (w : Want) (copied : ℕ) (last : Bool) (t : Try MachineState) (turn : SeatTurn MachineState) → old.saving ≡ None → t.interval ≡ range_of old.reads → CopiesTo a o w copied last t old.slot turn
@@ -23,13 +23,13 @@ copied_to : (old : own.Seat) (a : Attempt) (after : Index) (o : ObjId) (w : Want
 copied_to old a after o w copied false t turn e f h =
     let new : own.Seat = record old { attempt = a } in
     let seat = Copies h.1.0 old.slot in
-    let stands = subst (λ s. IsSeatAt a (range_of old.reads) s seat) (sym h.0) (h.1.0, (old.slot, (h.1.1.0, (h.1.1.1.0 ∙ f, refl)))) in
-    subst (λ (x : SeatTurn MachineState). StandsFor new after x.seat × (x.line ≡ turns.Nothing)) (sym h.1.1.1.1) (subst (λ v. StandsForBy new after v seat) (sym e) (stands, refl), refl)
+    let stands = subst (λ s. IsSeatAt a (range_of old.reads) s seat) (sym h.0) (h.1.0, old.slot, h.1.1, h.1.2 ∙ f, refl) in
+    subst (λ (x : SeatTurn MachineState). StandsFor new after x.seat × (x.line ≡ turns.Nothing)) (sym h.1.3) (subst (λ v. StandsForBy new after v seat) (sym e) (stands, refl), refl)
 copied_to old a after o w copied true t turn e f h =
     let new : own.Seat = record old { attempt = a } in
     let seat = Runs h.1.0 in
-    let stands = subst (λ s. IsSeatAt a (range_of old.reads) s seat) (sym h.0) (h.1.0, (h.1.1.0, (h.1.1.1.0 ∙ f, refl))) in
-    subst (λ (x : SeatTurn MachineState). StandsFor new after x.seat × (x.line ≡ turns.Nothing)) (sym h.1.1.1.1) (subst (λ v. StandsForBy new after v seat) (sym e) (stands, tt), refl)
+    let stands = subst (λ s. IsSeatAt a (range_of old.reads) s seat) (sym h.0) (h.1.0, h.1.1, h.1.2 ∙ f, refl) in
+    subst (λ (x : SeatTurn MachineState). StandsFor new after x.seat × (x.line ≡ turns.Nothing)) (sym h.1.3) (subst (λ v. StandsForBy new after v seat) (sym e) (stands, tt), refl)
 
 pub copies_on : (old : own.Seat) (a : Attempt) (word : ℕ) (last : Bool) → old.saving ≡ None → CopiesWord old.attempt word a last → CopiesOn old word (record old { attempt = a })
 unfolding CopiesOn CopiesWord

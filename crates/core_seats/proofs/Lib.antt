@@ -1,4 +1,5 @@
-pub mod Held
+pub mod Standing
 pub mod Running
 pub mod Fetching
 pub mod Copying
+pub mod Beside

@@ -11,6 +11,7 @@ use Rattle.table_machine.specs.Seats.{SeatTurn, run_step}
 use Rattle.ver_table.specs.Chains.{Chain}
 use Rattle.ver_table.specs.Tabled.{all_tabled}
 use Rattle.validate.specs.declared.reading.Stale.{Stale}
+use Rattle.vol_copy.specs.Stages.{IsFetching}
 use Rattle.vol_copy.specs.Tries.{IsSeatAt}
 use Rattle.vol_copy.specs.Turns.{Advances}
 use Rattle.vol_copy.specs.declared.attempt.Attempt.{Attempt}
@@ -19,7 +20,7 @@ use Rattle.vol_copy.specs.declared.running.Need.TheVariants as need
 use Rattle.core_seats.specs.Holding.{IsFromSlot, StandsFor, StandsForBy}
 use Rattle.core_seats.specs.Steps.{Fetches, Leaves, RunsOn}
 use Rattle.core_seats.specs.declared.seat.Seat.{Seat}
-use Rattle.core_seats.proofs.Held.{leaves_still, running_try}
+use Rattle.core_seats.proofs.Standing.{leaves_still, running_try}
 
 -- it runs on
 pub runs_on : (set : TaskSet) (chains : List Chain) (old : Seat) (a : Attempt) → old.saving ≡ None → old.attempt.stage ≡ stage.Running → Advances set old.attempt a need.Went → RunsOn set chains old (record old { attempt = a }) None
@@ -28,8 +29,8 @@ runs_on set chains old a e f h = λ after n t g.
     let new : Seat = record old { attempt = a } in
     let held = running_try old after t e f g in
     let step = h.1 t held.0 (all_tabled chains) n in
-    let stands = subst (λ s. IsSeatAt a (range_of old.reads) s (Runs step.0)) (sym h.0) (step.0, (step.1.0, (step.1.1.0 ∙ held.1, refl))) in
-    leaves_still new after n t.task (Runs step.0) _ step.1.1.1 (subst (λ v. StandsForBy new after v (Runs step.0)) (sym e) (stands, tt))
+    let stands = subst (λ s. IsSeatAt a (range_of old.reads) s (Runs step.0)) (sym h.0) (step.0, step.1, step.2 ∙ held.1, refl) in
+    leaves_still new after n t.task (Runs step.0) _ step.3 (subst (λ v. StandsForBy new after v (Runs step.0)) (sym e) (stands, tt))
 
 -- it has ended
 pub has_ended : (set : TaskSet) (chains : List Chain) (old : Seat) (a : Attempt) → old.saving ≡ None → old.attempt.stage ≡ stage.Running → Advances set old.attempt a need.Ready → RunsOn set chains old (record old { attempt = a }) None
@@ -39,8 +40,8 @@ has_ended set chains old a e f h = λ after n t g.
     let held = running_try old after t e f g in
     let step = h.1 t held.0 (all_tabled chains) n in
     let seat = Waits t (outcome_of step.0) in
-    let stands = subst (λ s. IsSeatAt a (range_of old.reads) s seat) (sym step.1.0) (t, (step.1.1.0, (held.1, refl))) in
-    leaves_still new after n t.task seat _ step.1.1.1 (subst (λ v. StandsForBy new after v seat) (sym e) (stands, tt))
+    let stands = subst (λ s. IsSeatAt a (range_of old.reads) s seat) (sym step.1) (t, step.2, held.1, refl) in
+    leaves_still new after n t.task seat _ step.3 (subst (λ v. StandsForBy new after v seat) (sym e) (stands, tt))
 
 -- it reads from outside
 pub reads_outside : (set : TaskSet) (chains : List Chain) (old new : Seat) (a : Attempt) (o : ObjId) (told : Option Stale) → old.saving ≡ None → old.attempt.stage ≡ stage.Running → Advances set old.attempt a (need.Fetch o) → Fetches chains (record old { attempt = a }) o new told → RunsOn set chains old new told
@@ -49,3 +50,8 @@ reads_outside set chains old new a o told e f h fetches = λ after n t g.
     let held = running_try old after t e f g in
     let step = h.1 t held.0 (all_tabled chains) n in
     subst (Leaves new after n t.task told) (sym step.1) (fetches after n t a.machine step.0 held.1)
+
+-- then it waits for a version
+pub waits_for : (set : TaskSet) (old new : Attempt) (o : ObjId) → Advances set old new (need.Fetch o) → IsFetching o new.stage
+unfolding Advances
+waits_for set old new o h = h.0

@@ -1,27 +1,27 @@
 //! What one core holds, and what its own steps make of it.
 
-ghost use Rattle.std.specs.Prelude.{◌≡◌, ◌<◌, ℕ, IfOk, IsSome, Some, None, false, length, map};
-ghost use Rattle.kernel_model.specs.Intervals.{is_empty};
+ghost use Rattle.std.specs.Prelude.{◌≡◌, ◌<◌, ℕ, IfOk, Some, None, length};
+ghost use Rattle.std.specs.Option.{option_map};
 ghost use Rattle.set_model.specs.Views.{task_of};
 ghost use Rattle.device_model.specs.IndexWords.{Index};
 ghost use Rattle.task_model.specs.TaskSteps.{task_steps};
 ghost use Rattle.table_machine.specs.Tables.{Vacant};
 ghost use Rattle.table_machine.specs.Seats.{start_try};
-ghost use Rattle.interval.specs.Ranges.{number_of, range_of};
-ghost use Rattle.ver_table.specs.Chains.{chain_at, newest_before};
+ghost use Rattle.validate.specs.Views.{view_of};
 ghost use Rattle.vol_copy.specs.Tries.{IsFor};
 ghost use Rattle.vol_copy.specs.Stages.{IsCopying, IsFetching};
 ghost use Rattle.vol_copy.specs.declared.attempt.Stage.{Stage};
 ghost use Rattle.core_seats.specs.Holding.{StandsFor};
+ghost use Rattle.core_seats.specs.Others.{task_in, view_in};
 ghost use Rattle.core_seats.specs.Steps.{CopiesOn, Fetches, HasVersions, RunsOn};
 
-use interval::Interval;
-use nv_base::{Entry, NoMemory, ObjId, Point, TaskRec};
+use interval::{Interval, Pin};
+use nv_base::{Entry, NoMemory, ObjId, Point, TaskId, TaskRec};
 use std::alloc::Global;
 use task_set::TaskSet;
-use validate::{Stale, admit, opened};
+use validate::{Stale, View, admit, opened};
 use ver_table::Versions;
-use vol_copy::{Attempt, Need};
+use vol_copy::{Attempt, Doing, Need};
 
 /// A finish that commits.
 #[derive(Clone, Copy, Debug)]
@@ -130,5 +130,38 @@ impl Seat {
         ensures copies { CopiesOn self.old word self.new }
     {
         self.attempt.copy_word(word);
+    }
+
+    /// The task that the core holds, if it holds one.
+    pub fn task(&self) -> Option<TaskId>
+        ensures { option_map (λ id. id.0) result ≡ task_in self.now }
+    {
+        match self.attempt.doing() {
+            Doing::Nothing => None,
+            _ => Some(self.attempt.task()),
+        }
+    }
+
+    /// What is kept of the core's try, where it has one that no verdict has granted.
+    pub fn view(&self) -> Option<View>
+        ensures { option_map view_of result ≡ view_in self.now }
+    {
+        if self.saving.is_some() {
+            return None;
+        }
+        match self.attempt.doing() {
+            Doing::Nothing => None,
+            Doing::Copies { object, .. } => Some(View {
+                interval: self.reads,
+                copying: Some(Pin {
+                    object,
+                    slot: self.slot,
+                }),
+            }),
+            _ => Some(View {
+                interval: self.reads,
+                copying: None,
+            }),
+        }
     }
 }

@@ -1,4 +1,2 @@
 pub mod Views
 pub mod Reading
-pub mod Plans
-pub mod Answers

@@ -1,5 +1,6 @@
 pub mod Wants
 pub mod Stages
+pub mod Doings
 pub mod Received
 pub mod Tries
 pub mod Turns

@@ -4,6 +4,7 @@
 mod attempt;
 mod copied;
 mod copying;
+mod doing;
 pub mod laws;
 mod running;
 mod services;
@@ -11,6 +12,7 @@ mod want;
 mod written;
 
 pub use attempt::Attempt;
+pub use doing::Doing;
 pub use running::Need;
 
 #[cfg(test)]

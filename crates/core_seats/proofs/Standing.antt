@@ -20,8 +20,8 @@ pub running_try : (s : own.Seat) (after : Index) (t : Try MachineState) → s.sa
 running_try s after t e f h =
     let held = subst (λ v. StandsForBy s after v (Runs t)) e h in
     let found = subst (λ v. IsSeatAt s.attempt (range_of s.reads) v (Runs t)) f held.0 in
-    let same : t ≡ found.0 = cc found.1.1.1 in
-    (subst (IsTry s.attempt) (sym same) found.1.0, ap (λ (u : Try MachineState). u.interval) same ∙ found.1.1.0)
+    let same : t ≡ found.0 = cc found.3 in
+    (subst (IsTry s.attempt) (sym same) found.1, ap (λ (u : Try MachineState). u.interval) same ∙ found.2)
 
 -- a core that copies
 pub copying_try : (s : own.Seat) (after : Index) (t : Try MachineState) (slot : ℕ) (o : ObjId) (w : Want) (copied : ℕ) → s.saving ≡ None → s.attempt.stage ≡ stage.Copying o w copied → StandsFor s after (Copies t slot)
@@ -29,8 +29,8 @@ pub copying_try : (s : own.Seat) (after : Index) (t : Try MachineState) (slot : 
 copying_try s after t slot o w copied e f h =
     let held = subst (λ v. StandsForBy s after v (Copies t slot)) e h in
     let found = subst (λ v. IsSeatAt s.attempt (range_of s.reads) v (Copies t slot)) f held.0 in
-    let same : t ≡ found.0 = cc found.1.1.1.1 in
-    (subst (IsCopyingTry s.attempt o.0 copied) (sym same) found.1.1.0, ap (λ (u : Try MachineState). u.interval) same ∙ found.1.1.1.0)
+    let same : t ≡ found.0 = cc found.4 in
+    (subst (IsCopyingTry s.attempt o.0 copied) (sym same) found.2, ap (λ (u : Try MachineState). u.interval) same ∙ found.3)
 
 -- a turn that tells nothing leaves this seat
 pub leaves_still : (new : own.Seat) (after : Index) (n task : ℕ) (seat : Seat MachineState) (turn : SeatTurn MachineState) → turn ≡ still seat → StandsFor new after seat → Leaves new after n task None turn

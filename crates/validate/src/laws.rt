@@ -1,1 +1,0 @@
-//! What is asked of a verdict is what the table machine looks at.
