@@ -34,7 +34,7 @@ LeadsTo set a need.Ready chains n t step = (outcome : Outcome) × (a.stage ≡ s
 
 -- one step of the old attempt, over any chains and on any core: each try that it stands for goes on as the new one says
 unfoldable pub Advances : TaskSet → Attempt → Attempt → Need → Type 0
-Advances set old new need = IsInNeed new need × ((t : Try MachineState) → IsTry old t → (chains : List Chain) (n : ℕ) → LeadsTo set new need chains n t ((task_steps set).step t.state))
+Advances set old new need = (t : Try MachineState) → IsTry old t → (chains : List Chain) (n : ℕ) → LeadsTo set new need chains n t ((task_steps set).step t.state)
 
 -- the same where the machine has stepped already, and waits on this call
 unfoldable pub Serves : TaskSet → Attempt → Service → Attempt → Need → Type 0
