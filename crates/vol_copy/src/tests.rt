@@ -1,6 +1,6 @@
 //! Small tasks on two objects, turn by turn.
 
-ghost use Rattle.std.specs.Prelude.{◌≡◌, ◌<◌, ◌≤◌, IfOk, IfSome, IsTrue, length};
+ghost use Rattle.std.specs.Prelude.{◌≡◌, ◌<◌, IfOk, IfSome, IsTrue, false};
 ghost use Rattle.vol_copy.specs.Stages.{IsAfterWord};
 ghost use Rattle.vol_copy.specs.Tries.{IsFor};
 ghost use Rattle.vol_copy.specs.Turns.{IsInNeed};
@@ -8,6 +8,7 @@ ghost use Rattle.vol_copy.specs.Turns.{IsInNeed};
 use super::*;
 use crate::attempt::Stage;
 use interval::Version;
+use nv_base::limits::MAX_OBJECTS;
 use nv_base::{NoMemory, ObjId, ObjSet, Outcome, Point, ProgId, TaskId, TaskRec, TrapCause};
 use shadow_index::Copies;
 use std::test::Fail;
@@ -135,7 +136,9 @@ fn copies(attempt: &mut Attempt, set: &TaskSet, words: &[u32]) -> bool
 }
 
 // what it has read and written, and what it spawned
-fn has_done(attempt: &Attempt, reads: ObjId, written: ObjSet, spawns: usize) -> bool {
+fn has_done(attempt: &Attempt, reads: ObjId, written: ObjSet, spawns: usize) -> bool
+    requires { reads.0 < MAX_OBJECTS }
+{
     let mut objects = ObjSet::empty();
     objects.add(reads);
     attempt.reads() == objects && attempt.written() == written && attempt.spawns().len() == spawns
