@@ -5,3 +5,5 @@ pub mod StepTurns
 pub mod Obtaining
 pub mod WordTurns
 pub mod Cutting
+pub mod SeatTurns
+pub mod Commits

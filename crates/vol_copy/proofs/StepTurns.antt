@@ -23,7 +23,7 @@ use Rattle.table_machine.specs.Places.{objects_of}
 use Rattle.table_machine.specs.Seats.{SeatTurn, run_step, still}
 use Rattle.vol_copy.specs.Received.{ended_so}
 use Rattle.vol_copy.specs.Tries.{IsEndedTry, IsTry, writes_in}
-use Rattle.vol_copy.specs.Turns.{Advances, LeadsTo, Serves}
+use Rattle.vol_copy.specs.Turns.{Advances, IsInNeed, LeadsTo, Serves}
 use Rattle.vol_copy.specs.declared.attempt.Attempt.{Attempt}
 use Rattle.vol_copy.specs.declared.attempt.Stage.TheVariants as stage
 use Rattle.vol_copy.specs.declared.running.Need.{Need}
@@ -154,44 +154,44 @@ many_spawns s a program arg inside many = (
 pub spawns_too_many : (s : TaskSet) (a n : Attempt) (p : Need) (program arg : ℕ) → program < length s.programs → 8 ≤ length a.spawns → n ≡ ended_so a (outcome.Trap cause.Spawns) → p ≡ need.Ready → Serves s a (service.Spawn program arg) n p
 spawns_too_many s a n p program arg inside many same f = placed s a n _ _ p _ same f (many_spawns s a program arg inside many)
 
+-- with another state of the machine
+pub with_state : (a : Attempt) (m : MachineState) (t : Try MachineState) → IsTry a t → IsTry (record a { machine = m }) (record t { state = m })
+with_state a m t h = record { done = record { task = h.done.task; writes = h.done.writes; spawns = h.done.spawns; state = refl }; copies = h.copies }
+
 -- a turn: the machine goes on
-pub went : (s : TaskSet) (a : Attempt) (m : MachineState) → a.stage ≡ stage.Running → step_of a.machine ≡ Next m → Advances s a (record a { machine = m }) need.Went
+pub went : (s : TaskSet) (a : Attempt) (m : MachineState) → step_of a.machine ≡ Next m → Advances s a (record a { machine = m }) need.Went
 unfolding Advances
-went s a m running e = (
-  running,
-  λ t h chains n. (
-    record t { state = m },
-    tried a m t t.writes t.spawns a.written a.words a.spawns (record { done = record { task = h.done.task; writes = h.done.writes; spawns = h.done.spawns; state = refl }; copies = h.copies }) h.done.writes h.done.spawns,
-    refl,
-    ap (λ x. ran s chains n t (served s (step_of x))) h.done.state ∙ ap (λ r. ran s chains n t (served s r)) e,
-  ),
+went s a m e = λ t h chains n. (
+  record t { state = m },
+  with_state a m t h,
+  refl,
+  ap (λ x. ran s chains n t (served s (step_of x))) h.done.state ∙ ap (λ r. ran s chains n t (served s r)) e,
 )
 
 -- it traps
 traps : (s : TaskSet) (a : Attempt) (m : MachineState) (c : TrapCause) → step_of a.machine ≡ Traps m c → (let b : Attempt = record a { machine = m } in Advances s a (ended_so b (outcome.Trap c)) need.Ready)
 unfolding Advances
-traps s a m c e =
-    let b : Attempt = record a { machine = m } in (
-      (outcome.Trap c, refl),
-      λ t h chains n. (
-        outcome.Trap c,
-        refl,
-        ended_try b (outcome.Trap c) m t (record { done = record { task = h.done.task; writes = h.done.writes; spawns = h.done.spawns; state = refl }; copies = h.copies }),
-        ap (λ x. ran s chains n t (served s (step_of x))) h.done.state ∙ ap (λ r. ran s chains n t (served s r)) e,
-      ),
-    )
+traps s a m c e = λ t h chains n. (
+  outcome.Trap c,
+  refl,
+  ended_try (record a { machine = m }) (outcome.Trap c) m t (with_state a m t h),
+  ap (λ x. ran s chains n t (served s (step_of x))) h.done.state ∙ ap (λ r. ran s chains n t (served s r)) e,
+)
 
 pub trapped : (s : TaskSet) (a n : Attempt) (p : Need) (m : MachineState) (c : TrapCause) → step_of a.machine ≡ Traps m c → (let b : Attempt = record a { machine = m } in n ≡ ended_so b (outcome.Trap c)) → p ≡ need.Ready → Advances s a n p
 trapped s a n p m c e same f =
     let b : Attempt = record a { machine = m } in
     subst (λ x. Advances s a x p) (sym same) (subst (Advances s a (ended_so b (outcome.Trap c))) (sym f) (traps s a m c e))
 
+pub ready_so : (a n : Attempt) (p : Need) (o : Outcome) → n ≡ ended_so a o → p ≡ need.Ready → IsInNeed n p
+ready_so a n p o same f = subst (λ x. IsInNeed x p) (sym same) (subst (IsInNeed (ended_so a o)) (sym f) (o, refl))
+
 -- it calls a service
 pub calls : (s : TaskSet) (a n : Attempt) (p : Need) (m : MachineState) (asked : Service) → step_of a.machine ≡ Calls m asked → Serves s (record a { machine = m }) asked n p → Advances s a n p
 unfolding Advances Serves
-calls s a n p m asked e h = (
-  h.0,
-  λ t f chains k.
-      subst (LeadsTo s n p chains k t) (sym (ap (λ x. served s (step_of x)) f.done.state ∙ ap (served s) e))
-      (h.1 t (record { done = record { task = f.done.task; writes = f.done.writes; spawns = f.done.spawns; state = refl }; copies = f.copies }) chains k),
-)
+calls s a n p m asked e h = λ t f chains k.
+    subst (LeadsTo s n p chains k t) (sym (ap (λ x. served s (step_of x)) f.done.state ∙ ap (served s) e)) (h.1 t (with_state a m t f) chains k)
+
+pub serves_in : (s : TaskSet) (a n : Attempt) (p : Need) (asked : Service) → Serves s a asked n p → IsInNeed n p
+unfolding Serves
+serves_in s a n p asked h = h.0

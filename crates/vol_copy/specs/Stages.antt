@@ -29,3 +29,8 @@ IsFetching object s = (want : Want) × (s ≡ stage.Fetching object want)
 -- the words of some object come one by one
 abbrev pub IsCopying : Stage → Type 0
 IsCopying s = (object : ObjId) × (want : Want) × (copied : ℕ) × (s ≡ stage.Copying object want copied)
+
+-- after a word of a copy, which was the last one or not
+abbrev pub IsAfterWord : Bool → Stage → Type 0
+IsAfterWord false s = IsCopying s
+IsAfterWord true s = s ≡ stage.Running

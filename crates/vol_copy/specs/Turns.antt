@@ -11,9 +11,9 @@ use Rattle.set_model.specs.Views.{outcome_of}
 use Rattle.device_model.specs.Words.{Words}
 use Rattle.device_model.specs.Layouts.{Layout, slot_place}
 use Rattle.task_model.specs.TaskSteps.{served, task_steps}
-use Rattle.table_machine.specs.Tables.{Chain, Try, Setting, Runs, Copies, Waits}
+use Rattle.table_machine.specs.Tables.{Chain, Try, Seat, Setting, Runs, Copies, Waits}
 use Rattle.table_machine.specs.Seats.{SeatTurn, copy_word, fetch_version, run_step, still}
-use Rattle.vol_copy.specs.Tries.{IsCopyingTry, IsEndedTry, IsFor, IsTry}
+use Rattle.vol_copy.specs.Tries.{IsCopyingTry, IsEndedTry, IsFor, IsSeat, IsTry}
 use Rattle.vol_copy.specs.declared.attempt.Attempt.{Attempt}
 use Rattle.vol_copy.specs.declared.attempt.Stage.TheVariants as stage
 use Rattle.vol_copy.specs.declared.running.Need.{Need}
@@ -34,7 +34,7 @@ LeadsTo set a need.Ready chains n t step = (outcome : Outcome) × (a.stage ≡ s
 
 -- one step of the old attempt, over any chains and on any core: each try that it stands for goes on as the new one says
 unfoldable pub Advances : TaskSet → Attempt → Attempt → Need → Type 0
-Advances set old new need = IsInNeed new need × ((t : Try MachineState) → IsTry old t → (chains : List Chain) (n : ℕ) → LeadsTo set new need chains n t ((task_steps set).step t.state))
+Advances set old new need = (t : Try MachineState) → IsTry old t → (chains : List Chain) (n : ℕ) → LeadsTo set new need chains n t ((task_steps set).step t.state)
 
 -- the same where the machine has stepped already, and waits on this call
 unfoldable pub Serves : TaskSet → Attempt → Service → Attempt → Need → Type 0
@@ -68,3 +68,9 @@ CopiesWord old word new last =
     → (last ≡ (copied + 1 == (object_at set o.0).size))
     × ((layout : Layout) (words : Words) (t : Try MachineState) (slot : ℕ) → IsCopyingTry old o.0 copied t → word ≡ words (slot_place layout set o.0 slot + copied)
     → CopiesTo new o w copied last t slot (copy_word (setting_of set layout) words t slot t.copies))
+
+-- what the turn of a seat comes to, of which the old attempt stood with this interval: the new one stands for the seat after it, and nothing is printed. Where it needs a version, it stands for the try that chooses one
+abbrev pub TurnsTo : Attempt → Interval → Need → List Chain → ℕ → SeatTurn MachineState → Type 0
+TurnsTo a i need.Went chains n turn = (seat : Seat MachineState) × IsSeat a i seat × (turn ≡ still seat)
+TurnsTo a i (need.Fetch o) chains n turn = (t : Try MachineState) × IsTry a t × (t.interval ≡ i) × (turn ≡ fetch_version chains n t t.state o.0)
+TurnsTo a i need.Ready chains n turn = (seat : Seat MachineState) × IsSeat a i seat × (turn ≡ still seat)

@@ -2,7 +2,7 @@
 
 ghost use Rattle.std.specs.Prelude.{◌≡◌};
 ghost use Rattle.set_model.specs.Sets.{TaskSet};
-ghost use Rattle.vol_copy.specs.Stages.{IsCopying, IsFetching};
+ghost use Rattle.vol_copy.specs.Stages.{IsAfterWord, IsCopying, IsFetching};
 ghost use Rattle.vol_copy.specs.Tries.{IsFor};
 ghost use Rattle.vol_copy.specs.Turns.{CopiesWord, OpensRead};
 
@@ -17,6 +17,7 @@ impl Attempt {
         requires kept { (set : TaskSet) × IsFor set self.old }
         requires fetching { IsFetching v.object self.old.stage }
         ensures kept { (set : TaskSet) → IsFor set self.old → IsFor set self.new }
+        ensures stage { IsCopying self.new.stage }
         ensures opens { OpensRead self.old v.object self.new }
     {
         let Stage::Fetching { object, want } = self.stage else {
@@ -38,6 +39,7 @@ impl Attempt {
         requires kept { (set : TaskSet) × IsFor set self.old }
         requires copying { IsCopying self.old.stage }
         ensures kept { (set : TaskSet) → IsFor set self.old → IsFor set self.new }
+        ensures stage { IsAfterWord result self.new.stage }
         ensures copies { CopiesWord self.old word self.new result }
     {
         let Stage::Copying {
@@ -56,6 +58,7 @@ impl Attempt {
         requires kept { (set : TaskSet) × IsFor set self.old }
         requires copying { self.old.stage ≡ Stage.Copying object want copied }
         ensures kept { (set : TaskSet) → IsFor set self.old → IsFor set self.new }
+        ensures stage { IsAfterWord result self.new.stage }
         ensures copies { CopiesWord self.old word self.new result }
     {
         self.copies.put(object, copied, word);

@@ -5,7 +5,7 @@ ghost use Rattle.rv_core.specs.Machine.{service_of};
 ghost use Rattle.rv_core.specs.declared.services.Service.{Service};
 ghost use Rattle.vol_copy.specs.Tries.{IsFor};
 ghost use Rattle.vol_copy.specs.Received.{ended_so};
-ghost use Rattle.vol_copy.specs.Turns.{Advances, Serves};
+ghost use Rattle.vol_copy.specs.Turns.{Advances, IsInNeed, Serves};
 
 use crate::attempt::{Attempt, Stage};
 use crate::want::Want;
@@ -31,6 +31,7 @@ impl Attempt {
         requires kept { IsFor set.now self.old }
         requires running { self.old.stage ≡ Stage.Running }
         ensures kept { IsFor set.now self.new }
+        ensures stage { IsInNeed self.new result }
         ensures advances { Advances set.now self.old self.new result }
     {
         match self.machine.step() {

@@ -1,6 +1,6 @@
 //! What the services that a running task calls make of its attempt.
 
-ghost use Rattle.std.specs.Prelude.{◌≡◌, ◌≤◌, ◌<◌, ◌+◌, IfOk, OnOk, Some, length};
+ghost use Rattle.std.specs.Prelude.{◌≡◌, ◌≤◌, ◌<◌, ◌+◌, IfOk, OnOk, Some, length, nat_le};
 ghost use Rattle.std.specs.Result.{result_err};
 ghost use Rattle.rv_core.specs.Machine.{IsPlace, service_of};
 ghost use Rattle.rv_core.specs.declared.services.Service.TheVariants.{Read, Write, Spawn as AsksFor};
@@ -196,15 +196,22 @@ impl Attempt {
         if program >= u32::from(set.programs()) {
             return self.end(Outcome::Trap(TrapCause::Program));
         }
-        let index = self.spawns.len();
-        if index >= MAX_SPAWNS {
+        if self.has_spawned_all() {
             return self.end(Outcome::Trap(TrapCause::Spawns));
         }
+        let index = self.spawns.len();
         self.spawns.push(Spawn {
             program: ProgId(program as u8),
             arg,
         });
         self.machine.resume(Some(index as u32));
         Need::Went
+    }
+
+    /// Whether it has spawned as many tasks as it may.
+    fn has_spawned_all(&self) -> bool
+        ensures { result ≡ nat_le MAX_SPAWNS (length self.now.spawns) }
+    {
+        self.spawns.len() >= MAX_SPAWNS
     }
 }
