@@ -1,0 +1,4 @@
+pub mod Raises
+pub mod Pins
+pub mod Frees
+pub mod OutsideReads

@@ -20,6 +20,6 @@ HaveSlots chains views written slots = (o : ℕ) → is_among o written ≡ true
 
 -- the least written object that has none
 pub record IsFull (chains : List Chain) (views : List View) (written : List ℕ) (o : ℕ) : Type 0 where
-  pub written : is_among o written ≡ true
+  pub among : is_among o written ≡ true
   pub full : free_in chains views o ≡ None
   pub earlier : (j : ℕ) → j < o → is_among j written ≡ true → is_some (free_in chains views j) ≡ true

@@ -23,7 +23,7 @@ pub record IsVersionAt (chains : List Chain) (v : Version) (p : Place) : Type 0 
 -- a try with this interval of reads takes this version of an object
 pub record IsAdmitted (chains : List Chain) (reads : Interval) (object : ℕ) (v : Version) : Type 0 where
   pub some : is_empty (range_of reads) ≡ false
-  pub object : v.object.0 ≡ object
+  pub named : v.object.0 ≡ object
   pub place : Place
   pub chosen : chosen_place (range_of reads).hi (places_at (all_tabled chains) object) ≡ Some place
   pub version : IsVersionAt chains v place

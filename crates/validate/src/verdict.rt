@@ -1,6 +1,8 @@
 //! Whether an attempt that has ended may finish, and where.
 
-ghost use Rattle.std.specs.Prelude.{◌≡◌, ◌<◌, ◌≤◌, ◌-◌, ◌^◌, true, length, map};
+ghost use Rattle.std.specs.Prelude.{◌≡◌, ◌<◌, ◌≤◌, ◌+◌, ◌-◌, ◌^◌, true, List, length, map};
+ghost use Rattle.kernel_model.specs.Effects.{Write};
+ghost use Rattle.interval.specs.Ranges.{is_some_write};
 ghost use Rattle.set_model.specs.Sets.{TaskSet};
 ghost use Rattle.vol_copy.specs.Stages.{is_waiting};
 ghost use Rattle.vol_copy.specs.declared.attempt.Stage.{Stage};
@@ -57,7 +59,7 @@ pub fn validate(
 {
     let written = attempt.written();
     let interval = raised(versions, written, reads);
-    let Some(point) = interval.pick(clock, written != ObjSet::empty()) else {
+    let Some(point) = interval.pick(clock, writes_some(written)) else {
         return Verdict::Empty {
             lo: interval.lo,
             hi: end_of(interval.hi),
@@ -79,6 +81,13 @@ pub fn validate(
         written,
         slots,
     })
+}
+
+// Whether an object is written.
+fn writes_some(written: ObjSet) -> bool
+    ensures { (ws : List Write) → map (λ w. w.object) ws ≡ written → is_some_write ws ≡ result }
+{
+    written != ObjSet::empty()
 }
 
 // The finish that is granted.
