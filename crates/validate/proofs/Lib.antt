@@ -2,3 +2,5 @@ pub mod Raises
 pub mod Pins
 pub mod Frees
 pub mod OutsideReads
+pub mod Fulls
+pub mod Decided
