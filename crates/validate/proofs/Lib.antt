@@ -1,1 +1,6 @@
+pub mod Raises
+pub mod Pins
+pub mod Frees
 pub mod OutsideReads
+pub mod Fulls
+pub mod Decided

@@ -1,2 +1,4 @@
 pub mod Views
 pub mod Reading
+pub mod Plans
+pub mod Answers

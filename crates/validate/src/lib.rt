@@ -2,7 +2,11 @@
 #![tactic(auto)]
 
 mod beside;
+pub mod laws;
 mod reading;
+mod slots;
+mod verdict;
 
 pub use beside::View;
 pub use reading::{Stale, admit, opened};
+pub use verdict::{Verdict, validate};

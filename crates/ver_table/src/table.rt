@@ -1,6 +1,6 @@
 // The table of versions: the versions of all objects, and what the kernel asks of them.
 
-ghost use Rattle.std.specs.Prelude.{◌≡◌, ◌<◌, ◌≤◌, Some, false, IfOk, IsSome, length, map, min, slice_set};
+ghost use Rattle.std.specs.Prelude.{◌≡◌, ◌<◌, ◌≤◌, Some, false, IfOk, IsSome, length, map, slice_set};
 ghost use Rattle.interval.specs.Ranges.{number_of, range_of};
 ghost use Rattle.ver_table.specs.Chains.{AreNamed, AreOpened, Place, chain_at, holds_newest, in_slot, installed, newest_before, noted};
 ghost use Rattle.ver_table.specs.Places.{IsFreeSlot, is_needed};
@@ -22,12 +22,15 @@ pub struct Versions {
 }
 
 impl Model for Versions {
-    ghost use Rattle.std.specs.Prelude.{List};
+    ghost use Rattle.std.specs.Prelude.{◌≤◌, List, length};
+    ghost use Rattle.nv_base.specs.declared.limits.TheConstants.{MAX_OBJECTS};
     ghost use Rattle.ver_table.specs.Chains.{Chain as Kept};
 
     ghost Value = { List Kept };
 
     ghost view = { λ v. v.chains.items };
+
+    ghost invariant = { λ v. length v.chains.items ≤ MAX_OBJECTS };
 }
 
 impl Versions {
@@ -59,11 +62,12 @@ impl Versions {
         }
     }
 
-    /// How many objects there are, up to the most that a set may have.
+    /// How many objects there are.
     pub fn objects(&self) -> u8
-        ensures { result ≡ min (length self.now) MAX_OBJECTS }
+        ensures exact { result ≡ length self.now }
+        ensures few { result ≤ MAX_OBJECTS }
     {
-        self.chains.len().min(usize::from(MAX_OBJECTS)) as u8
+        self.chains.len() as u8
     }
 
     pub(crate) fn chain(&self, o: ObjId) -> &Chain

@@ -1,0 +1,55 @@
+-- A free slot of the table, as the table machine has it.
+use Rattle.std.proofs.Common.{◌≡◌, ℕ, ◌+◌, ◌<◌, Bool, true, false, List, [], ◌∷◌, length, map, set, eqb, ◌||◌, ◌&&◌, Option, Some, None, refl, sym, ◌∙◌, subst, arith, below_more, get_or-set_same, get_or-set_other}
+use Rattle.std.specs.Prelude.{slice_index}
+use Rattle.std.specs.List.{list_any}
+use Rattle.std.proofs.lemmas.Bool.{or_parts}
+use Rattle.object_sets.specs.ObjectSets.{is_among}
+use Rattle.interval.specs.Ranges.{range_of}
+use Rattle.interval.specs.declared.ranges.Interval as own
+use Rattle.interval.specs.declared.version.Pin.{Pin}
+use Rattle.kernel_model.specs.Intervals.{Interval}
+use Rattle.slot_model.specs.Tabled.{Place, View}
+use Rattle.ver_table.specs.Chains.{Chain, chain_at, holds_newest}
+use Rattle.ver_table.specs.Places.{IsFreeSlot, is_needed, is_taken}
+use Rattle.ver_table.specs.Slots.{AreEnded, IsLaid}
+use Rattle.ver_table.specs.Tabled.{AreViews}
+use Rattle.ver_table.proofs.FreePlaces.{free_is}
+use Rattle.validate.specs.Plans.{IsFreeIn, free_in}
+
+-- a slot that is not taken does not hold the newest version
+not_newest : (needed : Place → Bool) (vs : List Place) (k : ℕ) → is_taken needed vs k ≡ false → holds_newest k vs ≡ false
+not_newest needed [] k e = refl
+not_newest needed (v ∷ vs) k e = (or_parts (eqb v.slot k) (list_any (λ (u : Place). eqb u.slot k && needed u) vs) e).0
+
+-- a slot that was found
+pub slot_found : (chains : List Chain) (views : List View) (others : List Interval) (pins : List Pin) (o k : ℕ) → IsLaid (chain_at chains o) → AreEnded (chain_at chains o).stored → AreViews views others pins
+    → IsFreeSlot (is_needed o others pins) (chain_at chains o) (Some k) → IsFreeIn chains views o k
+slot_found chains views others pins o k laid ended h s = record {
+  free = free_is o views others pins (chain_at chains o) (Some k) laid ended h s;
+  inside = s.1.inside;
+  older = not_newest (is_needed o others pins) (chain_at chains o).stored k s.1.free;
+}
+
+-- and none
+pub none_found : (chains : List Chain) (views : List View) (others : List Interval) (pins : List Pin) (o : ℕ) → IsLaid (chain_at chains o) → AreEnded (chain_at chains o).stored → AreViews views others pins
+    → IsFreeSlot (is_needed o others pins) (chain_at chains o) None → free_in chains views o ≡ None
+none_found chains views others pins o laid ended h s = free_is o views others pins (chain_at chains o) None laid ended h s
+
+-- one slot more is found
+pub one_slot_more : (chains : List Chain) (views : List View) (written slots : List ℕ) (o k : ℕ) → o < length slots → ((j : ℕ) → j < o → is_among j written ≡ true → IsFreeIn chains views j (slice_index slots j)) → IsFreeIn chains views o k
+    → (j : ℕ) → j < o + 1 → is_among j written ≡ true → IsFreeIn chains views j (slice_index (set slots o k) j)
+one_slot_more chains views written slots o k l before here =
+    below_more (λ j. is_among j written ≡ true → IsFreeIn chains views j (slice_index (set slots o k) j)) o
+    (λ j b e. let other : j ≡ o → ⊥ = λ f. omega (arith, b, f) in subst (IsFreeIn chains views j) (sym (get_or-set_other slots o j k 0 other)) (before j b e))
+    (λ e. subst (IsFreeIn chains views o) (sym (get_or-set_same slots o k 0 l)) here)
+
+-- the same of what the lists are read as
+pub views_moved : (views : List View) (is js : List own.Interval) (ps qs : List Pin) → AreViews views (map range_of is) ps → js ≡ is → qs ≡ ps → AreViews views (map range_of js) qs
+views_moved views is js ps qs h e f = subst (λ (xs : List own.Interval). AreViews views (map range_of xs) qs) (sym e) (subst (λ (xs : List Pin). AreViews views (map range_of is) xs) (sym f) h)
+
+-- one object more that is not written
+pub other_more : (chains : List Chain) (views : List View) (written slots : List ℕ) (o : ℕ) → is_among o written ≡ false → ((j : ℕ) → j < o → is_among j written ≡ true → IsFreeIn chains views j (slice_index slots j))
+    → (j : ℕ) → j < o + 1 → is_among j written ≡ true → IsFreeIn chains views j (slice_index slots j)
+other_more chains views written slots o none before =
+    below_more (λ j. is_among j written ≡ true → IsFreeIn chains views j (slice_index slots j)) o before
+    (λ e. absurd (let both : true ≡ false = sym e ∙ none in cc both))

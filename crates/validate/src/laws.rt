@@ -1,0 +1,1 @@
+//! What is asked of a verdict is what the table machine looks at.
