@@ -11,7 +11,6 @@ use Rattle.table_machine.specs.Seats.{SeatTurn, run_step}
 use Rattle.ver_table.specs.Chains.{Chain}
 use Rattle.ver_table.specs.Tabled.{all_tabled}
 use Rattle.validate.specs.declared.reading.Stale.{Stale}
-use Rattle.vol_copy.specs.Stages.{IsFetching}
 use Rattle.vol_copy.specs.Tries.{IsSeatAt}
 use Rattle.vol_copy.specs.Turns.{Advances}
 use Rattle.vol_copy.specs.declared.attempt.Attempt.{Attempt}
@@ -23,13 +22,13 @@ use Rattle.core_seats.specs.declared.seat.Seat.{Seat}
 use Rattle.core_seats.proofs.Standing.{leaves_still, running_try}
 
 -- it runs on
-pub runs_on : (set : TaskSet) (chains : List Chain) (old : Seat) (a : Attempt) → old.saving ≡ None → old.attempt.stage ≡ stage.Running → Advances set old.attempt a need.Went → RunsOn set chains old (record old { attempt = a }) None
+pub runs_on : (set : TaskSet) (chains : List Chain) (old : Seat) (a : Attempt) → old.saving ≡ None → old.attempt.stage ≡ stage.Running → a.stage ≡ stage.Running → Advances set old.attempt a need.Went → RunsOn set chains old (record old { attempt = a }) None
 unfolding RunsOn Advances
-runs_on set chains old a e f h = λ after n t g.
+runs_on set chains old a e f now h = λ after n t g.
     let new : Seat = record old { attempt = a } in
     let held = running_try old after t e f g in
-    let step = h.1 t held.0 (all_tabled chains) n in
-    let stands = subst (λ s. IsSeatAt a (range_of old.reads) s (Runs step.0)) (sym h.0) (step.0, step.1, step.2 ∙ held.1, refl) in
+    let step = h t held.0 (all_tabled chains) n in
+    let stands = subst (λ s. IsSeatAt a (range_of old.reads) s (Runs step.0)) (sym now) (step.0, step.1, step.2 ∙ held.1, refl) in
     leaves_still new after n t.task (Runs step.0) _ step.3 (subst (λ v. StandsForBy new after v (Runs step.0)) (sym e) (stands, tt))
 
 -- it has ended
@@ -38,7 +37,7 @@ unfolding RunsOn Advances
 has_ended set chains old a e f h = λ after n t g.
     let new : Seat = record old { attempt = a } in
     let held = running_try old after t e f g in
-    let step = h.1 t held.0 (all_tabled chains) n in
+    let step = h t held.0 (all_tabled chains) n in
     let seat = Waits t (outcome_of step.0) in
     let stands = subst (λ s. IsSeatAt a (range_of old.reads) s seat) (sym step.1) (t, step.2, held.1, refl) in
     leaves_still new after n t.task seat _ step.3 (subst (λ v. StandsForBy new after v seat) (sym e) (stands, tt))
@@ -48,10 +47,5 @@ pub reads_outside : (set : TaskSet) (chains : List Chain) (old new : Seat) (a : 
 unfolding RunsOn Advances Fetches
 reads_outside set chains old new a o told e f h fetches = λ after n t g.
     let held = running_try old after t e f g in
-    let step = h.1 t held.0 (all_tabled chains) n in
+    let step = h t held.0 (all_tabled chains) n in
     subst (Leaves new after n t.task told) (sym step.1) (fetches after n t a.machine step.0 held.1)
-
--- then it waits for a version
-pub waits_for : (set : TaskSet) (old new : Attempt) (o : ObjId) → Advances set old new (need.Fetch o) → IsFetching o new.stage
-unfolding Advances
-waits_for set old new o h = h.0

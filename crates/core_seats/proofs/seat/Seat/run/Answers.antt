@@ -1,11 +1,8 @@
-use Rattle.core_seats.proofs.Running.{has_ended, reads_outside, runs_on, waits_for}
+use Rattle.core_seats.proofs.Running.{has_ended, reads_outside, runs_on}
 use Rattle.core_seats.proofs.seat.Seat.run.Goals as goal
 
-pub fetch-requires-clause-fetching : goal.fetch-requires-clause-fetching
-fetch-requires-clause-fetching c = waits_for c.args.set.now c.args.self.now.attempt c.advance.new.self c.in-Fetch.object c.in-Fetch.ensures.advances
-
 pub returns-in-Went-clause-runs : goal.returns-in-Went-clause-runs
-returns-in-Went-clause-runs c = runs_on c.args.set.now c.args.versions.now c.args.self.now c.advance.new.self c.requires.trying c.requires.running c.in-Went.ensures.advances
+returns-in-Went-clause-runs c = runs_on c.args.set.now c.args.versions.now c.args.self.now c.advance.new.self c.requires.trying c.requires.running c.in-Went.ensures.stage c.in-Went.ensures.advances
 
 pub returns-in-Ready-clause-runs : goal.returns-in-Ready-clause-runs
 returns-in-Ready-clause-runs c = has_ended c.args.set.now c.args.versions.now c.args.self.now c.advance.new.self c.requires.trying c.requires.running c.in-Ready.ensures.advances
