@@ -3,3 +3,4 @@ pub mod Running
 pub mod Fetching
 pub mod Copying
 pub mod Beside
+pub mod Granted

@@ -1,5 +1,5 @@
 -- What a core holds, as the kernel over tables has it. This project's own.
-use Rattle.std.specs.Prelude.{◌≡◌, ℕ, ◌==◌, List, [], ◌∷◌, Option, Some, None}
+use Rattle.std.specs.Prelude.{◌≡◌, ℕ, ◌<◌, true, false, List, [], ◌∷◌, Option, Some, None}
 use Rattle.rv_core.specs.State.{MachineState}
 use Rattle.nv_base.specs.declared.lines.Outcome.{Outcome}
 use Rattle.kernel_model.specs.Items.{FinishRecord, entry_of}
@@ -25,7 +25,8 @@ pub record IsSaving (s : own.Seat) (v : Saving) (after : Index) (seat : Seat Mac
   pub finish : FinishRecord
   pub left : ℕ
   pub is : seat ≡ Saves finish after left
-  pub whole : v.is_whole ≡ (left == 0)
+  pub whole : v.is_whole ≡ true → left ≡ 0
+  pub begun : v.is_whole ≡ false → 0 < left
   pub entry : entry_of finish ≡ told.entry_of v.entry
   pub outcome : Outcome
   pub ended : s.attempt.stage ≡ stage.Ready outcome

@@ -1,26 +1,33 @@
 //! What one core holds, and what its own steps make of it.
 
-ghost use Rattle.std.specs.Prelude.{◌≡◌, ◌<◌, ℕ, IfOk, Some, None, length};
+ghost use Rattle.std.specs.Prelude.{◌≡◌, ◌<◌, ◌≤◌, ℕ, IfOk, Some, None, length, true};
 ghost use Rattle.std.specs.Option.{option_map};
+ghost use Rattle.std.specs.List.{list_any};
+ghost use Rattle.object_sets.specs.ObjectSets.{AreBelow, is_among};
 ghost use Rattle.set_model.specs.Views.{task_of};
 ghost use Rattle.device_model.specs.IndexWords.{Index};
 ghost use Rattle.task_model.specs.TaskSteps.{task_steps};
 ghost use Rattle.table_machine.specs.Tables.{Vacant};
 ghost use Rattle.table_machine.specs.Seats.{start_try};
+ghost use Rattle.kernel_model.specs.Chain.{cut as cut_at};
+ghost use Rattle.interval.specs.Ranges.{range_of};
 ghost use Rattle.validate.specs.Views.{view_of};
 ghost use Rattle.vol_copy.specs.Tries.{IsFor};
-ghost use Rattle.vol_copy.specs.Stages.{IsCopying, IsFetching};
+ghost use Rattle.vol_copy.specs.Stages.{IsCopying, IsFetching, is_waiting};
 ghost use Rattle.vol_copy.specs.declared.attempt.Stage.{Stage};
+ghost use Rattle.core_seats.specs.declared.seat.Saving.{Saving as Granted};
 ghost use Rattle.core_seats.specs.Holding.{StandsFor};
 ghost use Rattle.core_seats.specs.Others.{task_in, view_in};
-ghost use Rattle.core_seats.specs.Steps.{CopiesOn, Fetches, HasVersions, RunsOn};
+ghost use Rattle.core_seats.specs.Steps.{Completes, CopiesOn, Fetches, Grants, HasVersions, IsCutBy, RunsOn};
 
 use interval::{Interval, Pin};
-use nv_base::{Entry, NoMemory, ObjId, Point, TaskId, TaskRec};
+use nv_base::limits::MAX_OBJECTS;
+use nv_base::{Entry, NoMemory, ObjId, ObjSet, Point, TaskId, TaskRec};
 use std::alloc::Global;
 use task_set::TaskSet;
 use validate::{Stale, View, admit, opened};
 use ver_table::Versions;
+use vol_copy::laws::seat_is_cut;
 use vol_copy::{Attempt, Doing, Need};
 
 /// A finish that commits.
@@ -132,6 +139,55 @@ impl Seat {
         self.attempt.copy_word(word);
     }
 
+    /// The finish of the core's try was granted: its writes come next.
+    pub fn grant(&mut self, entry: Entry)
+        requires waits { is_waiting self.old.attempt.stage ≡ true }
+        ensures attempt { self.new.attempt ≡ self.old.attempt }
+        ensures grants { Grants self.old entry self.new }
+    {
+        self.saving = Some(Saving {
+            entry,
+            is_whole: false,
+        });
+    }
+
+    /// All writes of the core's finish are made.
+    pub fn complete(&mut self)
+        requires { (v : Granted) × (self.old.saving ≡ Some v) }
+        ensures attempt { self.new.attempt ≡ self.old.attempt }
+        ensures completes { Completes self.old self.new }
+    {
+        if let Some(saving) = &mut self.saving {
+            saving.is_whole = true;
+        }
+    }
+
+    /// A finish joins at a point, which wrote these objects, of so many: a try that has read one of them can't stand
+    /// behind it.
+    pub fn cut(&mut self, point: Point, written: ObjSet, count: u8)
+        requires few { count ≤ MAX_OBJECTS }
+        requires reads { AreBelow count self.old.attempt.reads }
+        ensures attempt { self.new.attempt ≡ self.old.attempt }
+        ensures cuts { IsCutBy point.0 written self.old self.new }
+    {
+        self.reads = self.reads_before(point, written, count);
+        seat_is_cut();
+    }
+
+    // The interval of its reads then.
+    fn reads_before(&self, point: Point, written: ObjSet, count: u8) -> Interval
+        requires few { count ≤ MAX_OBJECTS }
+        requires reads { AreBelow count self.now.attempt.reads }
+        ensures { let read = list_any (λ o. is_among o written) self.now.attempt.reads in
+            range_of result ≡ cut_at point.0 read (range_of self.now.reads) }
+    {
+        let mut reads = self.reads;
+        if has_common(self.attempt.reads(), written, count) {
+            reads.cut(point);
+        }
+        reads
+    }
+
     /// The task that the core holds, if it holds one.
     pub fn task(&self) -> Option<TaskId>
         ensures { option_map (λ id. id.0) result ≡ task_in self.now }
@@ -164,4 +220,18 @@ impl Seat {
             }),
         }
     }
+}
+
+// Whether two sets of objects, of which there are so many, have a common one.
+fn has_common(reads: ObjSet, written: ObjSet, count: u8) -> bool
+    requires few { count ≤ MAX_OBJECTS }
+    requires reads { AreBelow count reads }
+    ensures { result ≡ list_any (λ o. is_among o written) reads }
+{
+    for o in 0..count {
+        if reads.has(ObjId(o)) && written.has(ObjId(o)) {
+            return true;
+        }
+    }
+    false
 }
