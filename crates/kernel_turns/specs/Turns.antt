@@ -1,0 +1,40 @@
+-- What a turn is in the kernel over tables. This project's own.
+use Rattle.std.specs.Prelude.{◌≡◌, ℕ, ◌<◌, List, set, get_or, length, Option, Some, None}
+use Rattle.rv_core.specs.State.{MachineState}
+use Rattle.nv_base.specs.declared.lines.Line.{Line}
+use Rattle.kernel_model.specs.Cores.{all_but}
+use Rattle.set_model.specs.Views.{line_of}
+use Rattle.device_model.specs.Words.{Words}
+use Rattle.table_machine.specs.Tables.{Seat, Vacant, Tables}
+use Rattle.table_machine.specs.Seats.{SeatTurn, seat_turn}
+use Rattle.vol_copy.specs.declared.attempt.Stage.{Stage}
+use Rattle.core_seats.specs.declared.seat.Seat as own
+use Rattle.kernel_turns.specs.Commits.{setting_on}
+use Rattle.kernel_turns.specs.Keeping.{IsLawful, Keeps}
+use Rattle.kernel_turns.specs.declared.kernel.Kernel.{Kernel}
+use Rattle.kernel_turns.specs.declared.kernel.Power.TheVariants as power
+
+-- core n of a kernel with its power on has no finish that commits, and its attempt is in this stage
+pub record IsAtStage (k : Kernel) (n : ℕ) (is_stage : Stage → Type 0) : Type 0 where
+  pub power : k.power ≡ power.On
+  pub inside : n < length k.seats.items
+  pub seat : own.Seat
+  pub seat_is : seat ≡ get_or k.seats.items n seat
+  pub trying : seat.saving ≡ None
+  pub stage : is_stage seat.attempt.stage
+
+-- what core n holds, and what its step makes of it
+abbrev pub held_at : Tables MachineState → ℕ → Seat MachineState
+held_at t n = get_or t.seats n Vacant
+
+abbrev pub turn_at : Kernel → Words → Tables MachineState → ℕ → SeatTurn MachineState
+turn_at k words t n = seat_turn (setting_on k.set words) t words (all_but n t.seats) n (held_at t n)
+
+-- the kernel stands for the tables in which core n holds what its turn made, and the line is the turn's
+pub record HasTurned (new : Kernel) (words : Words) (t : Tables MachineState) (n : ℕ) (turn : SeatTurn MachineState) (line : Line) : Type 0 where
+  pub keeps : Keeps new words (record t { seats = set t.seats n turn.seat })
+  pub tells : line_of line ≡ turn.line
+
+-- a step of core n that writes nothing, and joins nothing
+unfoldable pub SeatTurns : Kernel → ℕ → Kernel → Line → Type 0
+SeatTurns old n new line = (words : Words) (t : Tables MachineState) → Keeps old words t → IsLawful old words t → HasTurned new words t n (turn_at old words t n) line

@@ -1,0 +1,7 @@
+//! The kernel of one to eight cores over a device: each turn is one event.
+#![tactic(auto)]
+
+mod kernel;
+mod start;
+
+pub use kernel::Kernel;
