@@ -46,3 +46,12 @@ nothing_done k words t n turn line h l e f =
     let inside : n < length t.seats = let m = seats_length k.seats.items (index_of k.committed.after) t.seats h.seats in omega (arith, l, m) in
     let same : set t.seats n turn.seat ≡ t.seats = ap (set t.seats n) e ∙ same_set t.seats n Vacant inside in
     record { keeps = subst (λ ss. Keeps k words (record t { seats = ss })) (sym same) h; tells = f }
+
+-- what stands at one number is one
+pub same_item : {A : Type 0} → (xs : List A) (m n : ℕ) (x y : A) → x ≡ get_or xs m x → m ≡ n → n < length xs → y ≡ get_or xs n y → x ≡ y
+same_item {A} xs m n x y e f l g = e ∙ ap (λ (k : ℕ). get_or xs k x) f ∙ any xs n x y l ∙ sym g
+  where
+    any : (xs : List A) (n : ℕ) (x y : A) → n < length xs → get_or xs n x ≡ get_or xs n y
+    any [] n x y l = absurd (omega (arith, l))
+    any (z ∷ xs) zero x y l = refl
+    any (z ∷ xs) (suc n) x y l = any xs n x y (omega (arith, l))

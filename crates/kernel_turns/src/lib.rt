@@ -2,6 +2,7 @@
 #![tactic(auto)]
 
 mod kernel;
+mod running;
 mod start;
 
 pub use kernel::Kernel;
