@@ -35,6 +35,10 @@ pub record HasTurned (new : Kernel) (words : Words) (t : Tables MachineState) (n
   pub keeps : Keeps new words (record t { seats = set t.seats n turn.seat })
   pub tells : line_of line ≡ turn.line
 
--- a step of core n that writes nothing, and joins nothing
+-- a step of core n that writes nothing, and joins nothing, on some words
+unfoldable pub TurnsOn : Words → Kernel → ℕ → Kernel → Line → Type 0
+TurnsOn words old n new line = (t : Tables MachineState) → Keeps old words t → IsLawful old words t → HasTurned new words t n (turn_at old words t n) line
+
+-- on any words
 unfoldable pub SeatTurns : Kernel → ℕ → Kernel → Line → Type 0
 SeatTurns old n new line = (words : Words) (t : Tables MachineState) → Keeps old words t → IsLawful old words t → HasTurned new words t n (turn_at old words t n) line

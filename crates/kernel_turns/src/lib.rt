@@ -1,6 +1,7 @@
 //! The kernel of one to eight cores over a device: each turn is one event.
 #![tactic(auto)]
 
+mod copying;
 mod kernel;
 mod running;
 mod start;
