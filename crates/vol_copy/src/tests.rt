@@ -17,6 +17,7 @@ use task_set::{
 };
 
 const X: ObjId = ObjId(0);
+
 const Y: ObjId = ObjId(1);
 
 // reads x, adds the argument and writes the sum to x, reads x once more elsewhere and finishes with that
