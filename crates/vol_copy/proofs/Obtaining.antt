@@ -1,5 +1,5 @@
 -- What the services that wait for an object's words are in the table machine.
-use Rattle.std.proofs.Common.{◌≡◌, ℕ, ◌+◌, ◌<◌, ◌≤◌, Bool, true, false, cond, List, ◌∷◌, length, Option, Some, None, refl, sym, ap, ap₂, subst, ◌∙◌, arith}
+use Rattle.std.proofs.Common.{◌≡◌, ℕ, ◌<◌, Bool, true, false, cond, List, length, Option, Some, None, refl, sym, ap, ap₂, subst, ◌∙◌}
 use Rattle.object_sets.specs.ObjectSets.{IsIncreasing, is_among}
 use Rattle.rv_core.specs.State.{MachineState, Calls}
 use Rattle.rv_core.specs.declared.services.Service.{Service}

@@ -1,9 +1,7 @@
 //! What is kept of an attempt, how it begins, and what a verdict asks of it.
 
 ghost use Rattle.std.specs.Prelude.{◌≡◌, ℕ, ◌<◌, IfOk, IfSome, IsTrue, [], Some, length};
-ghost use Rattle.object_sets.specs.ObjectSets.{is_among};
 ghost use Rattle.rv_core.specs.Machine.{first_state};
-ghost use Rattle.kernel_model.specs.Effects.{object_words};
 ghost use Rattle.kernel_model.specs.Intervals.{Interval};
 ghost use Rattle.set_model.specs.Sets.{TaskSet, program_at};
 ghost use Rattle.set_model.specs.Views.{task_of};

@@ -116,7 +116,7 @@ fn reads(attempt: &mut Attempt, set: &TaskSet, o: ObjId, words: &[u32]) -> bool
         slot: 1,
         begin: Point(2),
     });
-    object == o && copies(attempt, set, words)
+    object == o && attempt.copying() == Some((o, 0)) && copies(attempt, set, words)
 }
 
 // whether these are just the words that are left to copy

@@ -1,4 +1,4 @@
-use Rattle.std.proofs.Common.{◌<◌, length, subst, sym, arith}
+use Rattle.std.proofs.Common.{◌<◌, subst, sym, arith}
 use Rattle.set_model.specs.Sets.{object_at}
 use Rattle.vol_copy.specs.Wants.{part_service}
 use Rattle.vol_copy.proofs.Obtaining.{obtained_kept, obtained_serves, part_waits, traps_part}
