@@ -83,6 +83,7 @@ impl Attempt {
         requires called { service_of self.old.machine ≡ Some (Read object at) }
         requires waits { self.old.machine.pc + 4 ≤ length self.old.machine.memory }
         ensures kept { IsFor set.now self.new }
+        ensures start { self.new.start ≡ self.old.start }
         ensures serves { Serves set.now self.old (Read object at) self.new result }
     {
         let o = match self.place(set, object, at) {
@@ -101,6 +102,7 @@ impl Attempt {
         requires called { service_of self.old.machine ≡ Some (part_service object want) }
         requires waits { self.old.machine.pc + 4 ≤ length self.old.machine.memory }
         ensures kept { IsFor set.now self.new }
+        ensures start { self.new.start ≡ self.old.start }
         ensures serves { Serves set.now self.old (part_service object want) self.new result }
     {
         let o = match self.place_part(set, object, want.part()) {
@@ -115,7 +117,8 @@ impl Attempt {
     fn obtain(&mut self, o: ObjId, want: Want) -> Need
         requires few { o.0 < MAX_OBJECTS }
         requires may { MayReceive self.old o.0 want }
-        ensures { Obtains self.old o self.new result }
+        ensures obtains { Obtains self.old o self.new result }
+        ensures start { self.new.start ≡ self.old.start }
     {
         if self.written.has(o) {
             self.receive(o, want);
@@ -173,6 +176,7 @@ impl Attempt {
         requires running { self.old.stage ≡ Stage.Running }
         requires waits { self.old.machine.pc + 4 ≤ length self.old.machine.memory }
         ensures kept { IsFor set.now self.new }
+        ensures start { self.new.start ≡ self.old.start }
         ensures serves { Serves set.now self.old (Write object at) self.new result }
     {
         let o = match self.place(set, object, at) {
@@ -191,6 +195,7 @@ impl Attempt {
         requires running { self.old.stage ≡ Stage.Running }
         requires waits { self.old.machine.pc + 4 ≤ length self.old.machine.memory }
         ensures kept { IsFor set.now self.new }
+        ensures start { self.new.start ≡ self.old.start }
         ensures serves { Serves set.now self.old (AsksFor program arg) self.new result }
     {
         if program >= u32::from(set.programs()) {
