@@ -1,7 +1,8 @@
 //! What the services that a running task calls make of its attempt.
 
-ghost use Rattle.std.specs.Prelude.{◌≡◌, ◌≤◌, ◌<◌, ◌+◌, IfOk, OnOk, Some, length, nat_le};
+ghost use Rattle.std.specs.Prelude.{◌≡◌, ◌≤◌, ◌<◌, ◌+◌, ◌||◌, IfOk, OnOk, Some, length, nat_le};
 ghost use Rattle.std.specs.Result.{result_err};
+ghost use Rattle.object_sets.specs.ObjectSets.{is_among};
 ghost use Rattle.rv_core.specs.Machine.{IsPlace, service_of};
 ghost use Rattle.rv_core.specs.declared.services.Service.TheVariants.{Read, Write, Spawn as AsksFor};
 ghost use Rattle.set_model.specs.Sets.{object_at};
@@ -120,16 +121,20 @@ impl Attempt {
         ensures obtains { Obtains self.old o self.new result }
         ensures start { self.new.start ≡ self.old.start }
     {
-        if self.written.has(o) {
-            self.receive(o, want);
-            return Need::Went;
-        }
-        if self.reads.has(o) {
+        if self.has_words(o) {
             self.receive(o, want);
             return Need::Went;
         }
         self.stage = Stage::Fetching { object: o, want };
         Need::Fetch(o)
+    }
+
+    /// Whether the attempt has words of an object: its own last write, or an earlier copy.
+    fn has_words(&self, o: ObjId) -> bool
+        requires { o.0 < MAX_OBJECTS }
+        ensures { result ≡ (is_among o.0 self.now.written || is_among o.0 self.now.reads) }
+    {
+        self.written.has(o) || self.reads.has(o)
     }
 
     /// The service has the words that the attempt sees.
