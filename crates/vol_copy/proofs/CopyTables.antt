@@ -1,5 +1,5 @@
 -- Copies by the objects that were read and a table of their words.
-use Rattle.std.proofs.Common.{◌≡◌, ℕ, Bool, true, false, cond, eqb, ◌||◌, List, [], ◌∷◌, set, Option, Some, None, refl, sym, ap, ◌∙◌, get_or-set_other}
+use Rattle.std.proofs.Common.{◌≡◌, ℕ, Bool, true, false, cond, eqb, ◌||◌, List, [], ◌∷◌, set, Some, None, refl, sym, ap, ◌∙◌, get_or-set_other}
 use Rattle.std.specs.List.{AllByRecursion}
 use Rattle.std.proofs.lemmas.Bool.{eqb-true, eqb-false}
 use Rattle.object_sets.specs.ObjectSets.{is_among}

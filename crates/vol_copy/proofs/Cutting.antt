@@ -1,19 +1,18 @@
 -- What a finish elsewhere makes of an attempt's seat, by the objects that were read.
-use Rattle.std.proofs.Common.{◌≡◌, ℕ, Bool, true, false, cond, eqb, ltb, ◌||◌, List, [], ◌∷◌, refl, sym, ap, subst, ◌∙◌}
+use Rattle.std.proofs.Common.{◌≡◌, ℕ, Bool, true, false, cond, eqb, ltb, ◌||◌, List, [], ◌∷◌, refl, sym, ap, ◌∙◌}
 use Rattle.std.specs.Prelude.{is_some}
 use Rattle.std.specs.List.{list_any}
 use Rattle.std.proofs.lemmas.Bool.{eqb-true}
 use Rattle.object_sets.specs.ObjectSets.{inserted, is_among, with_object}
 use Rattle.rv_core.specs.State.{MachineState}
 use Rattle.nv_base.specs.declared.lines.Outcome.{Outcome}
-use Rattle.nv_base.specs.declared.lines.Outcome.TheVariants as outcome
 use Rattle.kernel_model.specs.Effects.{Effects, Run, Write, ended, written}
 use Rattle.kernel_model.specs.Effects as effects
 use Rattle.kernel_model.specs.Items.{FinishRecord}
 use Rattle.kernel_model.specs.Intervals.{Interval}
 use Rattle.kernel_model.specs.Chain.{cut}
 use Rattle.set_model.specs.Views.{outcome_of}
-use Rattle.table_machine.specs.Tables.{Copy, Copies, Runs, Seat, Try, Vacant, Waits}
+use Rattle.table_machine.specs.Tables.{Copy, Seat, Try}
 use Rattle.table_machine.specs.Places.{objects_of}
 use Rattle.table_machine.specs.Events.{cut_seat, cut_try}
 use Rattle.vol_copy.specs.declared.attempt.Attempt.{Attempt}

@@ -1,5 +1,5 @@
 -- What an attempt keeps of its own memory, turn by turn.
-use Rattle.std.proofs.Common.{◌≡◌, ℕ, ◌+◌, ◌<◌, ◌≤◌, true, false, cond, Option, Some, None, List, [], ◌∷◌, ◌++◌, length, set, refl, sym, ap, subst, ◌∙◌, arith, length-append, get_or-set_same}
+use Rattle.std.proofs.Common.{◌≡◌, ℕ, ◌+◌, ◌<◌, ◌≤◌, true, false, cond, Option, Some, None, List, [], ◌∷◌, ◌++◌, length, set, refl, sym, ap, subst, ◌∙◌, arith, length-append}
 use Rattle.std.specs.List.{AllByRecursion}
 use Rattle.std.proofs.lemmas.List.{length-set}
 use Rattle.object_sets.specs.ObjectSets.{AreBelow, IsIncreasing, is_among, with_object}
@@ -17,8 +17,8 @@ use Rattle.task_model.specs.TaskSteps.{with_part}
 use Rattle.task_model.specs.Shape.{HasShape}
 use Rattle.task_model.proofs.ForCallers.{length-with_part, length-words_at, shape-set}
 use Rattle.vol_copy.specs.Wants.{Awaits, part_in, rewritten_wanted}
-use Rattle.vol_copy.specs.Received.{MayReceive, ended_so, left_by, received, received_with, seen_in, words_with, written_with}
-use Rattle.vol_copy.specs.Tries.{IsFor, IsForAt, IsWaiting}
+use Rattle.vol_copy.specs.Received.{MayReceive, ended_so, received, seen_in, words_with, written_with}
+use Rattle.vol_copy.specs.Tries.{IsFor, IsForAt}
 use Rattle.vol_copy.specs.declared.attempt.Attempt.{Attempt}
 use Rattle.vol_copy.specs.declared.attempt.Stage.{Stage}
 use Rattle.vol_copy.specs.declared.attempt.Stage.TheVariants as stage

@@ -1,5 +1,5 @@
 -- What the services that wait for an object's words are in the table machine.
-use Rattle.std.proofs.Common.{◌≡◌, ℕ, ◌+◌, ◌<◌, ◌≤◌, Bool, true, false, cond, List, ◌∷◌, length, Option, Some, None, refl, sym, ap, ap₂, subst, ◌∙◌, arith}
+use Rattle.std.proofs.Common.{◌≡◌, ℕ, ◌<◌, Bool, true, false, cond, ◌||◌, List, length, Option, Some, None, refl, sym, ap, ap₂, subst, ◌∙◌}
 use Rattle.object_sets.specs.ObjectSets.{IsIncreasing, is_among}
 use Rattle.rv_core.specs.State.{MachineState, Calls}
 use Rattle.rv_core.specs.declared.services.Service.{Service}
@@ -113,7 +113,7 @@ running_kept s a n o w h p l awaits same room =
 waits_so : (s : TaskSet) (a : Attempt) (o : ℕ) (w : Want) → MayReceive a o w → IsFor s a → Awaits a.machine (object_at s o).size w
 waits_so s a o w may h = subst (λ size. Awaits a.machine size w) (h.words.sizes o may.own) may.awaits
 
-pub has_own : (a n : Attempt) (o : ObjId) (w : Want) → MayReceive a o.0 w → true ≡ is_among o.0 a.written → n ≡ received a o.0 w → length n.machine.memory ≡ length a.machine.memory → Obtains a o n need.Went
+has_own : (a n : Attempt) (o : ObjId) (w : Want) → MayReceive a o.0 w → true ≡ is_among o.0 a.written → n ≡ received a o.0 w → length n.machine.memory ≡ length a.machine.memory → Obtains a o n need.Went
 unfolding Obtains
 has_own a n o w may among same room = λ s h p l some. (
   running_kept s a n o.0 w h p l (waits_so s a o.0 w may h) same room,
@@ -122,7 +122,7 @@ has_own a n o w may among same room = λ s h p l some. (
       (receives_own s a o.0 w asked to p h.increasing may.own may.awaits (sym among)),
 )
 
-pub has_copy : (a n : Attempt) (o : ObjId) (w : Want) → MayReceive a o.0 w → false ≡ is_among o.0 a.written → true ≡ is_among o.0 a.reads → n ≡ received a o.0 w → length n.machine.memory ≡ length a.machine.memory → Obtains a o n need.Went
+has_copy : (a n : Attempt) (o : ObjId) (w : Want) → MayReceive a o.0 w → false ≡ is_among o.0 a.written → true ≡ is_among o.0 a.reads → n ≡ received a o.0 w → length n.machine.memory ≡ length a.machine.memory → Obtains a o n need.Went
 unfolding Obtains
 has_copy a n o w may none among same room = λ s h p l some. (
   running_kept s a n o.0 w h p l (waits_so s a o.0 w may h) same room,
@@ -131,9 +131,22 @@ has_copy a n o w may none among same room = λ s h p l some. (
       (receives_copy s a o.0 w asked to p h.increasing may.own (subst (λ size. Awaits a.machine size w) (sym may.sizes) may.awaits) (sym none) (sym among)),
 )
 
-pub has_none : (a : Attempt) (o : ObjId) (w : Want) → MayReceive a o.0 w → false ≡ is_among o.0 a.written → false ≡ is_among o.0 a.reads → Obtains a o (record a { stage = stage.Fetching o w }) (need.Fetch o)
+pub has_words : (a n : Attempt) (o : ObjId) (w : Want) → MayReceive a o.0 w → true ≡ (is_among o.0 a.written || is_among o.0 a.reads) → n ≡ received a o.0 w → length n.machine.memory ≡ length a.machine.memory → Obtains a o n need.Went
+has_words a n o w may among same room = at (is_among o.0 a.written) refl among
+  where
+    at : (b : Bool) → is_among o.0 a.written ≡ b → true ≡ (b || is_among o.0 a.reads) → Obtains a o n need.Went
+    at true e f = has_own a n o w may (sym e) same room
+    at false e f = has_copy a n o w may (sym e) f same room
+
+pub has_none : (a : Attempt) (o : ObjId) (w : Want) → MayReceive a o.0 w → false ≡ (is_among o.0 a.written || is_among o.0 a.reads) → Obtains a o (record a { stage = stage.Fetching o w }) (need.Fetch o)
 unfolding Obtains
-has_none a o w may none absent = λ s h p l some. (fetches s a o w h l some (sym none) (sym absent) (waits_so s a o.0 w may h), λ asked to. waits_for s a o w asked to (sym none) (sym absent))
+has_none a o w may none = λ s h p l some.
+    let each = neither (is_among o.0 a.written) (is_among o.0 a.reads) none in
+    (fetches s a o w h l some each.0 each.1 (waits_so s a o.0 w may h), λ asked to. waits_for s a o w asked to each.0 each.1)
+  where
+    neither : (b c : Bool) → false ≡ (b || c) → (b ≡ false) × (c ≡ false)
+    neither true c e = absurd (cc e)
+    neither false c e = (refl, sym e)
 
 -- what is told of a call that waits
 pub obtained_kept : (s : TaskSet) (a n : Attempt) (o : ObjId) (p : Need) → Obtains a o n p → IsFor s a → a.stage ≡ stage.Running → o.0 < length s.objects → 0 < (object_at s o.0).size → IsFor s n

@@ -1,5 +1,5 @@
 -- What the steps and services of a running attempt are in the table machine.
-use Rattle.std.proofs.Common.{◌≡◌, ℕ, ◌+◌, ◌<◌, ◌≤◌, Bool, true, false, cond, ltb, List, [], ◌∷◌, ◌++◌, length, map, set, Option, Some, None, refl, sym, ap, subst, ◌∙◌, arith}
+use Rattle.std.proofs.Common.{◌≡◌, ℕ, ◌<◌, ◌≤◌, Bool, cond, List, [], ◌∷◌, ◌++◌, length, map, set, Some, None, refl, sym, ap, subst, ◌∙◌, arith}
 use Rattle.std.proofs.lemmas.Bool.{lt-ltb, le-ltb}
 use Rattle.std.proofs.lemmas.List.{length-map, map-append}
 use Rattle.object_sets.specs.ObjectSets.{IsIncreasing, with_object}
@@ -19,7 +19,6 @@ use Rattle.set_model.specs.Sets.{TaskSet, object_at}
 use Rattle.set_model.specs.Views.{outcome_of, spawn_of, trap_of}
 use Rattle.task_model.specs.TaskSteps.{given_index, past, refusal, served, task_steps, unless}
 use Rattle.table_machine.specs.Tables.{Chain, Try, Runs, Waits}
-use Rattle.table_machine.specs.Places.{objects_of}
 use Rattle.table_machine.specs.Seats.{SeatTurn, run_step, still}
 use Rattle.vol_copy.specs.Received.{ended_so}
 use Rattle.vol_copy.specs.Tries.{IsEndedTry, IsTry, writes_in}

@@ -1,5 +1,5 @@
 -- What the words of a copy are in the table machine, from the choice of a version to the last word.
-use Rattle.std.proofs.Common.{◌≡◌, ℕ, ◌+◌, ◌<◌, ◌≤◌, Bool, true, false, cond, ltb, eqb, List, [], ◌∷◌, ◌++◌, length, set, take, Option, refl, sym, ap, ap₂, subst, ◌∙◌, arith, eq-eqb, ne_eqb, get_or-set_same}
+use Rattle.std.proofs.Common.{◌≡◌, ℕ, ◌+◌, ◌<◌, ◌≤◌, true, false, cond, ltb, eqb, List, [], ◌∷◌, ◌++◌, length, set, take, Option, refl, sym, ap, subst, ◌∙◌, arith, eq-eqb, ne_eqb, get_or-set_same}
 use Rattle.std.proofs.lemmas.Bool.{lt-ltb, le-ltb}
 use Rattle.std.proofs.lemmas.List.{length-set, length-take-le, take_more_set, take_all}
 use Rattle.std.specs.List.{AllByRecursion}
@@ -15,7 +15,7 @@ use Rattle.table_machine.specs.Tables.{Copy, Copies, Runs, Try}
 use Rattle.table_machine.specs.Seats.{SeatTurn, copy_word, still}
 use Rattle.table_machine.specs.Seats as seats
 use Rattle.vol_copy.specs.Stages.{IsFetching}
-use Rattle.vol_copy.specs.Wants.{Awaits, memory_wanted, rewritten_wanted}
+use Rattle.vol_copy.specs.Wants.{memory_wanted, rewritten_wanted}
 use Rattle.vol_copy.specs.Received.{received, received_with}
 use Rattle.vol_copy.specs.Tries.{AreCopies, IsCopyingTry, IsFor, IsForAt, IsTry}
 use Rattle.vol_copy.specs.Turns.{CopiesTo, CopiesWord, OpensRead, setting_of}

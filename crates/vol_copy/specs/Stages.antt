@@ -22,6 +22,14 @@ is_waiting (stage.Fetching object want) = false
 is_waiting (stage.Copying object want copied) = false
 is_waiting (stage.Ready outcome) = true
 
+-- the object whose words come one by one, and how many are copied
+abbrev pub copying_in : Stage → Option (ObjId × ℕ)
+copying_in stage.Blank = None
+copying_in stage.Running = None
+copying_in (stage.Fetching object want) = None
+copying_in (stage.Copying object want copied) = Some (object, copied)
+copying_in (stage.Ready outcome) = None
+
 -- a version of this object is to be chosen
 abbrev pub IsFetching : ObjId → Stage → Type 0
 IsFetching object s = (want : Want) × (s ≡ stage.Fetching object want)

@@ -1,5 +1,5 @@
 -- Which tries of the table machine an attempt stands for. This project's own.
-use Rattle.std.specs.Prelude.{◌≡◌, ℕ, ◌<◌, ◌≤◌, Bool, false, List, [], ◌∷◌, length, map, take, is_some}
+use Rattle.std.specs.Prelude.{◌≡◌, ℕ, ◌<◌, ◌≤◌, Bool, false, List, ◌∷◌, length, map, take, Option, Some, None, is_some}
 use Rattle.std.specs.List.{AllByRecursion, list_any}
 use Rattle.object_sets.specs.ObjectSets.{AreBelow, IsIncreasing, is_among}
 use Rattle.object_sets.specs.Pairs.{AllPairsByRecursion}
@@ -8,6 +8,7 @@ use Rattle.nv_base.specs.declared.limits.TheConstants.{MAX_SPAWNS}
 use Rattle.nv_base.specs.declared.lines.Outcome.{Outcome}
 use Rattle.kernel_model.specs.Effects.{Objects, Run, Write, object_words, written}
 use Rattle.kernel_model.specs.Intervals.{Interval}
+use Rattle.slot_model.specs.Tabled.{View}
 use Rattle.set_model.specs.Sets.{TaskSet, object_at}
 use Rattle.set_model.specs.Views.{outcome_of, spawn_of}
 use Rattle.task_model.specs.Shape.{HasShape}
@@ -66,6 +67,27 @@ IsSeatAt a i (stage.Ready outcome) seat = (t : Try MachineState) × IsEndedTry a
 
 abbrev pub IsSeat : Attempt → Interval → Seat MachineState → Type 0
 IsSeat a i seat = IsSeatAt a i a.stage seat
+
+-- the slot that a seat copies from, 0 if none
+abbrev pub slot_on : Seat MachineState → ℕ
+slot_on (Copies t slot) = slot
+slot_on _ = 0
+
+-- what verdicts on other cores ask of a seat: nothing of a blank attempt, else the interval, and the slot that is copied from
+abbrev pub view_in : Interval → (slot : ℕ) → Stage → Option View
+view_in i slot stage.Blank = None
+view_in i slot stage.Running = Some (record { interval = i; copying = None })
+view_in i slot (stage.Fetching object want) = Some (record { interval = i; copying = None })
+view_in i slot (stage.Copying object want copied) = Some (record { interval = i; copying = Some (record { object = object.0; slot = slot }) })
+view_in i slot (stage.Ready outcome) = Some (record { interval = i; copying = None })
+
+-- the task that a seat holds, if it holds one
+abbrev pub task_in : Attempt → Stage → Option ℕ
+task_in a stage.Blank = None
+task_in a stage.Running = Some a.task.0
+task_in a (stage.Fetching object want) = Some a.task.0
+task_in a (stage.Copying object want copied) = Some a.task.0
+task_in a (stage.Ready outcome) = Some a.task.0
 
 -- whether it has read one of the objects that some writes are to
 abbrev pub has_read : Attempt → List Write → Bool

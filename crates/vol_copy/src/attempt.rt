@@ -1,16 +1,15 @@
 //! What is kept of an attempt, how it begins, and what a verdict asks of it.
 
-ghost use Rattle.std.specs.Prelude.{◌≡◌, ℕ, ◌<◌, IfOk, [], Some, None, true, length};
-ghost use Rattle.object_sets.specs.ObjectSets.{is_among};
+ghost use Rattle.std.specs.Prelude.{◌≡◌, ℕ, ◌<◌, IfOk, IfSome, IsTrue, [], Some, length};
 ghost use Rattle.rv_core.specs.Machine.{first_state};
-ghost use Rattle.kernel_model.specs.Effects.{object_words};
 ghost use Rattle.kernel_model.specs.Intervals.{Interval};
 ghost use Rattle.set_model.specs.Sets.{TaskSet, program_at};
 ghost use Rattle.set_model.specs.Views.{task_of};
 ghost use Rattle.task_model.specs.TaskSteps.{task_steps};
 ghost use Rattle.table_machine.specs.Tables.{Vacant};
 ghost use Rattle.table_machine.specs.Seats.{start_try};
-ghost use Rattle.vol_copy.specs.Stages.{is_waiting, outcome_in};
+ghost use Rattle.vol_copy.specs.declared.want.Want.{Want};
+ghost use Rattle.vol_copy.specs.Stages.{copying_in, is_waiting, outcome_in};
 ghost use Rattle.vol_copy.specs.Tries.{IsFor, IsSeat};
 
 use crate::copied::CopiedWords;
@@ -138,6 +137,24 @@ impl Attempt {
         self.start
     }
 
+    /// Whether it runs: then `advance` is its next turn.
+    pub fn is_running(&self) -> bool
+        ensures { IsTrue result → self.now.stage ≡ Stage.Running }
+    {
+        matches!(self.stage, Stage::Running)
+    }
+
+    /// The object whose words come next, and how many of them are copied: None exactly where none come.
+    pub fn copying(&self) -> Option<(ObjId, u8)>
+        ensures exact { result ≡ copying_in self.now.stage }
+        ensures copying { IfSome result (λ p. (w : Want) × (self.now.stage ≡ Stage.Copying p.0 w p.1)) }
+    {
+        match self.stage {
+            Stage::Copying { object, copied, .. } => Some((object, copied)),
+            _ => None,
+        }
+    }
+
     /// Whether it has ended, and asks for its finish.
     pub fn is_ready(&self) -> bool
         ensures { result ≡ is_waiting self.now.stage }
@@ -150,7 +167,8 @@ impl Attempt {
 
     /// How it has ended: None exactly where it has not.
     pub fn outcome(&self) -> Option<Outcome>
-        ensures { result ≡ outcome_in self.now.stage }
+        ensures exact { result ≡ outcome_in self.now.stage }
+        ensures ready { IfSome result (λ o. self.now.stage ≡ Stage.Ready o) }
     {
         match self.stage {
             Stage::Ready(outcome) => Some(outcome),

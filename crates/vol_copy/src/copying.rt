@@ -18,6 +18,7 @@ impl Attempt {
         requires fetching { IsFetching v.object self.old.stage }
         ensures kept { (set : TaskSet) → IsFor set self.old → IsFor set self.new }
         ensures stage { IsCopying self.new.stage }
+        ensures start { self.new.start ≡ self.old.start }
         ensures opens { OpensRead self.old v.object self.new }
     {
         let Stage::Fetching { object, want } = self.stage else {
@@ -40,6 +41,7 @@ impl Attempt {
         requires copying { IsCopying self.old.stage }
         ensures kept { (set : TaskSet) → IsFor set self.old → IsFor set self.new }
         ensures stage { IsAfterWord result self.new.stage }
+        ensures start { self.new.start ≡ self.old.start }
         ensures copies { CopiesWord self.old word self.new result }
     {
         let Stage::Copying {
@@ -59,6 +61,7 @@ impl Attempt {
         requires copying { self.old.stage ≡ Stage.Copying object want copied }
         ensures kept { (set : TaskSet) → IsFor set self.old → IsFor set self.new }
         ensures stage { IsAfterWord result self.new.stage }
+        ensures start { self.new.start ≡ self.old.start }
         ensures copies { CopiesWord self.old word self.new result }
     {
         self.copies.put(object, copied, word);

@@ -17,14 +17,15 @@ ghost use Rattle.device_model.specs.Words.{Words};
 ghost use Rattle.device_model.specs.Layouts.{Layout, slot_place};
 ghost use Rattle.device_model.specs.Commits.{writes_by};
 ghost use Rattle.table_machine.specs.Tables.{Copies, Seat, Tables, Try};
-ghost use Rattle.table_machine.specs.Seats.{open_copy, seat_turn, still};
+ghost use Rattle.table_machine.specs.Seats.{open_copy, seat_turn, still, task_on};
+ghost use Rattle.table_machine.specs.Places.{view_by};
 ghost use Rattle.table_machine.specs.Events.{cut_seat};
 ghost use Rattle.vol_copy.specs.declared.attempt.Attempt.{Attempt};
 ghost use Rattle.vol_copy.specs.declared.attempt.Stage.TheVariants.{Copying, Running};
 ghost use Rattle.vol_copy.specs.declared.running.Need.{Need};
 ghost use Rattle.vol_copy.specs.declared.want.Want.{Want};
 ghost use Rattle.vol_copy.specs.Stages.{IsFetching};
-ghost use Rattle.vol_copy.specs.Tries.{IsCopyingTry, IsEndedTry, IsFor, IsSeat, IsTry, has_read, writes_in};
+ghost use Rattle.vol_copy.specs.Tries.{IsCopyingTry, IsEndedTry, IsFor, IsSeat, IsTry, has_read, slot_on, task_in, view_in, writes_in};
 ghost use Rattle.vol_copy.specs.Turns.{Advances, CopiesWord, IsInNeed, OpensRead, TurnsTo, setting_of};
 
 /// An attempt that runs and advances makes the turn of each seat that it stands for, among any tables and on any core.
@@ -56,6 +57,14 @@ pub fn copy_word_is_a_turn()
         → word ≡ words (slot_place layout set o.0 slot + copied)
         → (seat : Seat MachineState) × IsSeat new t.interval seat
         × (seat_turn (setting_of set layout) tables words others n (Copies t slot) ≡ still seat) }
+{}
+
+/// What verdicts on other cores, and cores that are vacant, see of the seat that an attempt stands for.
+pub fn seat_is_seen()
+    ensures view { (a : Attempt) (i : Interval) (seat : Seat MachineState) → IsSeat a i seat
+        → view_by seat ≡ view_in i (slot_on seat) a.stage }
+    ensures task { (a : Attempt) (i : Interval) (seat : Seat MachineState) → IsSeat a i seat
+        → task_on seat ≡ task_in a a.stage }
 {}
 
 /// Whether a try has copied something that is written goes by the set of objects that the attempt has read.

@@ -32,6 +32,7 @@ impl Attempt {
         requires running { self.old.stage ≡ Stage.Running }
         ensures kept { IsFor set.now self.new }
         ensures stage { IsInNeed self.new result }
+        ensures start { self.new.start ≡ self.old.start }
         ensures advances { Advances set.now self.old self.new result }
     {
         match self.machine.step() {
@@ -48,6 +49,7 @@ impl Attempt {
         requires called { service_of self.old.machine ≡ Some service }
         requires waits { self.old.machine.pc + 4 ≤ length self.old.machine.memory }
         ensures kept { IsFor set.now self.new }
+        ensures start { self.new.start ≡ self.old.start }
         ensures serves { Serves set.now self.old service self.new result }
     {
         match service {

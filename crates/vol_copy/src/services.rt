@@ -1,7 +1,8 @@
 //! What the services that a running task calls make of its attempt.
 
-ghost use Rattle.std.specs.Prelude.{◌≡◌, ◌≤◌, ◌<◌, ◌+◌, IfOk, OnOk, Some, length, nat_le};
+ghost use Rattle.std.specs.Prelude.{◌≡◌, ◌≤◌, ◌<◌, ◌+◌, ◌||◌, IfOk, OnOk, Some, length, nat_le};
 ghost use Rattle.std.specs.Result.{result_err};
+ghost use Rattle.object_sets.specs.ObjectSets.{is_among};
 ghost use Rattle.rv_core.specs.Machine.{IsPlace, service_of};
 ghost use Rattle.rv_core.specs.declared.services.Service.TheVariants.{Read, Write, Spawn as AsksFor};
 ghost use Rattle.set_model.specs.Sets.{object_at};
@@ -83,6 +84,7 @@ impl Attempt {
         requires called { service_of self.old.machine ≡ Some (Read object at) }
         requires waits { self.old.machine.pc + 4 ≤ length self.old.machine.memory }
         ensures kept { IsFor set.now self.new }
+        ensures start { self.new.start ≡ self.old.start }
         ensures serves { Serves set.now self.old (Read object at) self.new result }
     {
         let o = match self.place(set, object, at) {
@@ -101,6 +103,7 @@ impl Attempt {
         requires called { service_of self.old.machine ≡ Some (part_service object want) }
         requires waits { self.old.machine.pc + 4 ≤ length self.old.machine.memory }
         ensures kept { IsFor set.now self.new }
+        ensures start { self.new.start ≡ self.old.start }
         ensures serves { Serves set.now self.old (part_service object want) self.new result }
     {
         let o = match self.place_part(set, object, want.part()) {
@@ -115,18 +118,23 @@ impl Attempt {
     fn obtain(&mut self, o: ObjId, want: Want) -> Need
         requires few { o.0 < MAX_OBJECTS }
         requires may { MayReceive self.old o.0 want }
-        ensures { Obtains self.old o self.new result }
+        ensures obtains { Obtains self.old o self.new result }
+        ensures start { self.new.start ≡ self.old.start }
     {
-        if self.written.has(o) {
-            self.receive(o, want);
-            return Need::Went;
-        }
-        if self.reads.has(o) {
+        if self.has_words(o) {
             self.receive(o, want);
             return Need::Went;
         }
         self.stage = Stage::Fetching { object: o, want };
         Need::Fetch(o)
+    }
+
+    /// Whether the attempt has words of an object: its own last write, or an earlier copy.
+    fn has_words(&self, o: ObjId) -> bool
+        requires { o.0 < MAX_OBJECTS }
+        ensures { result ≡ (is_among o.0 self.now.written || is_among o.0 self.now.reads) }
+    {
+        self.written.has(o) || self.reads.has(o)
     }
 
     /// The service has the words that the attempt sees.
@@ -173,6 +181,7 @@ impl Attempt {
         requires running { self.old.stage ≡ Stage.Running }
         requires waits { self.old.machine.pc + 4 ≤ length self.old.machine.memory }
         ensures kept { IsFor set.now self.new }
+        ensures start { self.new.start ≡ self.old.start }
         ensures serves { Serves set.now self.old (Write object at) self.new result }
     {
         let o = match self.place(set, object, at) {
@@ -191,6 +200,7 @@ impl Attempt {
         requires running { self.old.stage ≡ Stage.Running }
         requires waits { self.old.machine.pc + 4 ≤ length self.old.machine.memory }
         ensures kept { IsFor set.now self.new }
+        ensures start { self.new.start ≡ self.old.start }
         ensures serves { Serves set.now self.old (AsksFor program arg) self.new result }
     {
         if program >= u32::from(set.programs()) {

@@ -17,6 +17,7 @@ use task_set::{
 };
 
 const X: ObjId = ObjId(0);
+
 const Y: ObjId = ObjId(1);
 
 // reads x, adds the argument and writes the sum to x, reads x once more elsewhere and finishes with that
@@ -115,7 +116,7 @@ fn reads(attempt: &mut Attempt, set: &TaskSet, o: ObjId, words: &[u32]) -> bool
         slot: 1,
         begin: Point(2),
     });
-    object == o && copies(attempt, set, words)
+    object == o && attempt.copying() == Some((o, 0)) && copies(attempt, set, words)
 }
 
 // whether these are just the words that are left to copy

@@ -1,6 +1,6 @@
 //! The words that an attempt has written, as the writer of a commit asks for them.
 
-ghost use Rattle.std.specs.Prelude.{◌≡◌, ◌<◌, ◌≤◌, true, length};
+ghost use Rattle.std.specs.Prelude.{◌≡◌, true};
 ghost use Rattle.object_sets.specs.ObjectSets.{AreBelow, is_among};
 ghost use Rattle.kernel_model.specs.Effects.{object_words};
 

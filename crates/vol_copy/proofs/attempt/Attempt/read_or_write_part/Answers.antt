@@ -1,4 +1,4 @@
-use Rattle.std.proofs.Common.{◌<◌, length, subst, sym, arith}
+use Rattle.std.proofs.Common.{◌<◌, subst, sym, arith}
 use Rattle.set_model.specs.Sets.{object_at}
 use Rattle.vol_copy.specs.Wants.{part_service}
 use Rattle.vol_copy.proofs.Obtaining.{obtained_kept, obtained_serves, part_waits, traps_part}
@@ -10,11 +10,11 @@ returns-in-Err-clause-serves c =
 
 pub returns-clause-kept : goal.returns-clause-kept
 returns-clause-kept c =
-    obtained_kept c.args.set.now c.args.self.now c.obtain.new.self c.in-Ok.o c.obtain.result c.obtain.ensures c.requires.kept c.requires.running (omega (arith, c.in-Ok.ensures.object, c.in-Ok.ensures.inside))
+    obtained_kept c.args.set.now c.args.self.now c.obtain.new.self c.in-Ok.o c.obtain.result c.obtain.ensures.obtains c.requires.kept c.requires.running (omega (arith, c.in-Ok.ensures.object, c.in-Ok.ensures.inside))
     (subst (λ o. 0 < (object_at c.args.set.now o).size) (sym c.in-Ok.ensures.object) c.in-Ok.ensures.some)
 
 pub returns-clause-serves : goal.returns-clause-serves
 returns-clause-serves c =
-    obtained_serves c.args.set.now c.args.self.now c.obtain.new.self c.in-Ok.o c.obtain.result (part_service c.args.object c.args.want) c.obtain.ensures c.requires.kept c.requires.running
+    obtained_serves c.args.set.now c.args.self.now c.obtain.new.self c.in-Ok.o c.obtain.result (part_service c.args.object c.args.want) c.obtain.ensures.obtains c.requires.kept c.requires.running
     (omega (arith, c.in-Ok.ensures.object, c.in-Ok.ensures.inside)) (subst (λ o. 0 < (object_at c.args.set.now o).size) (sym c.in-Ok.ensures.object) c.in-Ok.ensures.some)
     (part_waits c.args.set.now c.args.self.now c.args.object c.in-Ok.o.0 c.args.want c.part.result c.in-Ok.ensures.object c.part.ensures c.in-Ok.ensures.refusal)
