@@ -12,4 +12,4 @@ returns c =
     let some = sym c.is_empty.ensures ∙ c.if-is_empty.false in
     let found = some_place (newest_before (number_of c.args.reads.hi) (chain_at c.args.versions.now c.args.object.0).stored) (c.requires.begun some) in
     let told = c.choose.ensures.chosen found.0 found.1 in
-    admitted c.args.versions.now c.args.reads c.args.object c.choose.result found.0 some c.choose.ensures.object found.1 told.0 told.1 told.2
+    admitted c.args.versions.now c.args.reads c.args.object c.choose.result found.0 some c.choose.ensures.object c.choose.ensures.slot found.1 told.0 told.1 told.2

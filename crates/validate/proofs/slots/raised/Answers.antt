@@ -19,8 +19,8 @@ loop-o-preserved c =
     elim c.if-has.branch [
       | then-has w ↦
           let among = sym (sym c.has.ensures.among ∙ w.if-has.true) in
-          let bound = w.bound.ensures.bound ∙ sym (ap (λ (x : Chain). x.bound) (chain_is c.args.versions.now o)) in
-          ap range_of w.interval-is ∙ w.raise.ensures ∙ ap₂ raised_to bound c.loop-o.invariant ∙ ap (λ b. raised_if b (bounds o) before) among ∙ sym next
+          let bound = sym (ap (λ (x : Chain). x.bound) (chain_is c.args.versions.now o)) in
+          ap range_of w.interval-is ∙ w.raise_behind.ensures ∙ ap₂ raised_to bound c.loop-o.invariant ∙ ap (λ b. raised_if b (bounds o) before) among ∙ sym next
       | else-has w ↦
           let among = sym (sym c.has.ensures.among ∙ w.if-has.false) in
           ap range_of w.interval-is ∙ c.loop-o.invariant ∙ ap (λ b. raised_if b (bounds o) before) among ∙ sym next
