@@ -10,3 +10,6 @@ mod verdict;
 pub use beside::{MAX_OTHERS, View};
 pub use reading::{Stale, admit, opened};
 pub use verdict::{Verdict, validate};
+
+#[cfg(test)]
+mod tests;
