@@ -1,17 +1,14 @@
 -- What the table machine looks at.
-use Rattle.std.proofs.Common.{◌≡◌, ℕ, zero, suc, ◌+◌, ◌<◌, Bool, true, false, cond, eqb, ◌||◌, List, [], ◌∷◌, length, get_or, map, Option, Some, None, refl, sym, ap, ap₂, ◌∙◌, subst, arith, add-zero}
+use Rattle.std.proofs.Common.{◌≡◌, ℕ, zero, suc, ◌+◌, ◌<◌, Bool, true, false, cond, eqb, ◌||◌, List, [], ◌∷◌, length, get_or, map, Option, Some, refl, sym, ap, ap₂, ◌∙◌, arith, add-zero}
 use Rattle.std.specs.Prelude.{is_some, slice_index, unwrap_or}
-use Rattle.std.specs.List.{AllByRecursion}
-use Rattle.std.proofs.lemmas.List.{length-map}
 use Rattle.object_sets.specs.ObjectSets.{is_among}
 use Rattle.rv_core.specs.State.{MachineState}
 use Rattle.kernel_model.specs.Sizes.{Sizes}
 use Rattle.kernel_model.specs.Effects.{Run, Write, written}
 use Rattle.kernel_model.specs.Items.{FinishRecord}
 use Rattle.kernel_model.specs.Replay.{TaskRec}
-use Rattle.kernel_model.specs.Verdicts.{Verdict}
 use Rattle.slot_model.specs.Tabled.{Tables, View, free_place, table_verdict}
-use Rattle.set_model.specs.Sets.{ObjPart, TaskSet, object_at}
+use Rattle.set_model.specs.Sets.{ObjPart, TaskSet}
 use Rattle.shadow_index.specs.declared.plan.Plan.{Plan}
 use Rattle.device_model.specs.Layouts.{Layout}
 use Rattle.device_model.specs.IndexWords.{Index}
@@ -19,7 +16,6 @@ use Rattle.device_model.specs.Counting.{sizes_on}
 use Rattle.device_model.specs.Commits as commits
 use Rattle.table_machine.specs.Tables.{Seat, Try, chain_at}
 use Rattle.table_machine.specs.Places.{index_after, places_at, plan_in, slots_after, verdict_in, views_in}
-use Rattle.ver_table.specs.Chains as own
 use Rattle.ver_table.specs.Tabled.{all_tabled}
 use Rattle.ver_table.proofs.Reopens.{slots_told}
 use Rattle.vol_copy.specs.declared.attempt.Attempt.{Attempt}
@@ -31,8 +27,8 @@ pub verdict_is : (s : Seen) (x : Index) (seats : List (Seat MachineState)) (size
     → verdict_in sizes x (all_tabled s.chains) seats t run ≡ table_verdict sizes (tables_in s) s.others t.task t.interval run
 verdict_is s x seats sizes t run h =
     let by = λ (clock number next : ℕ) (tasks : List TaskRec) (views : List View).
-      let looked : Tables = record { places = places_at (all_tabled s.chains); bounds = λ o. (chain_at (all_tabled s.chains) o).bound; clock = clock; number = number; next = next; pending = length tasks } in
-      table_verdict sizes looked views t.task t.interval run in
+    let looked : Tables = record { places = places_at (all_tabled s.chains); bounds = λ o. (chain_at (all_tabled s.chains) o).bound; clock = clock; number = number; next = next; pending = length tasks } in
+    table_verdict sizes looked views t.task t.interval run in
     ap (λ (n : ℕ). by n x.number x.next x.tasks (views_in seats)) h.clock
     ∙ ap (λ (n : ℕ). by s.clock n x.next x.tasks (views_in seats)) h.number
     ∙ ap (λ (n : ℕ). by s.clock s.number n x.tasks (views_in seats)) h.next
@@ -62,9 +58,9 @@ pub plan_is : (s : Seen) (x : Index) (seats : List (Seat MachineState)) (sizes :
 plan_is s x seats sizes plan i e h =
     ap (commits.index_after x i)
     (same_slots (plan_in sizes seats (all_tabled s.chains)) (slice_index plan.slots) i.run.writes 0 x.slots (λ j w.
-        let one = all_among (λ o. IsPlanned s sizes o (slice_index plan.slots o)) plan.written j h.slots (ap (is_among j) h.written ∙ written_among i.run.writes j w) in
-        ap (λ (views : List View). unwrap_or (free_place (sizes.slots j) j views (places_at (all_tabled s.chains) j)) 0) e
-        ∙ ap (λ (k : Option ℕ). unwrap_or k 0) one.free))
+    let one = all_among (λ o. IsPlanned s sizes o (slice_index plan.slots o)) plan.written j h.slots (ap (is_among j) h.written ∙ written_among i.run.writes j w) in
+    ap (λ (views : List View). unwrap_or (free_place (sizes.slots j) j views (places_at (all_tabled s.chains) j)) 0) e
+    ∙ ap (λ (k : Option ℕ). unwrap_or k 0) one.free))
 
 -- the slot that is named of an object, from number k on
 slots_at : (plan : ℕ → ℕ) (ws : List Write) (k : ℕ) (slots : List ℕ) (o : ℕ) → o < length slots → slice_index (slots_after plan ws k slots) o ≡ cond (is_some (written ws (k + o))) (plan (k + o)) (slice_index slots o)

@@ -49,10 +49,10 @@ fn parts(rt: &HostRuntime) -> Result<SetParts, NoMemory> {
 // its table: the version in slot 0 began at 4, and ended at 6, where that in slot 1 began
 fn table(rt: &HostRuntime) -> Result<Option<Versions>, NoMemory>
     ensures { IfOk result (λ t. IfSome t (λ v. (length v ≡ 1) × (let c : Chain = record {
-        slots = 2;
-        bound = 6;
-        stored = record { slot = 1; begin = 6; end = None }
-        ∷ record { slot = 0; begin = 4; end = Some 6 } ∷ [];
+      slots = 2;
+      bound = 6;
+      stored = record { slot = 1; begin = 6; end = None }
+          ∷ record { slot = 0; begin = 4; end = Some 6 } ∷ [];
     } in chain_at v 0 ≡ c))) }
 {
     let Ok(set) = TaskSet::build(rt.alloc(), parts(rt)?) else {
@@ -85,7 +85,13 @@ fn an_outside_read_takes_the_newest_version_before_the_end(rt: HostRuntime) -> R
     assert!(rt; older == Ok(version(0, 4)));
     reads.raise(Point(6));
     let stale = admit(&versions, reads, ObjId(0));
-    assert!(rt; stale == Err(Stale { lo: Point(6), hi: Point(6) }));
+    assert!(rt;
+        stale
+            == Err(Stale {
+                lo: Point(6),
+                hi: Point(6)
+            })
+    );
     Ok(())
 }
 
@@ -101,7 +107,12 @@ fn a_read_raises_and_cuts_the_interval(rt: HostRuntime) -> Result<(), Fail> {
         begin: Point(4),
     };
     let left = opened(&versions, Interval::from(Point(1)), version);
-    assert!(rt; left == Interval { lo: Point(4), hi: Some(Point(6)) });
+    assert!(rt;
+        left == Interval {
+            lo: Point(4),
+            hi: Some(Point(6))
+        }
+    );
     Ok(())
 }
 
@@ -133,7 +144,11 @@ fn a_written_object_raises_the_interval_and_has_a_slot(rt: HostRuntime) -> Resul
         }),
     };
     // (the others, the slot)
-    let rows = [([late, late], Some(0)), ([late, reader], None), ([copier, late], None)];
+    let rows = [
+        ([late, late], Some(0)),
+        ([late, reader], None),
+        ([copier, late], None),
+    ];
     for (others, slot) in rows {
         let free = match free_slots(&versions, written, &Beside::of(&others)) {
             Ok(slots) => Some(slots[0]),

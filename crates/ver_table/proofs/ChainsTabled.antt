@@ -1,5 +1,5 @@
 -- The chains of the table are those of the table machine, and change as they do.
-use Rattle.std.proofs.Common.{◌≡◌, ℕ, zero, suc, ◌+◌, ◌<◌, Bool, true, false, cond, ltb, List, [], ◌∷◌, length, map, set, Option, Some, None, refl, sym, ap, ap₂, ◌∙◌, arith, add-zero}
+use Rattle.std.proofs.Common.{◌≡◌, ℕ, zero, suc, ◌+◌, ◌<◌, true, false, cond, ltb, List, [], ◌∷◌, length, map, set, Option, Some, None, refl, sym, ap, ap₂, ◌∙◌, arith, add-zero}
 use Rattle.std.proofs.lemmas.List.{length-map}
 use Rattle.std.specs.Prelude.{slice_index}
 use Rattle.object_sets.specs.ObjectSets.{is_among}
@@ -58,9 +58,9 @@ touched_from i slots k (d ∷ old) (c ∷ new) n e =
     let first : tabled c ≡ here (k + 0) (tabled d) = e 0 (omega arith) in
     let z : k + 0 ≡ k = add-zero k in
     let rest = touched_from i slots (k + 1) old new (omega (arith, n)) (λ o l.
-        let next : tabled (own.chain_at new o) ≡ here (k + suc o) (tabled (own.chain_at old o)) = e (suc o) (omega (arith, l)) in
-        let m : k + suc o ≡ k + 1 + o = omega arith in
-        next ∙ ap (λ (j : ℕ). here j (tabled (own.chain_at old o))) m) in
+    let next : tabled (own.chain_at new o) ≡ here (k + suc o) (tabled (own.chain_at old o)) = e (suc o) (omega (arith, l)) in
+    let m : k + suc o ≡ k + 1 + o = omega arith in
+    next ∙ ap (λ (j : ℕ). here j (tabled (own.chain_at old o))) m) in
     ap (λ (x : Chain). x ∷ all_touched i slots (k + 1) (all_tabled old)) (sym (first ∙ ap (λ (j : ℕ). here j (tabled d)) z))
     ∙ ap (λ (xs : List Chain). tabled c ∷ xs) rest
 
@@ -79,8 +79,8 @@ opened_from k (suc m) f (c ∷ chains) n e =
     let first : tabled c ≡ f (k + 0) = e 0 (omega arith) in
     let z : k + 0 ≡ k = add-zero k in
     let rest = opened_from (k + 1) m f chains (omega (arith, n)) (λ o l.
-        let j : k + suc o ≡ k + 1 + o = omega arith in
-        e (suc o) (omega (arith, l)) ∙ ap f j) in
+    let j : k + suc o ≡ k + 1 + o = omega arith in
+    e (suc o) (omega (arith, l)) ∙ ap f j) in
     ap (λ (x : Chain). x ∷ all_tabled chains) (first ∙ ap f z) ∙ ap (λ (xs : List Chain). f k ∷ xs) rest
 
 pub opened_is : (slots named : List ℕ) (p : ℕ) (chains : List own.Chain) → own.AreOpened slots named p chains → all_tabled chains ≡ each_from 0 (length slots) (λ o. one_version (slice_index named o) p)

@@ -1,5 +1,5 @@
 use Rattle.std.proofs.Common.{sym, refl, ◌∙◌}
-use Rattle.interval.specs.Ranges.{number_of, range_of}
+use Rattle.interval.specs.Ranges.{number_of}
 use Rattle.ver_table.specs.Chains.{chain_at, newest_before}
 use Rattle.validate.proofs.OutsideReads.{admitted, is_stale, some_place}
 use Rattle.validate.proofs.reading.admit.Goals as goal

@@ -1,7 +1,5 @@
-use Rattle.std.proofs.Common.{◌≡◌, ℕ, ◌≤◌, suc, length, true, false, sym, ap, ap₂, ◌∙◌, subst, arith, add-one}
-use Rattle.object_sets.specs.ObjectSets.{AreBelow, is_among}
-use Rattle.kernel_model.specs.Intervals.{Interval}
-use Rattle.kernel_model.specs.Bounds.{raised_by}
+use Rattle.std.proofs.Common.{◌≡◌, ℕ, length, sym, ap, ap₂, ◌∙◌, subst, arith, add-one}
+use Rattle.object_sets.specs.ObjectSets.{AreBelow}
 use Rattle.interval.specs.Ranges.{raised_to, range_of}
 use Rattle.table_machine.specs.Tables.{Chain, chain_at}
 use Rattle.ver_table.specs.Tabled.{all_tabled}
