@@ -1,5 +1,5 @@
 -- The verdict of the table machine, case by case.
-use Rattle.std.proofs.Common.{◌≡◌, ℕ, ◌+◌, ◌-◌, ◌<◌, Bool, true, false, cond, leb, List, [], ◌∷◌, length, map, Option, Some, None, refl, sym, ap, ap₂, ◌∙◌, subst, arith}
+use Rattle.std.proofs.Common.{◌≡◌, ℕ, ◌+◌, ◌-◌, Bool, true, false, cond, leb, List, [], ◌∷◌, length, Option, Some, None, refl, sym, ap, ap₂, ◌∙◌, subst, arith}
 use Rattle.std.specs.Prelude.{unwrap_or, slice_index}
 use Rattle.std.specs.List.{AllByRecursion}
 use Rattle.std.proofs.lemmas.List.{length-map}
@@ -7,20 +7,18 @@ use Rattle.object_sets.specs.ObjectSets.{AreBelow, IsIncreasing}
 use Rattle.nv_base.specs.declared.lines.Outcome.{Outcome}
 use Rattle.rv_core.specs.State.{MachineState}
 use Rattle.kernel_model.specs.Sizes.{Sizes}
-use Rattle.kernel_model.specs.Effects.{Objects, Run, Write, object_words}
+use Rattle.kernel_model.specs.Effects.{Objects, Run, Write}
 use Rattle.kernel_model.specs.Intervals.{Interval, is_empty, point_of}
 use Rattle.kernel_model.specs.Bounds.{raised_by}
 use Rattle.kernel_model.specs.Verdicts.{Verdict, Granted, Empty, Slots, Records}
-use Rattle.interval.specs.Ranges.{range_of}
-use Rattle.interval.specs.declared.ranges.Interval as own
-use Rattle.slot_model.specs.Tabled.{Tables, View, full_object, table_finish, table_room, table_verdict}
+use Rattle.slot_model.specs.Tabled.{full_object, table_finish, table_room, table_verdict}
 use Rattle.set_model.specs.Views.{entry_of, outcome_of, spawn_of}
 use Rattle.shadow_index.specs.declared.plan.Plan.{Plan}
 use Rattle.table_machine.specs.Tables.{Try, chain_at}
 use Rattle.table_machine.specs.Places.{places_at, run_by}
 use Rattle.task_queue.specs.Queues.{has_room}
 use Rattle.ver_table.specs.Tabled.{all_tabled}
-use Rattle.vol_copy.specs.Tries.{IsEndedTry, IsFor, run_in, writes_in}
+use Rattle.vol_copy.specs.Tries.{IsEndedTry, run_in, writes_in}
 use Rattle.vol_copy.specs.declared.attempt.Attempt.{Attempt}
 use Rattle.set_model.specs.Sets.{ObjPart, TaskSet}
 use Rattle.ver_table.specs.Chains.{Chain}

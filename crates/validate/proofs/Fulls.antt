@@ -1,5 +1,5 @@
 -- The least written object without a free slot, and that there is none.
-use Rattle.std.proofs.Common.{◌≡◌, ℕ, ◌<◌, Bool, true, false, cond, eqb, ◌||◌, List, [], ◌∷◌, length, map, Option, Some, None, refl, sym, ap, ap₂, ◌∙◌, subst}
+use Rattle.std.proofs.Common.{◌≡◌, ℕ, ◌<◌, Bool, true, false, cond, eqb, ◌||◌, List, [], ◌∷◌, length, Some, None, refl, ap, ap₂, ◌∙◌, subst}
 use Rattle.std.specs.Prelude.{is_some}
 use Rattle.std.specs.List.{AllByRecursion}
 use Rattle.std.proofs.lemmas.Bool.{eq-eqb, eqb-true}
@@ -9,7 +9,6 @@ use Rattle.kernel_model.specs.Effects.{Write}
 use Rattle.slot_model.specs.Tabled.{Place, View, free_place, full_object}
 use Rattle.table_machine.specs.Tables.{Chain}
 use Rattle.table_machine.specs.Places.{places_at}
-use Rattle.ver_table.specs.Chains as own
 use Rattle.ver_table.specs.Tabled.{all_tabled}
 use Rattle.ver_table.proofs.ChainsTabled.{chain_is}
 use Rattle.validate.specs.Plans.{HaveSlots, IsFull, free_in}

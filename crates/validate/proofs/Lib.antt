@@ -4,3 +4,4 @@ pub mod Frees
 pub mod OutsideReads
 pub mod Fulls
 pub mod Decided
+pub mod TablesLaws

@@ -1,5 +1,5 @@
 -- An outside read by the table is that of the table machine.
-use Rattle.std.proofs.Common.{◌≡◌, ℕ, Bool, true, false, cond, List, Option, Some, None, refl, sym, ap, ap₂, ◌∙◌, subst}
+use Rattle.std.proofs.Common.{◌≡◌, ◌<◌, ℕ, Bool, true, false, cond, List, Option, Some, None, refl, sym, ap, ap₂, ◌∙◌}
 use Rattle.std.specs.Prelude.{IsSome, unwrap_or}
 use Rattle.rv_core.specs.State.{MachineState}
 use Rattle.nv_base.specs.declared.ids.ObjId.{ObjId}
@@ -15,7 +15,7 @@ use Rattle.table_machine.specs.Seats.{SeatTurn, fetch_version, open_copy}
 use Rattle.ver_table.specs.Chains.{Chain, chain_at, in_slot, newest_before}
 use Rattle.ver_table.specs.Tabled.{all_tabled}
 use Rattle.ver_table.proofs.ChainsTabled.{chain_is, chosen_is}
-use Rattle.validate.specs.Reading.{IsAdmitted, IsStale, stale_turn}
+use Rattle.validate.specs.Reading.{IsAdmitted, IsStale}
 use Rattle.validate.specs.declared.reading.Stale as own
 
 -- what an option has
@@ -32,14 +32,15 @@ read_at : (chains : List Chain) (n : ℕ) (t : machine.Try MachineState) (m : Ma
     → fetch_version (all_tabled chains) n t m object ≡ read_by n t m object i (model.is_empty i) (chosen_place i.hi (places_at (all_tabled chains) object))
 read_at chains n t m object i e = ap (λ (j : model.Interval). read_by n t m object j (model.is_empty j) (chosen_place j.hi (places_at (all_tabled chains) object))) e
 
-pub admitted : (chains : List Chain) (reads : Interval) (object : ObjId) (v : Version) (p : Place) → model.is_empty (range_of reads) ≡ false → v.object ≡ object → newest_before (number_of reads.hi) (chain_at chains object.0).stored ≡ Some p
+pub admitted : (chains : List Chain) (reads : Interval) (object : ObjId) (v : Version) (p : Place) → model.is_empty (range_of reads) ≡ false → v.object ≡ object → v.slot < (chain_at chains object.0).slots → newest_before (number_of reads.hi) (chain_at chains object.0).stored ≡ Some p
     → v.slot ≡ p.slot → v.begin.0 ≡ p.begin → in_slot v.slot (chain_at chains object.0).stored ≡ Some p → IsAdmitted chains reads object.0 v
-admitted chains reads object v p some same found slot begin stands =
+admitted chains reads object v p some same inside found slot begin stands =
     let chosen : chosen_place (range_of reads).hi (places_at (all_tabled chains) object.0) ≡ Some p =
-      ap (λ (c : machine.Chain). chosen_place (range_of reads).hi c.places) (chain_is chains object.0) ∙ chosen_is (range_of reads).hi (chain_at chains object.0).stored ∙ found in
+    ap (λ (c : machine.Chain). chosen_place (range_of reads).hi c.places) (chain_is chains object.0) ∙ chosen_is (range_of reads).hi (chain_at chains object.0).stored ∙ found in
     record {
       some = some;
       named = ap (λ (o : ObjId). o.0) same;
+      inside = inside;
       place = p;
       chosen = chosen;
       version = record { slot = slot; begin = begin; stands = ap (λ (o : ObjId). in_slot v.slot (chain_at chains o.0).stored) same ∙ stands };

@@ -12,8 +12,9 @@ use Rattle.slot_model.specs.Tabled.{Tables, View, free_place, table_verdict}
 use Rattle.set_model.specs.Sets.{TaskSet}
 use Rattle.set_model.specs.Views as told
 use Rattle.shadow_index.specs.declared.plan.Plan.{Plan}
-use Rattle.table_machine.specs.Tables.{Try, chain_at}
-use Rattle.table_machine.specs.Places.{places_at, run_by}
+use Rattle.device_model.specs.IndexWords.{Index}
+use Rattle.table_machine.specs.Tables.{Seat, Try, chain_at}
+use Rattle.table_machine.specs.Places.{places_at, run_by, views_in}
 use Rattle.task_queue.specs.Queues.{Queued}
 use Rattle.ver_table.specs.Chains as own
 use Rattle.ver_table.specs.Tabled.{all_tabled}
@@ -77,3 +78,11 @@ IsAnswer s a reads v =
     (o : Outcome) (t : Try MachineState) (sizes : Sizes) → a.stage ≡ stage.Ready o → IsEndedTry a o t
     → t.interval ≡ range_of reads → AreSizes s sizes
     → IsVerdict s sizes v (table_verdict sizes (tables_in s) s.others t.task t.interval (run_by t (told.outcome_of o)))
+
+-- it is what the table machine looks at with this index and these other seats
+pub record IsSeenIn (s : Seen) (x : Index) (seats : List (Seat MachineState)) : Type 0 where
+  pub clock : x.clock ≡ s.clock
+  pub number : x.number ≡ s.number
+  pub next : x.next ≡ s.queue.next
+  pub tasks : x.tasks ≡ s.queue.tasks
+  pub others : views_in seats ≡ s.others

@@ -1,5 +1,5 @@
 -- What an outside read finds: the table machine's version, or that the attempt is stale. This project's own.
-use Rattle.std.specs.Prelude.{◌≡◌, ℕ, true, false, List, Some, unwrap_or}
+use Rattle.std.specs.Prelude.{◌≡◌, ◌<◌, ℕ, true, false, List, Some, unwrap_or}
 use Rattle.rv_core.specs.State.{MachineState}
 use Rattle.kernel_model.specs.Intervals.{is_empty}
 use Rattle.kernel_model.specs.Turns.{Stale}
@@ -24,6 +24,7 @@ pub record IsVersionAt (chains : List Chain) (v : Version) (p : Place) : Type 0 
 pub record IsAdmitted (chains : List Chain) (reads : Interval) (object : ℕ) (v : Version) : Type 0 where
   pub some : is_empty (range_of reads) ≡ false
   pub named : v.object.0 ≡ object
+  pub inside : v.slot < (chain_at chains object).slots
   pub place : Place
   pub chosen : chosen_place (range_of reads).hi (places_at (all_tabled chains) object) ≡ Some place
   pub version : IsVersionAt chains v place

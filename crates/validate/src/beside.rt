@@ -1,13 +1,14 @@
 //! What is kept of the attempts on other cores.
 
 ghost use Rattle.std.specs.Prelude.{◌≡◌, ◌<◌, ◌≤◌, ◌+◌, ◌++◌, [], length, map, take};
+ghost use Rattle.validate.specs.declared.beside.TheConstants.{MAX_OTHERS};
 ghost use Rattle.validate.specs.Views.{copied_by, with_copied};
 
 use interval::{Interval, Pin};
 use nv_base::{ObjId, Point, limits};
 
 /// The most attempts on other cores.
-pub(crate) const MAX_OTHERS: usize = limits::MAX_CORES as usize - 1;
+pub const MAX_OTHERS: usize = limits::MAX_CORES as usize - 1;
 
 /// What is kept of another attempt.
 #[derive(Clone, Copy, PartialEq, Eq, Debug)]
@@ -25,8 +26,8 @@ pub(crate) struct Beside {
     attempts: usize,
     pins: [Pin; MAX_OTHERS],
     copies: usize,
-    ghost attempts_fit: { attempts ≤ 7 },
-    ghost copies_fit: { copies ≤ 7 },
+    ghost attempts_fit: { attempts ≤ MAX_OTHERS },
+    ghost copies_fit: { copies ≤ MAX_OTHERS },
 }
 
 impl Beside {

@@ -7,6 +7,9 @@ mod reading;
 mod slots;
 mod verdict;
 
-pub use beside::View;
+pub use beside::{MAX_OTHERS, View};
 pub use reading::{Stale, admit, opened};
 pub use verdict::{Verdict, validate};
+
+#[cfg(test)]
+mod tests;

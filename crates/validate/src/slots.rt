@@ -1,12 +1,13 @@
 //! What the written objects ask of a finish: that it stands behind all who touched them, and a free slot of each.
 
-ghost use Rattle.std.specs.Prelude.{◌≡◌, ℕ, List, MatchResult, length, map, take};
+ghost use Rattle.std.specs.Prelude.{◌≡◌, ◌<◌, ℕ, List, MatchResult, length, map, take};
 ghost use Rattle.object_sets.specs.ObjectSets.{AreBelow};
 ghost use Rattle.kernel_model.specs.Effects.{Write};
 ghost use Rattle.kernel_model.specs.Bounds.{raised_by};
-ghost use Rattle.interval.specs.Ranges.{range_of};
+ghost use Rattle.interval.specs.Ranges.{raised_to, range_of};
 ghost use Rattle.slot_model.specs.Tabled.{View};
 ghost use Rattle.table_machine.specs.Tables.{chain_at as kept_at};
+ghost use Rattle.ver_table.specs.Chains.{chain_at};
 ghost use Rattle.ver_table.specs.Tabled.{AreViews, all_tabled};
 ghost use Rattle.validate.specs.Plans.{HaveSlots, IsFull};
 
@@ -28,10 +29,19 @@ pub(crate) fn raised(versions: &Versions, written: ObjSet, reads: Interval) -> I
     let mut interval = reads;
     for o in 0..versions.objects() {
         if written.has(ObjId(o)) {
-            interval.raise(versions.bound(ObjId(o)));
+            raise_behind(&mut interval, versions, ObjId(o));
         }
     }
     interval
+}
+
+// Leaves out all points before those of the finishes that read or wrote an object.
+fn raise_behind(interval: &mut Interval, versions: &Versions, o: ObjId)
+    requires { o.0 < length versions.now }
+    ensures { range_of interval.new
+        ≡ raised_to (chain_at versions.now o.0).bound (range_of interval.old) }
+{
+    interval.raise(versions.bound(o));
 }
 
 /// By object, the least free slot of each that is written: the least written object where one has none.

@@ -50,11 +50,11 @@ pub fn validate(
     requires clock { clock.0 < 2 ^ 32 - 1 }
     requires number { number.0 < 2 ^ 32 - 1 }
     ensures { let seen : Seen = record {
-        chains = versions.now;
-        queue = queue.now;
-        clock = clock.0;
-        number = number.0;
-        others = map view_of others.now;
+      chains = versions.now;
+      queue = queue.now;
+      clock = clock.0;
+      number = number.0;
+      others = map view_of others.now;
     } in IsAnswer seen attempt.now reads result }
 {
     let written = attempt.written();
@@ -96,11 +96,11 @@ fn entry(queue: &Queue, attempt: &Attempt, point: Point, number: Seq) -> Entry
     requires number { number.0 < 2 ^ 32 - 1 }
     ensures { (o : Outcome) → attempt.now.stage ≡ Stage.Ready o
         → result ≡ record {
-            number = record { 0 = number.0 + 1 };
-            task = attempt.now.task;
-            point = point;
-            first = record { 0 = queue.now.next };
-            outcome = o;
+          number = record { 0 = number.0 + 1 };
+          task = attempt.now.task;
+          point = point;
+          first = record { 0 = queue.now.next };
+          outcome = o;
         } }
 {
     let Some(outcome) = attempt.outcome() else {

@@ -1,5 +1,6 @@
 -- The chains of the table are those of the table machine, and change as they do.
-use Rattle.std.proofs.Common.{◌≡◌, ℕ, zero, suc, ◌+◌, ◌<◌, Bool, true, false, cond, ltb, List, [], ◌∷◌, length, map, Option, Some, None, refl, sym, ap, ◌∙◌, arith, add-zero}
+use Rattle.std.proofs.Common.{◌≡◌, ℕ, zero, suc, ◌+◌, ◌<◌, true, false, cond, ltb, List, [], ◌∷◌, length, map, set, Option, Some, None, refl, sym, ap, ap₂, ◌∙◌, arith, add-zero}
+use Rattle.std.proofs.lemmas.List.{length-map}
 use Rattle.std.specs.Prelude.{slice_index}
 use Rattle.object_sets.specs.ObjectSets.{is_among}
 use Rattle.kernel_model.specs.Effects.{written}
@@ -11,6 +12,7 @@ use Rattle.table_machine.specs.Tables.{Chain, chain_at, each_from}
 use Rattle.table_machine.specs.Events.{all_touched, one_version, reopened, touched}
 use Rattle.ver_table.specs.Chains as own
 use Rattle.ver_table.specs.Tabled.{AreTouched, all_tabled, tabled}
+use Rattle.ver_table.proofs.Reopens.{slots_told}
 
 -- each object is where it was
 pub chain_is : (chains : List own.Chain) (o : ℕ) → chain_at (all_tabled chains) o ≡ tabled (own.chain_at chains o)
@@ -56,9 +58,9 @@ touched_from i slots k (d ∷ old) (c ∷ new) n e =
     let first : tabled c ≡ here (k + 0) (tabled d) = e 0 (omega arith) in
     let z : k + 0 ≡ k = add-zero k in
     let rest = touched_from i slots (k + 1) old new (omega (arith, n)) (λ o l.
-        let next : tabled (own.chain_at new o) ≡ here (k + suc o) (tabled (own.chain_at old o)) = e (suc o) (omega (arith, l)) in
-        let m : k + suc o ≡ k + 1 + o = omega arith in
-        next ∙ ap (λ (j : ℕ). here j (tabled (own.chain_at old o))) m) in
+    let next : tabled (own.chain_at new o) ≡ here (k + suc o) (tabled (own.chain_at old o)) = e (suc o) (omega (arith, l)) in
+    let m : k + suc o ≡ k + 1 + o = omega arith in
+    next ∙ ap (λ (j : ℕ). here j (tabled (own.chain_at old o))) m) in
     ap (λ (x : Chain). x ∷ all_touched i slots (k + 1) (all_tabled old)) (sym (first ∙ ap (λ (j : ℕ). here j (tabled d)) z))
     ∙ ap (λ (xs : List Chain). tabled c ∷ xs) rest
 
@@ -77,8 +79,8 @@ opened_from k (suc m) f (c ∷ chains) n e =
     let first : tabled c ≡ f (k + 0) = e 0 (omega arith) in
     let z : k + 0 ≡ k = add-zero k in
     let rest = opened_from (k + 1) m f chains (omega (arith, n)) (λ o l.
-        let j : k + suc o ≡ k + 1 + o = omega arith in
-        e (suc o) (omega (arith, l)) ∙ ap f j) in
+    let j : k + suc o ≡ k + 1 + o = omega arith in
+    e (suc o) (omega (arith, l)) ∙ ap f j) in
     ap (λ (x : Chain). x ∷ all_tabled chains) (first ∙ ap f z) ∙ ap (λ (xs : List Chain). f k ∷ xs) rest
 
 pub opened_is : (slots named : List ℕ) (p : ℕ) (chains : List own.Chain) → own.AreOpened slots named p chains → all_tabled chains ≡ each_from 0 (length slots) (λ o. one_version (slice_index named o) p)
@@ -88,3 +90,20 @@ opened_is slots named p chains h = opened_from 0 (length slots) (λ o. one_versi
 
 pub reopened_is : (set : TaskSet) (x : Index) (slots : List ℕ) (chains : List own.Chain) → length slots ≡ length set.objects → own.AreOpened slots x.slots x.clock chains → all_tabled chains ≡ reopened set x
 reopened_is set x slots chains n h = opened_is slots x.slots x.clock chains h ∙ ap (λ (m : ℕ). each_from 0 m (λ o. one_version (slice_index x.slots o) x.clock)) n
+
+-- lists are the same that are as long and have the same numbers
+same_numbers : (xs ys : List ℕ) → length xs ≡ length ys → ((o : ℕ) → o < length ys → slice_index xs o ≡ slice_index ys o) → xs ≡ ys
+same_numbers [] [] n e = refl
+same_numbers [] (y ∷ ys) n e = absurd (omega (arith, n))
+same_numbers (x ∷ xs) [] n e = absurd (omega (arith, n))
+same_numbers (x ∷ xs) (y ∷ ys) n e = ap₂ (λ (z : ℕ) (zs : List ℕ). z ∷ zs) (e 0 (omega arith)) (same_numbers xs ys (omega (arith, n)) (λ o l. e (suc o) (omega (arith, l))))
+
+pub slots_opened : (slots named : List ℕ) (p : ℕ) (chains : List own.Chain) → own.AreOpened slots named p chains → map (λ (c : own.Chain). c.slots) chains ≡ slots
+slots_opened slots named p chains h =
+    let long = length-map chains (λ (c : own.Chain). c.slots) in
+    same_numbers (map (λ (c : own.Chain). c.slots) chains) slots (long ∙ h.number) (λ o l. slots_told chains o ∙ ap (λ (c : own.Chain). c.slots) (h.each o l))
+
+pub slots_changed : (chains : List own.Chain) (o : ℕ) (c : own.Chain) → c.slots ≡ (own.chain_at chains o).slots → map (λ (d : own.Chain). d.slots) (set chains o c) ≡ map (λ (d : own.Chain). d.slots) chains
+slots_changed [] o c e = refl
+slots_changed (d ∷ chains) zero c e = ap (λ (n : ℕ). n ∷ map (λ (x : own.Chain). x.slots) chains) e
+slots_changed (d ∷ chains) (suc o) c e = ap (λ (ns : List ℕ). d.slots ∷ ns) (slots_changed chains o c e)

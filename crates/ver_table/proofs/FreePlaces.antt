@@ -1,5 +1,5 @@
 -- The table's free slot is that of the table machine.
-use Rattle.std.proofs.Common.{◌≡◌, ℕ, zero, suc, ◌+◌, ◌<◌, ◌≤◌, Bool, true, false, cond, eqb, ◌||◌, ◌&&◌, List, [], ◌∷◌, length, map, Option, Some, None, refl, sym, ap, ap₂, ◌∙◌, subst, arith}
+use Rattle.std.proofs.Common.{◌≡◌, ℕ, zero, suc, ◌+◌, ◌<◌, ◌≤◌, Bool, true, false, cond, eqb, ◌||◌, ◌&&◌, List, [], ◌∷◌, Option, Some, None, refl, sym, ap, ap₂, ◌∙◌, arith}
 use Rattle.std.specs.Prelude.{is_none}
 use Rattle.std.specs.List.{AllByRecursion, list_any}
 use Rattle.std.proofs.lemmas.Bool.{eqb-true, eqb-false}
@@ -8,7 +8,7 @@ use Rattle.kernel_model.specs.Intervals.{Interval}
 use Rattle.slot_model.specs.Places.{free_from}
 use Rattle.slot_model.specs.Tabled.{Pin, Place, View, free_place, is_copied_from, is_needed_at, is_taken_at, meets_at}
 use Rattle.ver_table.specs.Chains.{Chain}
-use Rattle.ver_table.specs.Places.{IsFreeSlot, IsLeastFree, has_place, is_needed, is_pinned, is_taken}
+use Rattle.ver_table.specs.Places.{IsFreeSlot, has_place, is_needed, is_taken}
 use Rattle.ver_table.specs.Slots.{AreEnded, IsLaid}
 use Rattle.ver_table.specs.Tabled.{AreViews, pin_in, pins_of, with_pin}
 use Rattle.ver_table.proofs.Counts.{place_of_free}

@@ -1,6 +1,6 @@
 //! The table is that of the kernel over tables and device words: it answers the same, and changes alike.
 
-ghost use Rattle.std.specs.Prelude.{ℕ, ◌≡◌, List, Option, Some, None, false, true, length, slice_index};
+ghost use Rattle.std.specs.Prelude.{ℕ, ◌≡◌, List, Option, Some, None, false, true, length, map, slice_index, slice_set};
 ghost use Rattle.object_sets.specs.ObjectSets.{is_among};
 ghost use Rattle.interval.specs.declared.version.Pin.{Pin};
 ghost use Rattle.kernel_model.specs.Items.{FinishRecord};
@@ -65,6 +65,15 @@ pub fn opened_is_reopened()
         → length slots ≡ length set.objects
         → AreOpened slots x.slots x.clock chains
         → all_tabled chains ≡ reopened set x }
+{}
+
+/// A table that was opened has as many slots of each object as were told, and keeps them with each change of an object.
+pub fn slots_stay()
+    ensures opened { (slots named : List ℕ) (p : ℕ) (chains : List Chain)
+        → AreOpened slots named p chains → map (λ (c : Chain). c.slots) chains ≡ slots }
+    ensures changed { (chains : List Chain) (o : ℕ) (c : Chain)
+        → c.slots ≡ (chain_at chains o).slots
+        → map (λ (d : Chain). d.slots) (slice_set chains o c) ≡ map (λ (d : Chain). d.slots) chains }
 {}
 
 /// A slot that is found free beside other attempts is the least free one beside what is kept of these.

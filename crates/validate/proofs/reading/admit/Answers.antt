@@ -1,5 +1,5 @@
 use Rattle.std.proofs.Common.{sym, refl, ◌∙◌}
-use Rattle.interval.specs.Ranges.{number_of, range_of}
+use Rattle.interval.specs.Ranges.{number_of}
 use Rattle.ver_table.specs.Chains.{chain_at, newest_before}
 use Rattle.validate.proofs.OutsideReads.{admitted, is_stale, some_place}
 use Rattle.validate.proofs.reading.admit.Goals as goal
@@ -12,4 +12,4 @@ returns c =
     let some = sym c.is_empty.ensures ∙ c.if-is_empty.false in
     let found = some_place (newest_before (number_of c.args.reads.hi) (chain_at c.args.versions.now c.args.object.0).stored) (c.requires.begun some) in
     let told = c.choose.ensures.chosen found.0 found.1 in
-    admitted c.args.versions.now c.args.reads c.args.object c.choose.result found.0 some c.choose.ensures.object found.1 told.0 told.1 told.2
+    admitted c.args.versions.now c.args.reads c.args.object c.choose.result found.0 some c.choose.ensures.object c.choose.ensures.slot found.1 told.0 told.1 told.2

@@ -1,7 +1,5 @@
-use Rattle.std.proofs.Common.{◌≡◌, ℕ, ◌≤◌, suc, length, true, false, sym, ap, ap₂, ◌∙◌, subst, arith, add-one}
-use Rattle.object_sets.specs.ObjectSets.{AreBelow, is_among}
-use Rattle.kernel_model.specs.Intervals.{Interval}
-use Rattle.kernel_model.specs.Bounds.{raised_by}
+use Rattle.std.proofs.Common.{◌≡◌, ℕ, length, sym, ap, ap₂, ◌∙◌, subst, arith, add-one}
+use Rattle.object_sets.specs.ObjectSets.{AreBelow}
 use Rattle.interval.specs.Ranges.{raised_to, range_of}
 use Rattle.table_machine.specs.Tables.{Chain, chain_at}
 use Rattle.ver_table.specs.Tabled.{all_tabled}
@@ -19,8 +17,8 @@ loop-o-preserved c =
     elim c.if-has.branch [
       | then-has w ↦
           let among = sym (sym c.has.ensures.among ∙ w.if-has.true) in
-          let bound = w.bound.ensures.bound ∙ sym (ap (λ (x : Chain). x.bound) (chain_is c.args.versions.now o)) in
-          ap range_of w.interval-is ∙ w.raise.ensures ∙ ap₂ raised_to bound c.loop-o.invariant ∙ ap (λ b. raised_if b (bounds o) before) among ∙ sym next
+          let bound = sym (ap (λ (x : Chain). x.bound) (chain_is c.args.versions.now o)) in
+          ap range_of w.interval-is ∙ w.raise_behind.ensures ∙ ap₂ raised_to bound c.loop-o.invariant ∙ ap (λ b. raised_if b (bounds o) before) among ∙ sym next
       | else-has w ↦
           let among = sym (sym c.has.ensures.among ∙ w.if-has.false) in
           ap range_of w.interval-is ∙ c.loop-o.invariant ∙ ap (λ b. raised_if b (bounds o) before) among ∙ sym next

@@ -1,4 +1,4 @@
-use Rattle.std.proofs.Common.{◌≡◌, ◌+◌, length, map, false, true, sym, ap, ap₂, ◌∙◌, subst}
+use Rattle.std.proofs.Common.{◌+◌, length, map, false, true, sym, ap, ap₂, ◌∙◌, subst}
 use Rattle.interval.specs.Ranges.{range_of}
 use Rattle.kernel_model.specs.Items.{Entry}
 use Rattle.kernel_model.specs.Verdicts.{Records}
@@ -10,7 +10,7 @@ use Rattle.vol_copy.specs.Tries.{run_in}
 use Rattle.validate.specs.Answers.{Seen, tables_in}
 use Rattle.validate.specs.Plans.{HaveSlots, IsFull}
 use Rattle.validate.specs.Views.{view_of}
-use Rattle.validate.proofs.Decided.{AreWritten, IsAsked, answered_empty, answered_room, answered_slots, are_written, granted_plan, objects_written, writes_by}
+use Rattle.validate.proofs.Decided.{IsAsked, answered_empty, answered_room, answered_slots, are_written, granted_plan, objects_written, writes_by}
 use Rattle.validate.proofs.Frees.{views_moved}
 use Rattle.validate.proofs.Pins.{views_are}
 use Rattle.validate.proofs.verdict.validate.Goals as goal
@@ -63,8 +63,7 @@ returns c = λ o t sizes ready ended reads sizes_are.
     let some = c.writes_some.ensures (writes_by a) (objects_written a.written a.words ∙ sym c.written-written.ensures) in
     let point = c.in-Some.ensures.1 (writes_by a) some in
     let plan : Plan = record { granted = c.entry.result; written = c.written-written.result; slots = c.in-Ok.slots } in
-    let entry = ap entry_of (c.entry.ensures o ready) ∙ ap (λ p. let e : Entry = record { number = seen.number + 1; task = a.task.0; point = p; first = seen.queue.next; outcome = outcome_of o } in e) point in
-    (
+    let entry = ap entry_of (c.entry.ensures o ready) ∙ ap (λ p. let e : Entry = record { number = seen.number + 1; task = a.task.0; point = p; first = seen.queue.next; outcome = outcome_of o } in e) point in (
       table_finish (tables_in seen) a.task.0 (run_in a o) i,
       answered_room seen sizes a (range_of c.args.reads) i o t c.in-Ok.slots true asked written c.in-Some.ensures.0 have room,
       granted_plan seen sizes a i o plan sizes_are written c.written-written.ensures have entry,

@@ -1,6 +1,5 @@
 use Rattle.std.proofs.Common.{◌<◌, get_or, length, ◌∙◌, arith}
 use Rattle.std.proofs.lemmas.List.{length-set}
-use Rattle.validate.specs.declared.beside.View.{View}
 use Rattle.validate.proofs.Pins.{copied_more, intervals_more, no_view}
 use Rattle.validate.proofs.beside.Beside.of.Goals as goal
 

@@ -29,11 +29,11 @@ invariant_of-self c =
     let older = sym (newest_slot begins ends order slot c.self.invariant.some) ∙ ap (λ (x : Chain). holds_newest slot x.stored) c.self.view_is ∙ c.requires.older in
     let items = c.insert.ensures.items ∙ ap (λ (ks : List ℕ). slot ∷ ks) c.leave_out.ensures in
     let after =
-      ap (λ (a : ℕ). made a c.from.result c.from-3.result c.insert.new.self.items) c.from-2.ensures
-      ∙ ap (λ (b : ℕ). made slot b c.from-3.result c.insert.new.self.items) newest
-      ∙ ap (λ (d : ℕ). made slot (get_or order 0 0) d c.insert.new.self.items) c.from-3.ensures
-      ∙ ap (λ (ks : List ℕ). made slot (get_or order 0 0) slot ks) items
-      ∙ shows_installed c.self.inside.slots c.self.inside.bound.0 order begins ends slot p c.self.invariant inside lb le older in
+    ap (λ (a : ℕ). made a c.from.result c.from-3.result c.insert.new.self.items) c.from-2.ensures
+    ∙ ap (λ (b : ℕ). made slot b c.from-3.result c.insert.new.self.items) newest
+    ∙ ap (λ (d : ℕ). made slot (get_or order 0 0) d c.insert.new.self.items) c.from-3.ensures
+    ∙ ap (λ (ks : List ℕ). made slot (get_or order 0 0) slot ks) items
+    ∙ shows_installed c.self.inside.slots c.self.inside.bound.0 order begins ends slot p c.self.invariant inside lb le older in
     let old : Chain = record { slots = c.self.inside.slots; bound = c.self.inside.bound.0; stored = map (stored_at begins ends) order } in
     let ended = subst (λ (x : Chain). AreEnded x.stored) (sym after) (ended_installed slot p.0 old c.self.invariant.ended) in
     let stored = (made c.from-2.result c.from.result c.from-3.result c.insert.new.self.items).stored in
