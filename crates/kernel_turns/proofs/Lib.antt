@@ -3,3 +3,4 @@ pub mod AtStage
 pub mod Starting
 pub mod Versions
 pub mod Advancing
+pub mod Sources
