@@ -1,3 +1,5 @@
 pub mod Wants
 pub mod Stages
+pub mod Received
 pub mod Tries
+pub mod Turns

@@ -1,13 +1,14 @@
 -- Which tries of the table machine an attempt stands for. This project's own.
-use Rattle.std.specs.Prelude.{◌≡◌, ℕ, ◌<◌, ◌≤◌, false, List, [], ◌∷◌, length, map, take}
-use Rattle.std.specs.List.{AllByRecursion}
+use Rattle.std.specs.Prelude.{◌≡◌, ℕ, ◌<◌, ◌≤◌, Bool, false, List, ◌∷◌, length, map, take, Option, Some, None, is_some}
+use Rattle.std.specs.List.{AllByRecursion, list_any}
 use Rattle.object_sets.specs.ObjectSets.{AreBelow, IsIncreasing, is_among}
 use Rattle.object_sets.specs.Pairs.{AllPairsByRecursion}
 use Rattle.rv_core.specs.State.{MachineState}
 use Rattle.nv_base.specs.declared.limits.TheConstants.{MAX_SPAWNS}
 use Rattle.nv_base.specs.declared.lines.Outcome.{Outcome}
-use Rattle.kernel_model.specs.Effects.{Objects, Run, Write, object_words}
+use Rattle.kernel_model.specs.Effects.{Objects, Run, Write, object_words, written}
 use Rattle.kernel_model.specs.Intervals.{Interval}
+use Rattle.slot_model.specs.Tabled.{View}
 use Rattle.set_model.specs.Sets.{TaskSet, object_at}
 use Rattle.set_model.specs.Views.{outcome_of, spawn_of}
 use Rattle.task_model.specs.Shape.{HasShape}
@@ -17,6 +18,7 @@ use Rattle.vol_copy.specs.Wants.{Awaits}
 use Rattle.vol_copy.specs.declared.attempt.Attempt.{Attempt}
 use Rattle.vol_copy.specs.declared.attempt.Stage.{Stage}
 use Rattle.vol_copy.specs.declared.attempt.Stage.TheVariants as stage
+use Rattle.vol_copy.specs.declared.want.Want.{Want}
 
 -- the words that were written last, in order of the objects
 abbrev pub writes_in : (written : List ℕ) → Objects → List Write
@@ -66,16 +68,43 @@ IsSeatAt a i (stage.Ready outcome) seat = (t : Try MachineState) × IsEndedTry a
 abbrev pub IsSeat : Attempt → Interval → Seat MachineState → Type 0
 IsSeat a i seat = IsSeatAt a i a.stage seat
 
--- what the machine waits for: the words of an object of the set that the attempt has neither read before nor written
-pub record IsWaiting (set : TaskSet) (a : Attempt) (object : ℕ) : Type 0 where
+-- the slot that a seat copies from, 0 if none
+abbrev pub slot_on : Seat MachineState → ℕ
+slot_on (Copies t slot) = slot
+slot_on _ = 0
+
+-- what verdicts on other cores ask of a seat: nothing of a blank attempt, else the interval, and the slot that is copied from
+abbrev pub view_in : Interval → (slot : ℕ) → Stage → Option View
+view_in i slot stage.Blank = None
+view_in i slot stage.Running = Some (record { interval = i; copying = None })
+view_in i slot (stage.Fetching object want) = Some (record { interval = i; copying = None })
+view_in i slot (stage.Copying object want copied) = Some (record { interval = i; copying = Some (record { object = object.0; slot = slot }) })
+view_in i slot (stage.Ready outcome) = Some (record { interval = i; copying = None })
+
+-- the task that a seat holds, if it holds one
+abbrev pub task_in : Attempt → Stage → Option ℕ
+task_in a stage.Blank = None
+task_in a stage.Running = Some a.task.0
+task_in a (stage.Fetching object want) = Some a.task.0
+task_in a (stage.Copying object want copied) = Some a.task.0
+task_in a (stage.Ready outcome) = Some a.task.0
+
+-- whether it has read one of the objects that some writes are to
+abbrev pub has_read : Attempt → List Write → Bool
+has_read a ws = list_any (λ o. is_some (written ws o)) a.reads
+
+-- what the machine waits for: the words of an object of the set that the attempt has not written, and what it wants of them
+pub record IsWaiting (set : TaskSet) (a : Attempt) (object : ℕ) (want : Want) : Type 0 where
   pub inside : object < length set.objects
+  pub some : 0 < (object_at set object).size
   pub unwritten : is_among object a.written ≡ false
+  pub awaits : Awaits a.machine (object_at set object).size want
 
 abbrev pub IsForAt : TaskSet → Attempt → Stage → Type 0
 IsForAt set a stage.Blank = Unit {0}
 IsForAt set a stage.Running = Unit {0}
-IsForAt set a (stage.Fetching object want) = IsWaiting set a object.0 × (is_among object.0 a.reads ≡ false) × Awaits a.machine (object_at set object.0).size want
-IsForAt set a (stage.Copying object want copied) = IsWaiting set a object.0 × (copied < (object_at set object.0).size) × Awaits a.machine (object_at set object.0).size want
+IsForAt set a (stage.Fetching object want) = IsWaiting set a object.0 want × (is_among object.0 a.reads ≡ false)
+IsForAt set a (stage.Copying object want copied) = IsWaiting set a object.0 want × (copied < (object_at set object.0).size)
 IsForAt set a (stage.Ready outcome) = Unit {0}
 
 -- the attempt has room for all tasks of a set, and what it keeps is of this set

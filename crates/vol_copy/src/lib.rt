@@ -2,6 +2,16 @@
 #![tactic(auto)]
 
 mod attempt;
+mod copied;
+mod copying;
+pub mod laws;
+mod running;
+mod services;
 mod want;
+mod written;
 
 pub use attempt::Attempt;
+pub use running::Need;
+
+#[cfg(test)]
+mod tests;
