@@ -1,20 +1,29 @@
-//! Outside reads and free slots, worked out by hand.
+//! Outside reads, free slots and verdicts, worked out by hand.
 
-ghost use Rattle.std.specs.Prelude.{◌≡◌, IfOk, IfSome, None, Some, [], ◌∷◌, length};
+ghost use Rattle.std.specs.Prelude.{◌≡◌, IfOk, IfSome, None, Some, [], ◌∷◌, length, map, true};
 ghost use Rattle.ver_table.specs.Chains.{Chain, chain_at};
+ghost use Rattle.vol_copy.specs.Stages.{is_waiting};
+ghost use Rattle.vol_copy.specs.Tries.{IsFor};
 
 use super::*;
 use crate::beside::Beside;
 use crate::slots::{free_slots, raised};
 use interval::{Interval, Pin, Version};
-use nv_base::{NoMemory, ObjId, ObjSet, Point, ProgId, Spawn};
+use nv_base::{NoMemory, ObjId, ObjSet, Outcome, Point, ProgId, Seq, Spawn, TaskId, TaskRec};
 use std::test::Fail;
+use task_queue::Queue;
 use task_set::{
     Name, ObjPart, ObjectParts, ProgPart, ProgramParts, SetParts, TaskSet, Tasks, Words,
 };
 use ver_table::Versions;
+use vol_copy::{Attempt, Need};
 
-// one object of one word, with slots for two versions
+// writes x, and finishes with 9
+const WRITES: [u32; 7] = [
+    0x00000513, 0x20000593, 0x00200893, 0x00000073, 0x00900513, 0x00400893, 0x00000073,
+];
+
+// an object x of one word, with slots for two versions, and a program that writes it
 fn parts(rt: &HostRuntime) -> Result<SetParts, NoMemory> {
     let mut objects = ObjectParts::new(rt.alloc());
     objects.push(ObjPart {
@@ -26,8 +35,8 @@ fn parts(rt: &HostRuntime) -> Result<SetParts, NoMemory> {
     let mut programs = ProgramParts::new(rt.alloc());
     programs.push(ProgPart {
         name: Name::from_slice(rt.alloc(), b"p")?,
-        fuel: 1,
-        code: Words::from_slice(rt.alloc(), &[0x0000_006f])?,
+        fuel: 100,
+        code: Words::from_slice(rt.alloc(), &WRITES)?,
     })?;
     Ok(SetParts {
         format: 1,
@@ -46,31 +55,57 @@ fn parts(rt: &HostRuntime) -> Result<SetParts, NoMemory> {
     })
 }
 
+// their set
+fn small_set(rt: &HostRuntime) -> Result<Option<TaskSet>, NoMemory> {
+    Ok(TaskSet::build(rt.alloc(), parts(rt)?).ok())
+}
+
 // its table: the version in slot 0 began at 4, and ended at 6, where that in slot 1 began
-fn table(rt: &HostRuntime) -> Result<Option<Versions>, NoMemory>
-    ensures { IfOk result (λ t. IfSome t (λ v. (length v ≡ 1) × (let c : Chain = record {
+fn table(rt: &HostRuntime, set: &TaskSet) -> Result<Option<Versions>, NoMemory>
+    ensures known { IfOk result (λ t. IfSome t (λ v. (length v ≡ 1) × (let c : Chain = record {
       slots = 2;
       bound = 6;
       stored = record { slot = 1; begin = 6; end = None }
           ∷ record { slot = 0; begin = 4; end = Some 6 } ∷ [];
     } in chain_at v 0 ≡ c))) }
+    ensures slots { IfOk result (λ t. IfSome t (λ v. map (λ c. c.slots) v
+        ≡ map (λ p. p.slots) set.now.objects)) }
 {
-    let Ok(set) = TaskSet::build(rt.alloc(), parts(rt)?) else {
-        return Ok(None);
-    };
     if set.objects() != 1 || set.slots(ObjId(0)) != 2 {
         return Ok(None);
     }
-    let mut versions = Versions::open(rt.alloc(), &set, &[0], Point(4))?;
+    let mut versions = Versions::open(rt.alloc(), set, &[0], Point(4))?;
     versions.install(ObjId(0), 1, Point(6));
     Ok(Some(versions))
 }
 
+// an attempt of a task of its program that comes to its end within 20 turns
+fn run(rt: &HostRuntime, set: &TaskSet, task: TaskRec) -> Result<Option<Attempt>, NoMemory>
+    ensures kept { IfOk result (λ o. IfSome o (IsFor set.now)) }
+    ensures ready { IfOk result (λ o. IfSome o (λ a. is_waiting a.stage ≡ true)) }
+{
+    let mut attempt = Attempt::new(rt.alloc(), set)?;
+    if task.program.0 >= set.programs() {
+        return Ok(None);
+    }
+    attempt.load(set, task, Point(4));
+    for _ in 0..20 {
+        match attempt.advance(set) {
+            Need::Went => {}
+            Need::Fetch(_) => return Ok(None),
+            Need::Ready => return Ok(Some(attempt)),
+        }
+    }
+    Ok(None)
+}
+
 #[test]
 fn an_outside_read_takes_the_newest_version_before_the_end(rt: HostRuntime) -> Result<(), Fail> {
-    let Some(versions) = table(&rt)? else {
-        assert!(rt; false);
-        return Ok(());
+    let Some(set) = small_set(&rt)? else {
+        return Err(Fail::new("the set is within its limits"));
+    };
+    let Some(versions) = table(&rt, &set)? else {
+        return Err(Fail::new("x has slots for two versions"));
     };
     let version = |slot: u8, begin: u32| Version {
         object: ObjId(0),
@@ -97,9 +132,11 @@ fn an_outside_read_takes_the_newest_version_before_the_end(rt: HostRuntime) -> R
 
 #[test]
 fn a_read_raises_and_cuts_the_interval(rt: HostRuntime) -> Result<(), Fail> {
-    let Some(versions) = table(&rt)? else {
-        assert!(rt; false);
-        return Ok(());
+    let Some(set) = small_set(&rt)? else {
+        return Err(Fail::new("the set is within its limits"));
+    };
+    let Some(versions) = table(&rt, &set)? else {
+        return Err(Fail::new("x has slots for two versions"));
     };
     let version = Version {
         object: ObjId(0),
@@ -118,9 +155,11 @@ fn a_read_raises_and_cuts_the_interval(rt: HostRuntime) -> Result<(), Fail> {
 
 #[test]
 fn a_written_object_raises_the_interval_and_has_a_slot(rt: HostRuntime) -> Result<(), Fail> {
-    let Some(versions) = table(&rt)? else {
-        assert!(rt; false);
-        return Ok(());
+    let Some(set) = small_set(&rt)? else {
+        return Err(Fail::new("the set is within its limits"));
+    };
+    let Some(versions) = table(&rt, &set)? else {
+        return Err(Fail::new("x has slots for two versions"));
     };
     let mut written = ObjSet::empty();
     written.add(ObjId(0));
@@ -156,5 +195,60 @@ fn a_written_object_raises_the_interval_and_has_a_slot(rt: HostRuntime) -> Resul
         };
         assert!(rt; free == slot);
     }
+    Ok(())
+}
+
+#[test]
+fn a_finish_is_granted_behind_the_clock_or_told_why_not(rt: HostRuntime) -> Result<(), Fail> {
+    let Some(set) = small_set(&rt)? else {
+        return Err(Fail::new("the set is within its limits"));
+    };
+    let Some(versions) = table(&rt, &set)? else {
+        return Err(Fail::new("x has slots for two versions"));
+    };
+    let task = TaskRec {
+        id: TaskId(4),
+        program: ProgId(0),
+        arg: 0,
+    };
+    let Some(attempt) = run(&rt, &set, task)? else {
+        return Err(Fail::new("the task comes to its end"));
+    };
+    if set.records() == 0 {
+        return Err(Fail::new("there is room for a task"));
+    }
+    let queue = Queue::open(rt.alloc(), &set, &[task], TaskId(5))?;
+    let from = Interval::from(Point(4));
+    let granted = validate(&versions, &queue, &attempt, from, &[], Point(6), Seq(2));
+    let Verdict::Granted(plan) = granted else {
+        return Err(Fail::new("nothing is in the way"));
+    };
+    assert!(rt; plan.granted.number == Seq(3) && plan.granted.task == TaskId(4));
+    assert!(rt; plan.granted.point == Point(7) && plan.granted.first == TaskId(5));
+    assert!(rt; plan.granted.outcome == Outcome::Exit(9) && plan.slots[0] == 0);
+    let mut old = from;
+    old.cut(Point(6));
+    let empty = validate(&versions, &queue, &attempt, old, &[], Point(6), Seq(2));
+    let Verdict::Empty { lo, hi } = empty else {
+        return Err(Fail::new("who read x stands behind the end"));
+    };
+    assert!(rt; lo == Point(6) && hi == Point(6));
+    let reader = View {
+        interval: old,
+        copying: None,
+    };
+    let full = validate(
+        &versions,
+        &queue,
+        &attempt,
+        from,
+        &[reader],
+        Point(6),
+        Seq(2),
+    );
+    let Verdict::Slots(object) = full else {
+        return Err(Fail::new("both versions are needed"));
+    };
+    assert!(rt; object == ObjId(0));
     Ok(())
 }
