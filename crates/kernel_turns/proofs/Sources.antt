@@ -1,5 +1,5 @@
 -- Where a try copies from, and what a word makes of it.
-use Rattle.std.proofs.Common.{◌≡◌, ℕ, ◌+◌, ◌<◌, ◌≤◌, List, [], ◌∷◌, get_or, length, take, Option, Some, None, refl, sym, ap, ◌∙◌, subst, arith}
+use Rattle.std.proofs.Common.{◌≡◌, ℕ, ◌+◌, ◌<◌, ◌≤◌, ◌++◌, Bool, true, false, cond, nat_lt, List, [], ◌∷◌, get_or, length, take, Option, Some, None, refl, sym, ap, ap₂, ◌∙◌, subst, arith}
 use Rattle.std.specs.List.{AllByRecursion}
 use Rattle.rv_core.specs.State.{MachineState}
 use Rattle.nv_base.specs.declared.ids.ObjId.{ObjId}
@@ -22,12 +22,15 @@ use Rattle.device_model.proofs.ForCallers.{slot_place-high}
 use Rattle.interval.specs.Ranges.{range_of}
 use Rattle.shadow_index.specs.States as states
 use Rattle.recovery.specs.Images.{device_at}
-use Rattle.table_machine.specs.Tables.{Copy, Seat, Vacant, Copies, Saves, Try, Setting, Tables, sizes_in, world_in}
-use Rattle.table_machine.specs.Seats.{SeatTurn, copy_word, seat_turn}
+use Rattle.table_machine.specs.Tables.{Copy, Seat, Vacant, Copies, Runs, Saves, Try, Setting, Tables, sizes_in, world_in}
+use Rattle.table_machine.specs.Seats.{SeatTurn, copy_word, given_words, seat_turn, still}
 use Rattle.table_machine.specs.Represents.{Agrees, Ghost, begun_copies, index_of, seat_of, slots_in, tables_on, try_of}
 use Rattle.table_machine.proofs.SeatLists.{seat_at}
 use Rattle.vol_copy.specs.Tries.{IsCopyingTry, IsFor, IsForAt, IsSeatAt}
 use Rattle.vol_copy.specs.Stages.{IsCopying}
+use Rattle.vol_copy.specs.Doings.{doing_in}
+use Rattle.vol_copy.specs.declared.doing.Doing.TheVariants as doing
+use Rattle.vol_copy.specs.declared.attempt.Stage.{Stage}
 use Rattle.vol_copy.specs.declared.attempt.Stage.TheVariants as stage
 use Rattle.vol_copy.specs.declared.want.Want.{Want}
 use Rattle.core_seats.specs.declared.seat.Seat as own
@@ -39,7 +42,7 @@ use Rattle.kernel_turns.specs.Turns.{HasTurned, IsAtStage, TurnsOn, held_at, tur
 use Rattle.kernel_turns.specs.declared.kernel.Kernel.{Kernel}
 use Rattle.kernel_turns.proofs.Turned as turned
 use Rattle.kernel_turns.proofs.Turned.{SavesNone, seated}
-use Rattle.kernel_turns.proofs.AtStage.{kept_at, on, stands_at}
+use Rattle.kernel_turns.proofs.AtStage.{kept_at, on, same_item, stands_at}
 use Rattle.kernel_turns.proofs.Versions.{tables_now}
 
 -- a seat that copies is that of a core that copies
@@ -87,3 +90,63 @@ sourced k words t n o w copied h l g e =
     let from : found.1 ≡ g.seat.slot = subst (IsFromSlot g.seat.slot) found.4 held.1 in
     let low = slot_inside (setting_on k.set words) l.base l.last l.represented.0 t words l.state n found.0 found.1 _ found.2.older l.represented.1 (on k words t h g.power).power found.4 found.2.newest kept.0.inside in
     record { object = kept.0.inside; slot = subst (λ j. j < (object_at k.set o.0).slots) from low; word = kept.1 }
+
+-- a word leaves no finish that commits
+copy_saves_none : (x : Setting MachineState) (words : Words) (u : Try MachineState) (slot : ℕ) (copies : List Copy) → SavesNone (copy_word x words u slot copies).seat
+copy_saves_none x words u slot [] = λ i after left e. cc e
+copy_saves_none x words u slot (c ∷ copies) = at (nat_lt (length c.words + 1) (object_at x.set c.object).size)
+  where
+    copied : List ℕ
+    copied = c.words ++ words (slot_place x.layout x.set c.object slot + length c.words) ∷ []
+
+    b : Try MachineState
+    b = record u { copies = record { object = c.object; words = copied } ∷ copies }
+
+    at : (more : Bool) → SavesNone (cond more (still (Copies b slot)) (still (Runs (given_words x.steps b u.state c.object copied)))).seat
+    at true = λ i after left e. cc e
+    at false = λ i after left e. cc e
+
+-- the turn of a core that copies
+pub copy_turns : (k : Kernel) (words : Words) (n : ℕ) (o : ObjId) (w : Want) (copied word : ℕ) (s : own.Seat) → (g : IsAtStage k n IsCopying) → g.seat.attempt.stage ≡ stage.Copying o w copied → IsFor k.set s.attempt → CopiesOn g.seat word s → word ≡ words (slot_place (layout_on (device_at k.set words)) k.set o.0 g.seat.slot + copied)
+    → TurnsOn words k n (seated k n s) line.Nothing
+unfolding TurnsOn CopiesOn
+copy_turns k words n o w copied word s g e kept copies is = λ t h lawful.
+    let after = states.index_of k.committed.after in
+    let x = setting_on k.set words in
+    let held = stands_at k words t n IsCopying h g in
+    let found = subst (λ s. IsSeatAt g.seat.attempt (range_of g.seat.reads) s (held_at t n)) e held.0 in
+    let from : found.1 ≡ g.seat.slot = subst (IsFromSlot g.seat.slot) found.4 held.1 in
+    let at : held_at t n ≡ Copies found.0 g.seat.slot = found.4 ∙ ap (λ (slot : ℕ). Copies found.0 slot) from in
+    let stands = subst (StandsFor g.seat after) at (turned.seat_at k.seats.items after t.seats n g.seat h.seats g.inside g.seat_is) in
+    let made = copies k.set (kept_at k words t n IsCopying h g) after o w copied e (layout_on (device_at k.set words)) words found.0 stands is in
+    let turn : turn_at k words t n ≡ copy_word x words found.0 g.seat.slot found.0.copies = ap (seat_turn x t words (all_but n t.seats) n) at in
+    subst (λ (u : SeatTurn MachineState). HasTurned (seated k n s) words t n u line.Nothing) (sym turn)
+    (record { keeps = turned.turned k words t n s _ h g.power kept made.0 (copy_saves_none x words found.0 g.seat.slot found.0.copies); tells = sym made.1 })
+
+-- what it does tells its stage
+copies_stage : (s : Stage) (o : ObjId) (copied : ℕ) → doing.Copies o copied ≡ doing_in s → (w : Want) × (s ≡ stage.Copying o w copied)
+copies_stage stage.Blank o copied e = absurd (cc e)
+copies_stage stage.Running o copied e = absurd (cc e)
+copies_stage (stage.Fetching object want) o copied e = absurd (cc e)
+copies_stage (stage.Copying object want n) o copied e =
+    let object_is : o ≡ object = cc e in
+    let copied_is : copied ≡ n = cc e in
+    (want, ap₂ (λ (x : ObjId) (m : ℕ). stage.Copying x want m) (sym object_is) (sym copied_is))
+copies_stage (stage.Ready outcome) o copied e = absurd (cc e)
+
+-- all that is known of the core that copies so many words of an object
+pub record IsSource (k : Kernel) (n : ℕ) (g : IsAtStage k n IsCopying) (x : own.Seat) (o : ObjId) (copied : ℕ) : Type 0 where
+  pub want : Want
+  pub stage_is : g.seat.attempt.stage ≡ stage.Copying o want copied
+  pub facts : IsSourced k g.seat o.0 copied
+  pub same : x ≡ g.seat
+
+pub source_of : (k : Kernel) (words : Words) (t : Tables MachineState) (n m : ℕ) (x : own.Seat) (o : ObjId) (copied : ℕ) → Keeps k words t → IsLawful k words t → (g : IsAtStage k n IsCopying) → x ≡ get_or k.seats.items m x → m ≡ n → doing.Copies o copied ≡ doing_in x.attempt.stage → IsSource k n g x o copied
+source_of k words t n m x o copied h l g at number e =
+    let same = same_item k.seats.items m n x g.seat at number g.inside g.seat_is in
+    let found = copies_stage g.seat.attempt.stage o copied (e ∙ ap (λ (s : own.Seat). doing_in s.attempt.stage) same) in
+    record { want = found.0; stage_is = found.1; facts = sourced k words t n o found.0 copied h l g found.1; same = same }
+
+-- its word stands on the device
+pub source_low : (k : Kernel) (words : Words) (s : own.Seat) (o copied : ℕ) → IsSourced k s o copied → slot_place (layout_on (device_at k.set words)) k.set o s.slot + copied < need_on (device_at k.set words)
+source_low k words s o copied h = slot_place-high (layout_on (device_at k.set words)) k.set o s.slot copied h.object h.slot h.word

@@ -54,8 +54,9 @@ impl Kernel {
         ensures { (d : Device) → d.set ≡ self.now.set → IsLayoutOf d self.now.layout
             → result ≡ slot_on d object.0 slot word }
     {
-        // that the object and its slot are within the limits
+        // that the object and its slot are within the limits, and that each place is a word
         let _ = self.set.objects();
+        let _ = self.layout.need();
         self.layout.slot_at(object, slot) + u32::from(word)
     }
 }
