@@ -4,3 +4,4 @@ pub mod Starting
 pub mod Versions
 pub mod Advancing
 pub mod Sources
+pub mod Idle

@@ -3,6 +3,7 @@
 
 mod copying;
 mod kernel;
+mod open;
 mod running;
 mod start;
 
