@@ -5,3 +5,4 @@ pub mod Versions
 pub mod Advancing
 pub mod Sources
 pub mod Idle
+pub mod Begun

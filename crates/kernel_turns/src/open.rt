@@ -1,20 +1,32 @@
 //! A kernel takes all its memory, and begins on a device.
 
-ghost use Rattle.std.specs.Prelude.{◌≡◌, ◌≤◌, ℕ, IfOk};
+ghost use Rattle.std.specs.Prelude.{◌≡◌, ◌≤◌, ◌++◌, ℕ, IfOk, OnErr, OnOk, length};
+ghost use Rattle.nv_base.specs.Streams.{FaultCounted};
+ghost use Rattle.device_model.specs.Devices.{first_on, format_on, need_on};
+ghost use Rattle.shadow_index.specs.Tells.{device_of};
+ghost use Rattle.recovery.specs.Images.{words_of};
 ghost use Rattle.device_model.specs.IndexWords.{Index};
 ghost use Rattle.table_machine.specs.Tables.{Vacant};
 ghost use Rattle.vol_copy.specs.Tries.{IsFor};
 ghost use Rattle.core_seats.specs.Holding.{StandsFor};
-ghost use Rattle.kernel_turns.specs.Opening.{AreIdle, HasRoomFor};
+ghost use Rattle.kernel_turns.specs.Opening.{AreIdle, HasRoomFor, IsOpenedOn};
 
 use crate::kernel::{Kernel, Power};
 use commit_writer::Writer;
 use committed_state::Committed;
 use core_seats::Seat;
+use device_format::format;
+use device_format::laws::whole_format_holds_first;
+use fram_dev::{Fram, Lost};
 use nv_base::NoMemory;
 use nv_base::limits::MAX_EVENTS;
+use recovery::laws::words_hold_one_state;
+use recovery::read_state;
+use rv_core::Machine;
 use shadow_index::Layout;
 use std::alloc::Global;
+use table_machine::events::{device_is_setting, opened_tables_represent};
+use task_model::laws::tasks_are_a_machine;
 use task_set::TaskSet;
 
 impl Kernel {
@@ -41,6 +53,34 @@ impl Kernel {
             room,
             lost: false,
         })
+    }
+
+    /// Formats the device, and begins on it with power on. `Lost` where the device lost a call.
+    pub(crate) fn begin_fresh<F: Fram>(&mut self, dev: &mut F) -> Result<(), Lost>
+        requires room { (room : ℕ) × (room ≤ MAX_EVENTS) × HasRoomFor self.old.set room self.old }
+        requires long { need_on (device_of self.old.set 0) ≤ length (F.start dev.old) }
+        ensures opened { let words = words_of (F.log dev.new) (F.start dev.new) in
+            OnOk result (IsOpenedOn self.new words (first_on (device_of self.old.set 0))) }
+        ensures set { self.new.set ≡ self.old.set }
+        ensures written { OnOk result
+            (F.log dev.new ≡ F.log dev.old ++ format_on (device_of self.old.set 0)) }
+        ensures start { F.start dev.new ≡ F.start dev.old }
+        ensures failed { OnErr result (FaultCounted (F.lost dev.old) (F.lost dev.new)) }
+        ensures never_falls { F.lost dev.old ≤ F.lost dev.new }
+    {
+        whole_format_holds_first();
+        words_hold_one_state();
+        let Ok(()) = format(dev, &self.set) else {
+            return Err(Lost);
+        };
+        let Ok(()) = read_state(dev, &self.set, &mut self.committed.after) else {
+            return Err(Lost);
+        };
+        self.committed.reopen();
+        opened_tables_represent::<Machine>();
+        device_is_setting::<Machine>();
+        tasks_are_a_machine();
+        Ok(())
     }
 }
 
