@@ -3,5 +3,6 @@
 
 mod kernel;
 mod start;
+mod verdict;
 
 pub use kernel::Kernel;
