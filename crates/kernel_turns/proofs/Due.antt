@@ -1,8 +1,8 @@
 -- What the law of events says of a commit that is about to begin: the device holds the state before it, and the commit may follow.
-use Rattle.std.proofs.Common.{◌≡◌, ℕ, zero, suc, ◌+◌, ◌<◌, ◌≤◌, Bool, true, false, List, [], ◌∷◌, set, get_or, length, Option, Some, None, refl, sym, ap, ap₂, ◌∙◌, subst, arith, get_or-set_same}
+use Rattle.std.proofs.Common.{◌≡◌, ℕ, zero, suc, ◌+◌, ◌<◌, ◌≤◌, false, List, [], ◌∷◌, set, get_or, length, Option, Some, refl, sym, ap, ap₂, ◌∙◌, subst, arith, get_or-set_same}
 use Rattle.std.specs.List.{list_any}
 use Rattle.rv_core.specs.State.{MachineState}
-use Rattle.kernel_model.specs.Cores.{Core, Idle, Running, Copying, Ready, Committing, all_but, commits, is_committing}
+use Rattle.kernel_model.specs.Cores.{Core, Idle, Running, Copying, Ready, Committing, all_but, is_committing}
 use Rattle.kernel_model.specs.Effects.{Outcome}
 use Rattle.kernel_model.specs.Events.{On, Boot, Power, State, CoreStep, event_step}
 use Rattle.kernel_model.specs.Items.{Entry, FinishRecord}
@@ -19,10 +19,9 @@ use Rattle.device_model.specs.Devices.{IsHeldOn}
 use Rattle.task_model.specs.TaskSteps.{task_steps}
 use Rattle.table_machine.specs.Tables.{Saves, Seat, Setting, Tables, Try, Vacant, Waits, world_in}
 use Rattle.table_machine.specs.Places.{index_after}
-use Rattle.table_machine.specs.Seats.{SeatTurn, commit_of, saves, seat_turn, still}
+use Rattle.table_machine.specs.Seats.{SeatTurn, commit_of, saves, still}
 use Rattle.table_machine.specs.Events.{Answer, joined, step_answer, table_step, written_by}
-use Rattle.table_machine.specs.Represents.{Agrees, Ghost, IsOnDevice, Represents, commit_in, held_of, index_of, seat_of, seats_by, seats_of, tables_of, tables_on}
-use Rattle.table_machine.specs.Simulates.{IsSetting, Simulates}
+use Rattle.table_machine.specs.Represents.{Agrees, Ghost, IsOnDevice, Represents, commit_in, held_of, index_of, seat_of, seats_of, tables_on}
 use Rattle.table_machine.proofs.Opened.{kind_setting}
 use Rattle.table_machine.proofs.SeatLists.{saves-same}
 use Rattle.table_machine.proofs.SeatLists as lists

@@ -1,7 +1,7 @@
 -- What the tables have of a finish that the program's verdict grants.
-use Rattle.std.proofs.Common.{◌≡◌, ℕ, zero, suc, ◌+◌, ◌-◌, ◌<◌, ◌≤◌, Bool, true, false, cond, leb, eqb, ◌||◌, List, [], ◌∷◌, ◌++◌, get_or, length, length-append, map, slice_index, Option, Some, None, refl, sym, ap, ap₂, ◌∙◌, subst, arith}
+use Rattle.std.proofs.Common.{◌≡◌, ℕ, ◌+◌, ◌-◌, ◌<◌, Bool, true, false, cond, leb, eqb, ◌||◌, List, [], ◌∷◌, get_or, length, map, slice_index, Option, Some, None, refl, sym, ap, ap₂, ◌∙◌, subst, arith}
 use Rattle.std.specs.Prelude.{is_some, unwrap_or}
-use Rattle.std.specs.List.{AllByRecursion, list_any}
+use Rattle.std.specs.List.{AllByRecursion}
 use Rattle.object_sets.specs.ObjectSets.{is_among}
 use Rattle.std.proofs.lemmas.Bool.{eqb-true}
 use Rattle.rv_core.specs.State.{MachineState}
@@ -12,7 +12,7 @@ use Rattle.kernel_model.specs.Intervals.{Interval, is_empty}
 use Rattle.kernel_model.specs.Items.{FinishRecord}
 use Rattle.kernel_model.specs.Bounds.{raised_by}
 use Rattle.kernel_model.specs.Sizes.{Sizes}
-use Rattle.kernel_model.specs.Verdicts.{Empty, Granted, Records, Verdict}
+use Rattle.kernel_model.specs.Verdicts.{Empty, Granted, Records}
 use Rattle.slot_model.specs.Tabled.{View, free_place, full_object, table_finish, table_room, table_verdict}
 use Rattle.slot_model.specs.Tabled as tabled
 use Rattle.set_model.specs.Views.{outcome_of}
@@ -24,22 +24,21 @@ use Rattle.shadow_index.specs.declared.state.State.{State}
 use Rattle.shadow_index.specs.States.{index_of}
 use Rattle.commit_writer.specs.Afters.{IsAfter, planned_slots}
 use Rattle.commit_writer.specs.Afters as afters
-use Rattle.table_machine.specs.Tables.{Saves, Seat, Tables, Try, Vacant, sizes_in}
+use Rattle.table_machine.specs.Tables.{Saves, Tables, sizes_in}
 use Rattle.table_machine.specs.Places.{index_after, places_at, plan_in, run_by, seen_in}
 use Rattle.table_machine.specs.Places as places
-use Rattle.table_machine.specs.Seats.{SeatTurn, answered, still, writes_in}
-use Rattle.ver_table.specs.Tabled.{all_tabled}
+use Rattle.table_machine.specs.Seats.{answered, still, writes_in}
 use Rattle.vol_copy.specs.Tries.{run_in}
 use Rattle.vol_copy.specs.declared.attempt.Stage.TheVariants as stage
-use Rattle.validate.specs.Answers.{IsPlanOf, IsPlanned, Seen}
+use Rattle.validate.specs.Answers.{IsPlanOf, IsPlanned}
 use Rattle.validate.specs.declared.verdict.Verdict.TheVariants as answer
 use Rattle.core_seats.specs.declared.seat.Seat as own
 use Rattle.core_seats.specs.Others.{saves_in}
 use Rattle.core_seats.proofs.Beside.{seats_but, views_all}
 use Rattle.kernel_turns.specs.Commits.{setting_on}
-use Rattle.kernel_turns.specs.Deciding.{IsVerdictOn, seen_by, verdict_at}
-use Rattle.kernel_turns.specs.Keeping.{IsLawful, IsOn, Keeps}
-use Rattle.kernel_turns.specs.Turns.{held_at, turn_at}
+use Rattle.kernel_turns.specs.Deciding.{IsVerdictOn, seen_by}
+use Rattle.kernel_turns.specs.Keeping.{IsLawful, Keeps}
+use Rattle.kernel_turns.specs.Turns.{turn_at}
 use Rattle.kernel_turns.specs.declared.kernel.Kernel.{Kernel}
 use Rattle.kernel_turns.proofs.AtStage.{on}
 use Rattle.kernel_turns.proofs.Due.{IsDue, due}
@@ -147,8 +146,8 @@ planned_same k words t n plan s h g d slots =
     slots_same (λ (j : ℕ). is_among j plan.written) plan.slots (plan_in sizes (all_but n t.seats) t.chains) d.finish.run.writes 0 slots
     (λ j. ap (is_among j) d.plan_is.written ∙ among_written d.finish.run.writes j)
     (λ j e.
-        let one = all_among (λ (j : ℕ). IsPlanned (seen_by k n) sizes j (slice_index plan.slots j)) plan.written j d.plan_is.slots e in
-        sym (ap₂ (λ vs chains. unwrap_or (free_place (sizes.slots j) j vs (places_at chains j)) 0) views o.chains ∙ ap (λ (slot : Option ℕ). unwrap_or slot 0) one.free))
+    let one = all_among (λ (j : ℕ). IsPlanned (seen_by k n) sizes j (slice_index plan.slots j)) plan.written j d.plan_is.slots e in
+    sym (ap₂ (λ vs chains. unwrap_or (free_place (sizes.slots j) j vs (places_at chains j)) 0) views o.chains ∙ ap (λ (slot : Option ℕ). unwrap_or slot 0) one.free))
 
 -- so the state after it has the tables' index
 pub after_is : (k : Kernel) (words : Words) (t : Tables MachineState) (n : ℕ) (plan : Plan) (s : own.Seat) (new : State) → Keeps k words t → IsReady k n → (d : IsGrantedAt k words t n plan s) → IsAfter plan k.committed.state d.finish new → index_of new ≡ after_at k words t n d.finish

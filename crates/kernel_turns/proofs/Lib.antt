@@ -5,3 +5,5 @@ pub mod Waiting
 pub mod Verdicts
 pub mod Due
 pub mod Granted
+pub mod Beginning
+pub mod Begun

@@ -1,33 +1,26 @@
 -- The verdict that the program reaches is that of the tables.
-use Rattle.std.proofs.Common.{◌≡◌, ℕ, zero, suc, ◌+◌, ◌<◌, ◌≤◌, List, [], ◌∷◌, get_or, length, map, take, Option, Some, None, refl, sym, ap, ap₂, ◌∙◌, subst, arith}
+use Rattle.std.proofs.Common.{◌≡◌, ℕ, zero, suc, ◌+◌, ◌<◌, ◌≤◌, List, [], ◌∷◌, get_or, length, map, Option, Some, None, sym, ap, ap₂, ◌∙◌, subst, arith}
 use Rattle.std.proofs.lemmas.List.{length-map}
 use Rattle.rv_core.specs.State.{MachineState}
 use Rattle.nv_base.specs.declared.limits.TheConstants.{MAX_CORES}
 use Rattle.kernel_model.specs.Cores.{all_but}
 use Rattle.kernel_model.specs.Effects.{Outcome}
-use Rattle.kernel_model.specs.Intervals.{Interval}
-use Rattle.kernel_model.specs.Sizes.{Sizes}
-use Rattle.interval.specs.Ranges.{range_of}
 use Rattle.slot_model.specs.Tabled as tabled
 use Rattle.slot_model.specs.Tabled.{View, table_verdict, with_view}
-use Rattle.set_model.specs.Sets.{ObjPart, TaskSet, object_at}
+use Rattle.set_model.specs.Sets.{ObjPart}
 use Rattle.set_model.specs.Views.{outcome_of}
 use Rattle.device_model.specs.Words.{Words}
-use Rattle.device_model.specs.IndexWords.{Index}
 use Rattle.shadow_index.specs.States.{index_of}
 use Rattle.task_queue.specs.Queues.{Queued}
-use Rattle.table_machine.specs.Tables.{Chain, Seat, Try, Vacant, Waits, Tables, sizes_in}
+use Rattle.table_machine.specs.Tables.{Try, Tables, sizes_in}
 use Rattle.table_machine.specs.Places.{run_by, seen_in}
-use Rattle.table_machine.specs.Places as places
 use Rattle.ver_table.specs.Chains as own
-use Rattle.vol_copy.specs.Tries.{IsEndedTry}
-use Rattle.validate.specs.Answers.{AreForOne, AreSizes, IsAnswer, IsVerdict, Seen, tables_in}
+use Rattle.validate.specs.Answers.{AreSizes, IsAnswer, IsVerdict, tables_in}
 use Rattle.validate.specs.Views.{view_of}
 use Rattle.validate.specs.declared.beside.View as beside
 use Rattle.validate.specs.declared.verdict.Verdict.{Verdict}
 use Rattle.core_seats.specs.declared.seat.Seat as seat
-use Rattle.core_seats.specs.declared.seat.Saving.{Saving}
-use Rattle.core_seats.specs.Others.{view_by, view_in, views_in}
+use Rattle.core_seats.specs.Others.{view_in, views_in}
 use Rattle.core_seats.proofs.Beside.{seats_but, views_all}
 use Rattle.kernel_turns.specs.Commits.{setting_on}
 use Rattle.kernel_turns.specs.Deciding.{IsVerdictOn, seen_by, verdict_at}
@@ -96,8 +89,8 @@ is_verdict k n s others v g at views answer = λ words t h a outcome held.
     let e = ended_at k words t n h g in
     let same = same_try a e.of outcome (outcome_of e.outcome) (held_at t n) held e.held in
     let moved : IsAnswer (seen_by k n) g.seat.attempt g.seat.reads v =
-        subst (λ (x : seat.Seat). IsAnswer (seen_by k n) x.attempt x.reads v) (same_item k.seats.items n s g.seat g.inside at g.seat_is)
-        (subst (λ (vs : List View). IsAnswer (record (seen_by k n) { others = vs }) s.attempt s.reads v) views answer) in
+    subst (λ (x : seat.Seat). IsAnswer (seen_by k n) x.attempt x.reads v) (same_item k.seats.items n s g.seat g.inside at g.seat_is)
+    (subst (λ (vs : List View). IsAnswer (record (seen_by k n) { others = vs }) s.attempt s.reads v) views answer) in
     let told = moved e.outcome e.of (sizes_in (setting_on k.set words)) e.ready e.ended e.reads (are_sizes k words t n h) in
     subst (IsVerdict (seen_by k n) (sizes_in (setting_on k.set words)) v)
     (sym (verdict_is k words t n e.of (outcome_of e.outcome) h g) ∙ ap₂ (λ (b : Try MachineState) (p : Outcome). verdict_at k words t n b p) (sym same.0) (sym same.1)) told

@@ -1,5 +1,5 @@
 -- A try that waits for a verdict: it waits on while another finish commits, or it is given up.
-use Rattle.std.proofs.Common.{◌≡◌, ℕ, zero, suc, ◌<◌, Bool, true, false, cond, List, [], ◌∷◌, set, get_or, length, refl, sym, ap, ◌∙◌, subst, arith}
+use Rattle.std.proofs.Common.{◌≡◌, ℕ, zero, suc, ◌<◌, Bool, true, false, cond, List, [], ◌∷◌, get_or, length, refl, sym, ap, ◌∙◌, subst, arith}
 use Rattle.std.specs.List.{list_any}
 use Rattle.rv_core.specs.State.{MachineState}
 use Rattle.nv_base.specs.declared.ids.CoreId.{CoreId}
@@ -25,12 +25,12 @@ use Rattle.vol_copy.specs.Tries.{IsEndedTry, IsFor, IsSeatAt}
 use Rattle.vol_copy.specs.declared.attempt.Stage.{Stage}
 use Rattle.vol_copy.specs.declared.attempt.Stage.TheVariants as stage
 use Rattle.core_seats.specs.declared.seat.Seat as own
-use Rattle.core_seats.specs.Holding.{AreSeats, StandsFor}
+use Rattle.core_seats.specs.Holding.{StandsFor}
 use Rattle.core_seats.specs.Others.{saves_in}
 use Rattle.core_seats.proofs.Beside.{any_but, saves_all}
 use Rattle.kernel_turns.specs.Commits.{setting_on}
 use Rattle.kernel_turns.specs.Deciding.{GivesUp, IsVerdictOn, verdict_at}
-use Rattle.kernel_turns.specs.Keeping.{IsLawful, Keeps}
+use Rattle.kernel_turns.specs.Keeping.{Keeps}
 use Rattle.kernel_turns.specs.Turns.{HasTurned, IsAtStage, SeatTurns, held_at, turn_at}
 use Rattle.kernel_turns.specs.declared.kernel.Kernel.{Kernel}
 use Rattle.kernel_turns.proofs.Turned.{seated, turned}
@@ -92,8 +92,7 @@ same_item (z ∷ xs) (suc n) x y l e f = same_item xs n x y (omega (arith, l)) e
 pub gives_up : (k : Kernel) (n : ℕ) (s new : own.Seat) (task : ℕ) → (g : IsReady k n) → s ≡ get_or k.seats.items n s → (IsFor k.set s.attempt → IsFor k.set new.attempt) → ((after : Index) → StandsFor new after Vacant) → task ≡ s.attempt.task.0 → GivesUp k n (seated k n new) task
 unfolding GivesUp
 gives_up k n s new task g at kept stands is = λ words t h.
-    let same : s ≡ g.seat = same_item k.seats.items n s g.seat g.inside at g.seat_is in
-    (
+    let same : s ≡ g.seat = same_item k.seats.items n s g.seat g.inside at g.seat_is in (
       turned k words t n new Vacant h g.power (kept (subst (λ (x : own.Seat). IsFor k.set x.attempt) (sym same) (kept_at k words t n _ h g))) (stands (index_of k.committed.after)) (λ i after left e. cc e),
       λ a o e.
           let end = ended_at k words t n h g in
@@ -104,7 +103,7 @@ gives_up k n s new task g at kept stands is = λ words t h.
 -- and tells why
 pub refuses : (k new : Kernel) (n task : ℕ) (line : Line) → IsReady k n → saves_in k.seats.items ≡ false → GivesUp k n new task
     → ((words : Words) (t : Tables MachineState) → Keeps k words t → (a : Try MachineState) (o : Outcome) → held_at t n ≡ Waits a o → a.task ≡ task
-        → answered (setting_on k.set words) t (all_but n t.seats) n a.task (verdict_at k words t n a o) ≡ record { seat = Vacant; line = line_of line })
+    → answered (setting_on k.set words) t (all_but n t.seats) n a.task (verdict_at k words t n a o) ≡ record { seat = Vacant; line = line_of line })
     → SeatTurns k n new line
 unfolding SeatTurns GivesUp
 refuses k new n task line g alone gives tells = λ words t h lawful.

@@ -1,4 +1,4 @@
-use Rattle.std.proofs.Common.{◌≡◌, ℕ, sym, ap, ◌∙◌, subst}
+use Rattle.std.proofs.Common.{sym, ap, ◌∙◌}
 use Rattle.core_seats.specs.Others.{saves_in}
 use Rattle.kernel_turns.proofs.Waiting.{refuses_empty, refuses_records, refuses_slots, waits_on}
 use Rattle.kernel_turns.proofs.kernel.Kernel.decide.Goals as goal

@@ -1,4 +1,4 @@
-use Rattle.std.proofs.Common.{◌≡◌, ℕ, get_or, sym, ap, ◌∙◌, subst}
+use Rattle.std.proofs.Common.{◌≡◌, ℕ, get_or, sym, ap, subst}
 use Rattle.core_seats.specs.declared.seat.Seat.{Seat}
 use Rattle.kernel_turns.specs.Deciding.{GivesUp}
 use Rattle.kernel_turns.proofs.Turned.{seated}

@@ -1,8 +1,7 @@
-use Rattle.std.proofs.Common.{◌≡◌, ℕ, List, get_or, length, map, take, sym, ap, ap₂, ◌∙◌, subst}
+use Rattle.std.proofs.Common.{◌≡◌, ℕ, List, get_or, ap₂, ◌∙◌, subst}
 use Rattle.kernel_model.specs.Cores.{all_but}
 use Rattle.core_seats.specs.declared.seat.Seat.{Seat}
 use Rattle.core_seats.specs.Others.{views_in}
-use Rattle.validate.specs.Views.{view_of}
 use Rattle.kernel_turns.proofs.Verdicts.{few_others, is_verdict}
 use Rattle.kernel_turns.proofs.kernel.Kernel.verdict_on.Goals as goal
 
