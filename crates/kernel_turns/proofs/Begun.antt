@@ -1,211 +1,197 @@
--- A kernel that begins on a device whose words hold a state.
-use Rattle.std.proofs.Common.{◌≡◌, ◌⊎◌, inl, inr, ℕ, zero, suc, ◌+◌, ◌*◌, ◌<◌, ◌≤◌, ◌++◌, Bool, true, false, nat_eq, List, [], get_or, length, map, replicate, slice_index, Option, None, refl, sym, ap, ◌∙◌, subst, arith}
-use Rattle.std.specs.Prelude.{vec_capacity}
-use Rattle.std.specs.List.{AllByRecursion}
+-- The commit of a finish has begun, and the kernel stands for the tables in which the core saves it.
+use Rattle.std.proofs.Common.{◌≡◌, ℕ, zero, suc, ◌+◌, ◌<◌, Bool, true, false, nat_eq, ◌||◌, List, [], ◌∷◌, set, get_or, length, Option, Some, None, refl, sym, ap, ◌∙◌, subst, arith, get_or-set_other, get_or-set_same}
+use Rattle.std.specs.Prelude.{is_some}
+use Rattle.std.specs.List.{list_any}
 use Rattle.std.proofs.lemmas.Bool.{eqb-false, eqb-true}
-use Rattle.fram_dev.specs.Device.{Change, made_in}
-use Rattle.nv_base.specs.Streams.{FaultCounted}
-use Rattle.kernel_model.specs.Items.{FinishRecord}
+use Rattle.std.proofs.lemmas.List.{length-set}
 use Rattle.rv_core.specs.State.{MachineState}
-use Rattle.nv_base.specs.declared.lines.Entry as base
-use Rattle.kernel_model.specs.Items.{Entry}
-use Rattle.kernel_model.specs.Replay.{max_id}
-use Rattle.kernel_model.specs.Events.{Power, On, opened}
-use Rattle.kernel_model.specs.Fit.{HasIds, IsMachine}
-use Rattle.set_model.specs.Sets.{TaskSet}
-use Rattle.set_model.specs.Limits.{IsTaskSet}
-use Rattle.set_model.specs.Numbers.{sizes_of}
-use Rattle.set_model.specs.Views.{entry_if, entry_of}
+use Rattle.nv_base.specs.declared.ids.TaskId.{TaskId}
+use Rattle.nv_base.specs.declared.lines.Line.TheVariants as line
+use Rattle.nv_base.specs.declared.lines.Spawn.{Spawn}
+use Rattle.kernel_model.specs.Cores.{all_but}
+use Rattle.kernel_model.specs.Items.{Entry, FinishRecord}
 use Rattle.device_model.specs.Words.{Words}
-use Rattle.device_model.specs.Layouts.{IsKindOf, Kind, Plain, Paged, kind_named, layout_of, magic_of}
-use Rattle.device_model.specs.IndexWords.{Index, IsIndex, base_of}
+use Rattle.device_model.specs.IndexWords.{Index}
 use Rattle.device_model.specs.Decoding.{Held}
-use Rattle.device_model.specs.Decoding as stored
-use Rattle.device_model.specs.Counting.{sizes_on}
-use Rattle.device_model.specs.Keeping.{KeepsIn}
-use Rattle.device_model.specs.Devices.{Device, HoldsOn, IsKindOn, first_on, format_on, held_on, layout_on, need_on}
-use Rattle.device_model.proofs.ForCallers.{decodes_keeps, laid_out_set}
-use Rattle.shadow_index.specs.States.{index_of}
-use Rattle.shadow_index.specs.Tells.{IsLayoutOf, IsShift, device_of, kind_by}
-use Rattle.shadow_index.specs.Views.{first_kind}
-use Rattle.recovery.specs.Images.{IsOwn, IsStateOn, device_at, kind_or, words_of}
-use Rattle.recovery.specs.Reading.{IsRead, IsRefused}
-use Rattle.recovery.specs.declared.refusals.BootRefusal.{BootRefusal}
-use Rattle.recovery.specs.declared.refusals.BootRefusal.TheVariants as refusal
+use Rattle.device_model.specs.Commits.{Commit}
+use Rattle.device_model.specs.Devices.{Device, layout_on}
+use Rattle.shadow_index.specs.declared.plan.Plan.{Plan}
 use Rattle.shadow_index.specs.declared.state.State.{State}
-use Rattle.commit_writer.specs.Rooms.{IsFor as HasTables}
-use Rattle.table_machine.specs.Tables.{Seat, Vacant, Saves, Setting, Tables, sizes_in}
-use Rattle.table_machine.specs.Events.{reopened}
-use Rattle.table_machine.specs.Represents.{Represents}
-use Rattle.table_machine.specs.Simulates.{IsSetting, opened_tables}
-use Rattle.task_model.specs.TaskSteps.{task_steps}
-use Rattle.committed_state.specs.Committed.{HasRooms, IsCommitted, chains_in}
-use Rattle.core_seats.specs.Holding.{AreSeats}
-use Rattle.kernel_turns.specs.Commits.{setting_on}
-use Rattle.kernel_turns.specs.Keeping.{IsLawful, IsOn, IsPowered, Keeps}
-use Rattle.kernel_turns.specs.Opening.{AreIdle, IsIdle, IsOpenedOn}
+use Rattle.shadow_index.specs.States.{HasRoom, index_of}
+use Rattle.commit_writer.specs.Afters.{IsAfter, IsGranted}
+use Rattle.commit_writer.specs.Courses.{Course}
+use Rattle.commit_writer.specs.Rooms.{IsFor as HasTables, IsTold, course_of}
+use Rattle.commit_writer.specs.Turns.{IsWriting}
+use Rattle.commit_writer.specs.declared.writer.Writer.{Writer}
+use Rattle.table_machine.specs.Tables.{Copies, Runs, Saves, Seat, Tables, Vacant, Waits}
+use Rattle.table_machine.specs.Seats.{SeatTurn, commit_of, held_in, saves}
+use Rattle.recovery.specs.Images.{device_at}
+use Rattle.vol_copy.specs.Tries.{IsFor}
+use Rattle.vol_copy.specs.declared.attempt.Attempt.{Attempt}
+use Rattle.validate.specs.declared.verdict.Verdict.TheVariants as answer
+use Rattle.core_seats.specs.declared.seat.Seat as own
+use Rattle.core_seats.specs.declared.seat.Saving.{Saving}
+use Rattle.core_seats.specs.Holding.{AreSeats, StandsFor, StandsForBy}
+use Rattle.core_seats.specs.Others.{saves_in}
+use Rattle.core_seats.specs.Steps.{Grants}
+use Rattle.kernel_turns.specs.Commits.{IsCommitting, course_by, is_written_by, setting_on, words_by}
+use Rattle.kernel_turns.specs.Deciding.{IsVerdictOn}
+use Rattle.kernel_turns.specs.Keeping.{IsOn, IsPowered, IsSeatNumber, Keeps}
+use Rattle.kernel_turns.specs.Turns.{HasTurned, SeatTurns}
 use Rattle.kernel_turns.specs.declared.kernel.Kernel.{Kernel}
-use Rattle.kernel_turns.specs.declared.kernel.Power as own
-use Rattle.kernel_turns.specs.declared.kernel.Power.TheVariants as power
-use Rattle.kernel_turns.proofs.Idle.{idle_kept, vacant_seats}
+use Rattle.kernel_turns.proofs.AtStage.{on}
+use Rattle.kernel_turns.proofs.Beginning.{granted_is, is_told, kept_seat, same_writes, some_writes}
+use Rattle.kernel_turns.proofs.Granted.{IsGrantedAt, after_at, granted_at, writes_at}
+use Rattle.kernel_turns.proofs.Turned.{all_set, seated, seated_tables, seats_length, seats_set}
+use Rattle.kernel_turns.proofs.Waiting.{IsReady, others_save}
 
--- words of the device that a format writes are not those of format 1 for a set of format 2
-pub own_of : (set : TaskSet) (words : Words) → device_at set words ≡ device_of set 0 → IsOwn set words
-own_of set words e = λ f g.
-    let kind : kind_or (first_kind set.format) (kind_named set.format (words 0)) ≡ kind_by set.format 0 = ap (λ (d : Device). d.kind) e in
-    let plain : kind_or (first_kind set.format) (kind_named set.format (words 0)) ≡ Plain = ap (λ (w : ℕ). kind_or (first_kind set.format) (kind_named set.format w)) g in
-    let paged : kind_by set.format 0 ≡ Paged = ap (λ (n : ℕ). kind_by n 0) f in
-    cc (sym plain ∙ kind ∙ paged)
+-- ---- cores of which none saves a finish
 
--- words that hold a state keep it
-pub kept_on : (d : Device) (h : Held) (words : Words) → IsTaskSet d.set → HoldsOn d h words → KeepsIn d.set (layout_on d) h words
-kept_on d h words t e = decodes_keeps d.set.format d.kind d.set h words (λ k. laid_out_set k d.set t) e
-
--- the machine of the tasks, with the numbers of the set on a device
-pub machine_on : (set : TaskSet) (d : Device) → IsMachine (task_steps set) (sizes_of set) → IsMachine (task_steps set) (sizes_on (layout_on d) set)
-machine_on set d m = record { went = m.went; reads = m.reads; given = m.given; rewrites = m.rewrites; wrote = λ a b w e. ((m.wrote a b w e).0, record { object = (m.wrote a b w e).1.object; words = (m.wrote a b w e).1.words }); spawns = m.spawns; spawned = m.spawned; ends = m.ends }
-
--- what a kernel is once it has read a state
-pub record HasBegun (k : Kernel) (words : Words) (h : Held) : Type 0 where
-  pub limits : IsTaskSet k.set
-  pub own : IsOwn k.set words
-  pub kind : IsKindOf k.set.format (device_at k.set words).kind
-  pub holds : HoldsOn (device_at k.set words) h words
-  pub layout : IsLayoutOf (device_at k.set words) k.layout
-  pub seats : AreIdle k.set k.set.cores k.seats.items
-  pub rooms : HasRooms k.set k.committed
-  pub committed : IsCommitted k.set k.committed
-  pub chains : chains_in k.committed ≡ reopened k.set h.index
-  pub state : IsStateOn (device_at k.set words) h k.committed.state
-  pub shift : IsShift k.set k.committed.state.shift
-  pub device : device_of k.set k.committed.state.shift ≡ device_at k.set words
-  pub writer : HasTables k.set k.writer.job
-  pub owed : k.owed ≡ None
-  pub listing : k.listing.items ≡ []
-  pub power : k.power ≡ power.On
-  pub capacity : k.room ≤ vec_capacity k.listing
-  pub few : k.room ≤ 1000000
-  pub next : h.index.next ≤ 4000000000
-  pub number : h.index.number ≤ 4000000000
-
--- the tables of the state
-abbrev pub begun_tables : Kernel → Words → Held → Tables MachineState
-begun_tables k words h = opened_tables (setting_on k.set words) h k.set.cores On
-
--- no seat of them saves a finish
-abbrev no_task : Seat MachineState
-no_task = Vacant
-
-vacant_at : (count n : ℕ) → get_or (replicate count no_task) n no_task ≡ no_task
-vacant_at zero n = refl
-vacant_at (suc count) zero = refl
-vacant_at (suc count) (suc n) = vacant_at count n
-
-on_now : (k : Kernel) (words : Words) (h : Held) → HasBegun k words h → IsOn k words (begun_tables k words h)
-on_now k words h b = record {
-  power = refl;
-  boots = sym b.state.boots;
-  index = sym b.state.index;
-  root = sym b.state.root;
-  chains = sym b.chains;
-  committed = b.committed;
-  shift = b.shift;
-  device = b.device;
-  commits = λ n s i after left number e. absurd (let none : no_task ≡ Saves i after left = sym (vacant_at k.set.cores n) ∙ e in cc none);
-}
-
-pub begun_keeps : (k : Kernel) (words : Words) (h : Held) → HasBegun k words h → Keeps k words (begun_tables k words h)
-begun_keeps k words h b = record {
-  limits = b.limits;
-  cores = b.seats.number;
-  few = let n = b.seats.number in omega (arith, n, b.limits.cores);
-  attempts = idle_kept k.set k.seats.items b.seats.all;
-  own = b.own;
-  layout = b.layout;
-  rooms = b.rooms;
-  writer = b.writer;
-  seats = subst (λ (n : ℕ). AreSeats k.seats.items (index_of k.committed.after) (replicate n Vacant)) b.seats.number (vacant_seats k.set k.seats.items (index_of k.committed.after) b.seats.all);
-  owed = sym (ap entry_if b.owed);
-  entries = sym (ap (map entry_of) b.listing);
-  capacity = b.capacity;
-  powered = subst (IsPowered k words (begun_tables k words h)) (sym b.power) (on_now k words h b);
-}
-
--- the laws of the table machine
-abbrev pub OpenedLaw : Type 0
-OpenedLaw = (x : Setting MachineState) (h : Held) (words : Words) (cores : ℕ) (p : Power) → IsSetting x → IsMachine x.steps (sizes_in x) → KeepsIn x.set x.layout h words → h.index.next ≤ max_id
-    → Represents x (base_of h.index h.objects) h.index.last (opened_tables x h cores p) words (opened cores p h.boots)
-
-pub begun_lawful : (k : Kernel) (words : Words) (h : Held) → OpenedLaw → IsSetting (setting_on k.set words) → IsMachine (task_steps k.set) (sizes_of k.set) → HasBegun k words h → IsLawful k words (begun_tables k words h)
-begun_lawful k words h law setting machine b = record {
-  base = base_of h.index h.objects;
-  last = h.index.last;
-  state = opened k.set.cores On h.boots;
-  represented = law (setting_on k.set words) h words k.set.cores On setting (machine_on k.set (device_at k.set words) machine) (kept_on (device_at k.set words) h words b.limits b.holds) (omega (arith, b.next));
-  kind = b.kind;
-  ids = omega (arith, b.next, b.few);
-  numbers = omega (arith, b.number, b.few);
-  room = omega arith;
-}
-
-pub begun : (k : Kernel) (words : Words) (h : Held) → OpenedLaw → IsSetting (setting_on k.set words) → IsMachine (task_steps k.set) (sizes_of k.set) → HasBegun k words h → IsOpenedOn k words h
-begun k words h law setting machine b = record { keeps = begun_keeps k words h b; lawful = begun_lawful k words h law setting machine b }
-
--- ---- after a format
-
--- the first kind of a device is one of its format
-pub first_kind_of : (format : ℕ) → (1 ≤ format) × (format ≤ 2) → IsKindOf format (kind_by format 0)
-first_kind_of format h = at (nat_eq format 1) refl
+-- they stand for the same seats, whatever index a finish would lead to
+seats_stay : (seats : List own.Seat) (before after : Index) (held : List (Seat MachineState)) → AreSeats seats before held → saves_in seats ≡ false → AreSeats seats after held
+seats_stay [] before after [] h e = tt
+seats_stay [] before after (t ∷ held) h e = absurd h
+seats_stay (s ∷ seats) before after [] h e = absurd h
+seats_stay (s ∷ seats) before after (t ∷ held) h e = let one = at s.saving e h.0 in (one.0, seats_stay seats before after held h.1 one.1)
   where
-    at : (b : Bool) → nat_eq format 1 ≡ b → IsKindOf format (kind_by format 0)
-    at true e = subst (λ (f : ℕ). IsKindOf f (kind_by f 0)) (sym (eqb-true format 1 e)) refl
-    at false e = let ne = eqb-false format 1 e in let two : 2 ≡ format = omega (arith, h.0, h.1, ne) in subst (λ (f : ℕ). IsKindOf f (kind_by f 0)) two refl
+    at : (v : Option Saving) → (is_some v || saves_in seats) ≡ false → StandsForBy s before v t → StandsForBy s after v t × (saves_in seats ≡ false)
+    at None e h = (h, e)
+    at (Some v) e h = absurd (cc e)
 
--- the laws of a format, and of words that hold a state
-abbrev pub FormatLaw : Type 0
-FormatLaw = (d : Device) (start : List ℕ) (old : List Change) → IsTaskSet d.set → IsKindOn d → need_on d ≤ length start → HoldsOn d (first_on d) (slice_index (made_in (old ++ format_on d) start))
+both_false : (a b : Bool) → (a || b) ≡ false → (a ≡ false) × (b ≡ false)
+both_false true b e = absurd (cc e)
+both_false false b e = (refl, e)
 
-abbrev pub OneLaw : Type 0
-OneLaw = (d : Device) (g h : Held) (words : Words) → HoldsOn d g words → HoldsOn d h words → g ≡ h
+none_of : (held : List (Seat MachineState)) (m : ℕ) → list_any saves held ≡ false → saves (get_or held m Vacant) ≡ false
+none_of [] m e = refl
+none_of (t ∷ held) zero e = (both_false (saves t) (list_any saves held) e).0
+none_of (t ∷ held) (suc m) e = none_of held m (both_false (saves t) (list_any saves held) e).1
 
-abbrev pub DeviceLaw : Type 0
-DeviceLaw = (d : Device) (h : Held) (words : Words) → HoldsOn d h words → device_at d.set words ≡ d
+none_saves : (held : List (Seat MachineState)) (n m : ℕ) → list_any saves (all_but n held) ≡ false → (m ≡ n → ⊥) → saves (get_or held m Vacant) ≡ false
+none_saves [] n m e ne = refl
+none_saves (t ∷ held) zero zero e ne = absurd (ne refl)
+none_saves (t ∷ held) zero (suc m) e ne = none_of held m e
+none_saves (t ∷ held) (suc n) zero e ne = (both_false (saves t) (list_any saves (all_but n held)) e).0
+none_saves (t ∷ held) (suc n) (suc m) e ne = none_saves held n m (both_false (saves t) (list_any saves (all_but n held)) e).1 (λ same. ne (ap suc same))
 
--- what stands on the device then
-pub record IsFormatted (set : TaskSet) (words : Words) (len : ℕ) : Type 0 where
-  pub holds : HoldsOn (device_of set 0) (first_on (device_of set 0)) words
-  pub device : device_at set words ≡ device_of set 0
-  pub long : need_on (device_of set 0) ≤ len
+-- ---- the kernel in which the commit has begun
 
-pub formatted : (set : TaskSet) (start same : List ℕ) (old log : List Change) → FormatLaw → DeviceLaw → IsTaskSet set → need_on (device_of set 0) ≤ length start → same ≡ start → log ≡ old ++ format_on (device_of set 0) → IsFormatted set (words_of log same) (length same)
-formatted set start same old log law one t long e f =
-    let d = device_of set 0 in
-    let holds = subst (λ (xs : List ℕ). HoldsOn d (first_on d) (words_of log xs)) (sym e) (subst (λ (l : List Change). HoldsOn d (first_on d) (words_of l start)) (sym f) (law d start old t (first_kind_of set.format t.format) long)) in
-    record { holds = holds; device = one d (first_on d) (words_of log same) holds; long = subst (λ (xs : List ℕ). need_on d ≤ length xs) (sym e) long }
+abbrev pub begun : Kernel → ℕ → own.Seat → State → Writer → Kernel
+begun k n s after w = record (seated k n s) { committed = record k.committed { after = after }; writer = w }
 
--- what is read there is the first state
-pub read_first : (set : TaskSet) (words : Words) (len : ℕ) (into : State) → OneLaw → IsFormatted set words len → IsRead set words into → IsStateOn (device_at set words) (first_on (device_of set 0)) into
-read_first set words len into one f r =
-    let d = device_of set 0 in
-    let holds = subst (λ (e : Device). HoldsOn e (first_on d) words) (sym f.device) f.holds in
-    subst (λ (h : Held). IsStateOn (device_at set words) h into) (one (device_at set words) (held_on (device_at set words) words) (first_on d) words r.held holds) r.state
+-- the writer has all writes of the commit before it
+writes_all : (k : Kernel) (words : Words) (t : Tables MachineState) (n : ℕ) (plan : Plan) (s new : own.Seat) (after : State) (w : Writer) → Keeps k words t → IsReady k n → (d : IsGrantedAt k words t n plan s)
+    → new.attempt ≡ s.attempt → index_of after ≡ after_at k words t n d.finish
+    → IsWriting k.set (course_of k.set k.committed.state.shift d.due.held (commit_of d.finish (after_at k words t n d.finish))) (is_written_by s) (words_by s) 0 w
+    → IsCommitting k.set words (record k.committed { after = after }) w new t d.finish (after_at k words t n d.finish) (writes_at k words t n d.finish)
+writes_all k words t n plan s new after w h g d same is writing =
+    let o = on k words t h g.power in
+    let next = after_at k words t n d.finish in
+    let c = commit_of d.finish next in
+    let x = setting_on k.set words in
+    let on_device = subst (λ (y : Device). IsWriting k.set (let course : Course = record { device = y; held = d.due.held; commit = c } in course) (is_written_by s) (words_by s) 0 w) o.device writing in
+    let of_new = subst (λ (a : Attempt). IsWriting k.set (course_by (device_at k.set words) d.due.held d.finish next) (is_written_by (record s { attempt = a })) (words_by (record s { attempt = a })) 0 w) (sym same) on_device in
+    record {
+      held = d.due.held;
+      index = d.due.index ∙ o.index;
+      root = d.due.root ∙ o.root;
+      after_is = sym is;
+      begun = of_new.begun;
+      writes = same_writes (layout_on (device_at k.set words)) k.set d.due.held (held_in t) c d.due.index d.due.root;
+      writing = λ some. (0, (let z : 0 + writes_at k words t n d.finish ≡ writes_at k words t n d.finish = omega arith in z), of_new);
+    }
 
--- it is an index that a device may have
-pub read_index_fits : (set : TaskSet) (words : Words) (len : ℕ) (into : State) → OneLaw → IsTaskSet set → IsFormatted set words len → IsRead set words into → IsIndex set (index_of into)
-read_index_fits set words len into one t f r =
-    let d = device_of set 0 in
-    subst (IsIndex set) (sym (read_first set words len into one f r).index) (kept_on d (first_on d) words t f.holds).held.index
+-- what a seat's finish that commits needs, if it saves one
+abbrev IsCommittingBy : Kernel → Words → Tables MachineState → own.Seat → Seat MachineState → Type 0
+IsCommittingBy k words t s Vacant = Unit {0}
+IsCommittingBy k words t s (Runs a) = Unit {0}
+IsCommittingBy k words t s (Copies a slot) = Unit {0}
+IsCommittingBy k words t s (Waits a o) = Unit {0}
+IsCommittingBy k words t s (Saves i after left) = IsCommitting k.set words k.committed k.writer s t i after left
 
--- so nothing is refused but for a call that is lost
-pub lost_read : (set : TaskSet) (words : Words) (len old new : ℕ) (e : BootRefusal) → IsFormatted set words len → IsRefused set words old new e → FaultCounted old new
-lost_read set words len old new refusal.Blank f r = let held : stored.Holds _ _ ≡ stored.Blank = sym f.holds ∙ r in absurd (cc held)
-lost_read set words len old new (refusal.Damaged place) f r = let held : stored.Holds _ _ ≡ stored.Damaged place = sym f.holds ∙ r in absurd (cc held)
-lost_read set words len old new refusal.Lost f r = r
-
--- a loss that is counted later is counted
-pub counted_later : (a b c : ℕ) → a ≤ b → FaultCounted b c → FaultCounted a c
-counted_later a b c l h = (omega (arith, l, h.0), at h.1)
+-- it is the one of the core's new seat alone
+commits_one : (k : Kernel) (words : Words) (t : Tables MachineState) (n : ℕ) (new : own.Seat) (after : State) (w : Writer) (seat : Seat MachineState) → n < length k.seats.items → length t.seats ≡ length k.seats.items → list_any saves (all_but n t.seats) ≡ false
+    → IsCommittingBy (begun k n new after w) words (seated_tables t n seat) new seat
+    → (m : ℕ) (x : own.Seat) (i : FinishRecord) (then_ : Index) (left : ℕ) → IsSeatNumber (set k.seats.items n new) m x → get_or (set t.seats n seat) m Vacant ≡ Saves i then_ left
+    → IsCommitting k.set words (record k.committed { after = after }) w x (seated_tables t n seat) i then_ left
+commits_one k words t n new after w seat inside long alone one m x i then_ left number e = at (nat_eq m n) refl
   where
-    at : (b < c) ⊎ (c ≡ 18446744073709551615) → (a < c) ⊎ (c ≡ 18446744073709551615)
-    at (inl less) = inl (omega (arith, l, less))
-    at (inr most) = inr most
+    at : (b : Bool) → nat_eq m n ≡ b → IsCommitting k.set words (record k.committed { after = after }) w x (seated_tables t n seat) i then_ left
+    at true b =
+        let same : m ≡ n = eqb-true m n b in
+        let here : seat ≡ Saves i then_ left = sym (get_or-set_same t.seats n seat Vacant (omega (arith, inside, long))) ∙ ap (λ (j : ℕ). get_or (set t.seats n seat) j Vacant) (sym same) ∙ e in
+        let mine : x ≡ new = number.1 ∙ ap (λ (j : ℕ). get_or (set k.seats.items n new) j x) same ∙ get_or-set_same k.seats.items n new x inside in
+        let moved = subst (IsCommittingBy (begun k n new after w) words (seated_tables t n seat) new) here one in
+        subst (λ (y : own.Seat). IsCommitting k.set words (record k.committed { after = after }) w y (seated_tables t n seat) i then_ left) (sym mine) moved
+    at false b =
+        let other : m ≡ n → ⊥ = eqb-false m n b in
+        let is : get_or t.seats m Vacant ≡ Saves i then_ left = sym (get_or-set_other t.seats n m seat Vacant other) ∙ e in
+        let q : true ≡ false = sym (ap saves is) ∙ none_saves t.seats n m alone other in
+        absurd (cc q)
+
+keeps_on : (k : Kernel) (words : Words) (t : Tables MachineState) (n : ℕ) (plan : Plan) (s new : own.Seat) (after : State) (w : Writer) → Keeps k words t → (g : IsReady k n) → saves_in k.seats.items ≡ false → (d : IsGrantedAt k words t n plan s)
+    → HasRoom k.set after → IsCommitting k.set words (record k.committed { after = after }) w new t d.finish (after_at k words t n d.finish) (writes_at k words t n d.finish)
+    → IsOn (begun k n new after w) words (seated_tables t n (Saves d.finish (after_at k words t n d.finish) (writes_at k words t n d.finish)))
+keeps_on k words t n plan s new after w h g alone d room one =
+    let o = on k words t h g.power in
+    let rooms = o.committed.rooms in
+    record {
+      power = o.power;
+      boots = o.boots;
+      index = o.index;
+      root = o.root;
+      chains = o.chains;
+      committed = record {
+        rooms = record { limits = rooms.limits; state = rooms.state; after = room; slots = rooms.slots; records = rooms.records };
+        index = o.committed.index;
+        queue = o.committed.queue;
+      };
+      shift = o.shift;
+      device = o.device;
+      commits = commits_one k words t n new after w (Saves d.finish (after_at k words t n d.finish) (writes_at k words t n d.finish)) g.inside
+          (seats_length k.seats.items (index_of k.committed.after) t.seats h.seats) (others_save k words t n h g ∙ alone)
+          (record { held = one.held; index = one.index; root = one.root; after_is = one.after_is; begun = one.begun; writes = one.writes; writing = one.writing });
+    }
+
+keeps_begun : (k : Kernel) (words : Words) (t : Tables MachineState) (n : ℕ) (plan : Plan) (s new : own.Seat) (after : State) (w : Writer) → Keeps k words t → (g : IsReady k n) → s ≡ get_or k.seats.items n s → saves_in k.seats.items ≡ false → (d : IsGrantedAt k words t n plan s)
+    → HasRoom k.set after → HasTables k.set w.job → new.attempt ≡ s.attempt → StandsFor new (index_of after) (Saves d.finish (after_at k words t n d.finish) (writes_at k words t n d.finish))
+    → IsCommitting k.set words (record k.committed { after = after }) w new t d.finish (after_at k words t n d.finish) (writes_at k words t n d.finish)
+    → Keeps (begun k n new after w) words (seated_tables t n (Saves d.finish (after_at k words t n d.finish) (writes_at k words t n d.finish)))
+keeps_begun k words t n plan s new after w h g at alone d room tables same stands one =
+    let seat = Saves d.finish (after_at k words t n d.finish) (writes_at k words t n d.finish) in
+    let kept = subst (IsFor k.set) (sym same) (kept_seat k words t n s h g at) in
+    record {
+      limits = h.limits;
+      cores = length-set k.seats.items n new ∙ h.cores;
+      few = let l = length-set k.seats.items n new in omega (arith, l, h.few);
+      attempts = all_set (λ (x : own.Seat). IsFor k.set x.attempt) k.seats.items n new h.attempts kept;
+      own = h.own;
+      layout = h.layout;
+      rooms = record { limits = h.rooms.limits; state = h.rooms.state; after = room; slots = h.rooms.slots; records = h.rooms.records };
+      writer = tables;
+      seats = seats_set k.seats.items (index_of after) t.seats n new seat (seats_stay k.seats.items (index_of k.committed.after) (index_of after) t.seats h.seats alone) stands;
+      owed = h.owed;
+      entries = h.entries;
+      powered = subst (IsPowered (begun k n new after w) words (seated_tables t n seat)) (sym g.power) (keeps_on k words t n plan s new after w h g alone d room one);
+    }
+
+-- ---- the turn
+
+pub begins : (k : Kernel) (n : ℕ) (plan : Plan) (s new : own.Seat) (spawns : List Spawn) (after : State) (w : Writer) → IsReady k n → s ≡ get_or k.seats.items n s → saves_in k.seats.items ≡ false → IsVerdictOn k n (answer.Granted plan)
+    → spawns ≡ s.attempt.spawns → ((i : FinishRecord) → IsGranted plan spawns i → IsAfter plan k.committed.state i after) → HasRoom k.set after → HasTables k.set w.job
+    → ((h : Held) (c : Commit) (is_written : ℕ → Bool) (words : ℕ → List ℕ) → IsTold k.set plan k.committed.state after h c is_written words → IsWriting k.set (course_of k.set k.committed.state.shift h c) is_written words 0 w)
+    → new.attempt ≡ s.attempt → Grants s plan.granted new → SeatTurns k n (begun k n new after w) line.Nothing
+unfolding SeatTurns Grants
+begins k n plan s new spawns after w g at alone v spawned makes room tables writes same grants = λ words t h lawful.
+    let d = granted_at k words t n plan s h lawful g at alone v in
+    let next = after_at k words t n d.finish in
+    let left = writes_at k words t n d.finish in
+    let is = granted_is k words t n plan s spawns after h g d spawned makes in
+    let told = is_told k words t n plan s spawns after h g at d spawned makes in
+    let writing = writes d.due.held (commit_of d.finish next) (is_written_by s) (words_by s) told in
+    let one = writes_all k words t n plan s new after w h g d same is writing in
+    let some = some_writes (layout_on (device_at k.set words)) k.set (held_in t) (commit_of d.finish next) in
+    let task : plan.granted.task ≡ s.attempt.task = ap (λ (j : ℕ). let y : TaskId = record { 0 = j } in y) (ap (λ (e : Entry). e.task) d.plan_is.entry ∙ d.task) in
+    let stands = subst (λ (y : Index). StandsFor new y (Saves d.finish next left)) (sym is) (grants d.outcome d.finish next left d.ready (sym d.plan_is.entry) task d.run some) in
+    subst (λ (u : SeatTurn MachineState). HasTurned (begun k n new after w) words t n u line.Nothing) (sym d.turn)
+    (record { keeps = keeps_begun k words t n plan s new after w h g at alone d room tables same stands one; tells = refl })

@@ -5,4 +5,10 @@ pub mod Versions
 pub mod Advancing
 pub mod Sources
 pub mod Idle
+pub mod Waiting
+pub mod Verdicts
+pub mod Due
+pub mod Granted
+pub mod Beginning
 pub mod Begun
+pub mod Opened

@@ -2,3 +2,4 @@ pub mod Commits
 pub mod Keeping
 pub mod Turns
 pub mod Opening
+pub mod Deciding

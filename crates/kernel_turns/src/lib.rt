@@ -6,5 +6,6 @@ mod kernel;
 mod open;
 mod running;
 mod start;
+mod verdict;
 
 pub use kernel::Kernel;

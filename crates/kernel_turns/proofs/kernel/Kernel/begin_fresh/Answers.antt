@@ -14,7 +14,7 @@ use Rattle.table_machine.specs.Events.{reopened}
 use Rattle.committed_state.specs.Committed.{HasRooms}
 use Rattle.kernel_turns.specs.Opening.{HasRoomFor, IsOpenedOn}
 use Rattle.kernel_turns.specs.declared.kernel.Kernel.{Kernel}
-use Rattle.kernel_turns.proofs.Begun.{HasBegun, IsFormatted, begun, counted_later, first_kind_of, formatted, lost_read, own_of, read_first, read_index_fits}
+use Rattle.kernel_turns.proofs.Opened.{HasBegun, IsFormatted, begun, counted_later, first_kind_of, formatted, lost_read, own_of, read_first, read_index_fits}
 use Rattle.kernel_turns.proofs.kernel.Kernel.begin_fresh.Goals as goal
 
 pub read_state-requires-clause-own : goal.read_state-requires-clause-own
