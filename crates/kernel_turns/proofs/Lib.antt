@@ -1,3 +1,4 @@
 pub mod Turned
 pub mod AtStage
 pub mod Starting
+pub mod Failing

@@ -106,5 +106,6 @@ turned k words t n s seat h on kept stands none = record {
   seats = seats_set k.seats.items (index_of k.committed.after) t.seats n s seat h.seats stands;
   owed = h.owed;
   entries = h.entries;
+  capacity = h.capacity;
   powered = powered k words t n s seat k.power (seats_length k.seats.items (index_of k.committed.after) t.seats h.seats) on h.powered none;
 }

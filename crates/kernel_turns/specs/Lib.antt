@@ -1,3 +1,4 @@
 pub mod Commits
 pub mod Keeping
 pub mod Turns
+pub mod Failures

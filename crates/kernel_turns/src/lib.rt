@@ -2,6 +2,7 @@
 #![tactic(auto)]
 
 mod kernel;
+mod power;
 mod start;
 
 pub use kernel::Kernel;
