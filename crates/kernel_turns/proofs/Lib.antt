@@ -2,3 +2,4 @@ pub mod Turned
 pub mod AtStage
 pub mod Starting
 pub mod Failing
+pub mod Booting

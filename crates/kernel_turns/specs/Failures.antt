@@ -1,18 +1,18 @@
--- What a failure of power leaves of a kernel, and what a turn of a boot makes of it. This project's own.
-use Rattle.std.specs.Prelude.{◌≡◌, List, [], ◌∷◌, ◌++◌, Option, Some, None, if◌then◌else◌}
+-- What a failure of power leaves of a kernel. This project's own.
+use Rattle.std.specs.Prelude.{List, [], ◌∷◌, ◌++◌, Option, Some, None, if◌then◌else◌}
 use Rattle.std.specs.Option.{option_or}
 use Rattle.rv_core.specs.State.{MachineState}
 use Rattle.nv_base.specs.declared.lines.Entry.{Entry}
 use Rattle.nv_base.specs.declared.lines.Line.{Line}
 use Rattle.kernel_model.specs.Events.{Fail}
-use Rattle.set_model.specs.Views.{line_of}
 use Rattle.device_model.specs.Words.{Words}
 use Rattle.table_machine.specs.Tables.{Tables}
-use Rattle.table_machine.specs.Events.{Answer, table_step}
+use Rattle.table_machine.specs.Events.{table_step}
 use Rattle.core_seats.specs.declared.seat.Saving.{Saving}
 use Rattle.core_seats.specs.declared.seat.Seat.{Seat}
 use Rattle.kernel_turns.specs.Commits.{setting_on}
 use Rattle.kernel_turns.specs.Keeping.{IsLawful, Keeps}
+use Rattle.kernel_turns.specs.Steps.{IsAnswered}
 use Rattle.kernel_turns.specs.declared.kernel.Kernel.{Kernel}
 
 -- a finish whose writes are all made
@@ -29,11 +29,6 @@ whole_in (s ∷ seats) = option_or (whole_if s.saving) (whole_in seats)
 abbrev pub with_found : Option Entry → List Entry → List Entry
 with_found None entries = entries
 with_found (Some e) entries = entries ++ e ∷ []
-
--- the new kernel stands, on these words, for the tables of an answer, and the line is the answer's
-pub record IsAnswered (new : Kernel) (later : Words) (a : Answer MachineState) (line : Line) : Type 0 where
-  pub keeps : Keeps new later a.tables
-  pub tells : line_of line ≡ a.line
 
 -- power fails: no word of the device changes
 unfoldable pub Fails : Kernel → Kernel → Line → Type 0

@@ -1,4 +1,5 @@
 pub mod Commits
 pub mod Keeping
 pub mod Turns
+pub mod Steps
 pub mod Failures
