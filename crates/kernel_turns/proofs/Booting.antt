@@ -41,7 +41,7 @@ use Rattle.committed_state.specs.declared.committed.Committed.{Committed}
 use Rattle.committed_state.specs.Committed.{HasRooms, IsCommitted, chains_in}
 use Rattle.kernel_turns.specs.Commits.{setting_on}
 use Rattle.kernel_turns.specs.Keeping.{IsInBoot, IsLawful, IsPowered, Keeps}
-use Rattle.kernel_turns.specs.Steps.{HasWritten, IsAnswered, MayHaveWritten, Steps, step_of}
+use Rattle.kernel_turns.specs.Steps.{HasImage, HasWritten, IsAnswered, MayHaveWritten, Steps, step_of}
 use Rattle.kernel_turns.specs.declared.kernel.Kernel.{Kernel}
 use Rattle.kernel_turns.specs.declared.kernel.Power.TheVariants as power
 use Rattle.kernel_turns.proofs.Failing.{configuration, represented}
@@ -97,6 +97,11 @@ pub other_writes : (k : Kernel) (words : Words) (n : ℕ) (b : booting.Boot) (lo
 unfolding HasWritten
 other_writes k words n b log off other = λ t h l.
     sym (append-nil log) ∙ ap (λ (a : Answer MachineState). log ++ a.writes) (sym (other_answer k words t n b (in_boot k words t b h off) other))
+
+pub other_image : (k : Kernel) (words : Words) (n : ℕ) (b : booting.Boot) → k.power ≡ power.Boot b → eqb n 0 ≡ false → HasImage k n words words
+unfolding HasImage
+other_image k words n b off other = λ t h l.
+    ap (λ (a : Answer MachineState). made a.writes words) (sym (other_answer k words t n b (in_boot k words t b h off) other))
 
 -- ---- a turn that reads
 
@@ -164,6 +169,13 @@ more_writes k words n b next log grown first off same count early = λ t h l.
     let some : 1 < i.left = let e = i.counted in omega (arith, e, count, early) in
     same ∙ sym (append-nil log) ∙ ap (λ (a : Answer MachineState). log ++ a.writes) (sym (more_answer k words t n b i first some))
 
+pub more_image : (k : Kernel) (words later : Words) (n : ℕ) (b next : booting.Boot) → n ≡ 0 → k.power ≡ power.Boot b → later ≡ words → turns_of next ≡ turns_of b + 1 → turns_of next < boot_turns_of (layout_on (device_at k.set words)) → HasImage k n words later
+unfolding HasImage
+more_image k words later n b next first off same count early = λ t h l.
+    let i = in_boot k words t b h off in
+    let some : 1 < i.left = let e = i.counted in omega (arith, e, count, early) in
+    same ∙ ap (λ (a : Answer MachineState). made a.writes words) (sym (more_answer k words t n b i first some))
+
 -- ---- the last turn
 
 last_answer : (k : Kernel) (words : Words) (t : Tables MachineState) (n : ℕ) (b : booting.Boot) → IsInBoot k words t b → n ≡ 0 → turns_of b + 1 ≡ boot_turns_of (layout_on (device_at k.set words)) → step_of k words t n ≡ boot_answer (setting_on k.set words) words t 1
@@ -176,6 +188,12 @@ unfolding HasWritten
 last_writes k words n b log grown first off last made = λ t h l.
     let i = in_boot k words t b h off in
     made ∙ ap (λ (boots : ℕ). log ++ (2, boots + 1) ∷ []) (sym i.boots) ∙ ap (λ (a : Answer MachineState). log ++ a.writes) (sym (last_answer k words t n b i first last))
+
+pub last_image : (k : Kernel) (words later : Words) (n : ℕ) (b : booting.Boot) → n ≡ 0 → k.power ≡ power.Boot b → turns_of b + 1 ≡ boot_turns_of (layout_on (device_at k.set words)) → later ≡ made (boot_writes (held_on (device_at k.set words) words)) words → HasImage k n words later
+unfolding HasImage
+last_image k words later n b first off last image = λ t h l.
+    let i = in_boot k words t b h off in
+    image ∙ ap (λ (boots : ℕ). made ((2, boots + 1) ∷ []) words) (sym i.boots) ∙ ap (λ (a : Answer MachineState). made a.writes words) (sym (last_answer k words t n b i first last))
 
 -- a call was lost in a turn
 pub lost_writes : (k : Kernel) (words : Words) (n : ℕ) (b : booting.Boot) (log grown : List Change) → n ≡ 0 → k.power ≡ power.Boot b → (grown ≡ log) ⊎ IsCounted k.set words b log grown → MayHaveWritten k n words log grown
@@ -194,13 +212,25 @@ index_read k words t h l =
 pub index_taken : (k : Kernel) (words later : Words) (t : Tables MachineState) (into : own_state.State) → Keeps k words t → IsLawful k words t → IsBooted k.set words later into → IsIndex k.set (index_of into)
 index_taken k words later t into h l read = subst (IsIndex k.set) (sym read.state.index) (index_read k words t h l)
 
+-- the words once the boot is counted
+pub counted_image : (set : TaskSet) (boots : ℕ) (log grown : List Change) (start same : List ℕ) → need_on (device_at set (words_of log start)) ≤ length start → grown ≡ log ++ (2, boots) ∷ [] → same ≡ start → words_of grown same ≡ made ((2, boots) ∷ []) (words_of log start)
+counted_image set boots log grown start same room e f =
+    let d = device_at set (words_of log start) in
+    let long : 2 < length start = let n = need_some d.kind set in omega (arith, room, n) in
+    let low : 2 < length (made_in log start) = omega (arith, long, length-made_in log start) in
+    words_more log ((2, boots) ∷ []) grown start same e f ∙ image_by_place ((2, boots) ∷ []) (made_in log start) (low, tt)
+
+-- word 0 stays
+still_own : (set : TaskSet) (words later : Words) (boots : ℕ) → later ≡ made ((2, boots) ∷ []) words → IsOwn set words → IsOwn set later
+still_own set words later boots image own = subst (IsOwn set) (sym image) own
+
 pub last_steps : (k new : Kernel) (words later : Words) (n : ℕ) (b : booting.Boot) (into : own_state.State) (tells : Line)
-    → n ≡ 0 → k.power ≡ power.Boot b → turns_of b + 1 ≡ boot_turns_of (layout_on (device_at k.set words)) → IsBooted k.set words later into → (IsOwn k.set words → IsOwn k.set later)
+    → n ≡ 0 → k.power ≡ power.Boot b → turns_of b + 1 ≡ boot_turns_of (layout_on (device_at k.set words)) → IsBooted k.set words later into → later ≡ made (boot_writes (held_on (device_at k.set words) words)) words
     → new ≡ record k { power = power.On; owed = None; committed = new.committed }
     → IsCommitted k.set new.committed → chains_in new.committed ≡ reopened k.set (index_of into) → new.committed.state ≡ into → tells ≡ line.Booted k.owed into.boots
     → Steps k n words new later tells
 unfolding Steps
-last_steps k new words later n b into tells first off last read owned is committed chains state told = λ t h l.
+last_steps k new words later n b into tells first off last read image is committed chains state told = λ t h l.
     let i = in_boot k words t b h off in
     let d = device_at k.set words in
     let a = boot_answer (setting_on k.set words) words t 1 in
@@ -213,7 +243,7 @@ last_steps k new words later n b into tells first off last read owned is committ
       cores = h.cores;
       few = h.few;
       attempts = h.attempts;
-      own = owned h.own;
+      own = still_own k.set words later (words 2 + 1) image h.own;
       layout = subst (λ e. IsLayoutOf e k.layout) (sym same) h.layout;
       rooms = committed.rooms;
       writer = h.writer;
@@ -260,12 +290,3 @@ never_damaged k words t place h l e = let g = decodes k words t h l in apart (de
   where
     apart : (kind : Kind) (g : stored.Held) → stored.Holds kind g ≡ stored.Damaged place → ⊥
     apart kind g e = cc e
-
--- word 0 stays when the boot is counted
-pub still_own : (set : TaskSet) (boots : ℕ) (log grown : List Change) (start same : List ℕ) → need_on (device_at set (words_of log start)) ≤ length start → grown ≡ log ++ (2, boots) ∷ [] → same ≡ start → IsOwn set (words_of log start) → IsOwn set (words_of grown same)
-still_own set boots log grown start same room e f own =
-    let d = device_at set (words_of log start) in
-    let long : 2 < length start = let n = need_some d.kind set in omega (arith, room, n) in
-    let low : 2 < length (made_in log start) = omega (arith, long, length-made_in log start) in
-    let image : words_of grown same ≡ made ((2, boots) ∷ []) (words_of log start) = words_more log ((2, boots) ∷ []) grown start same e f ∙ image_by_place ((2, boots) ∷ []) (made_in log start) (low, tt) in
-    subst (IsOwn set) (sym image) own

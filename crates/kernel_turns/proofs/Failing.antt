@@ -1,9 +1,9 @@
 -- Power fails.
-use Rattle.std.proofs.Common.{◌≡◌, ℕ, zero, suc, ◌+◌, ◌<◌, Bool, true, false, cond, List, [], ◌∷◌, ◌++◌, length, map, set, take, get_or, replicate, Option, Some, None, refl, sym, ap, ap₂, ◌∙◌, subst, arith}
+use Rattle.std.proofs.Common.{◌≡◌, ℕ, zero, suc, ◌+◌, ◌<◌, ◌≤◌, Bool, true, false, cond, List, [], ◌∷◌, ◌++◌, length, map, set, take, get_or, replicate, Option, Some, None, refl, sym, ap, ap₂, ◌∙◌, subst, arith}
 use Rattle.std.specs.Prelude.{vec_capacity}
 use Rattle.std.specs.List.{AllByRecursion}
 use Rattle.std.specs.Option.{option_or}
-use Rattle.std.proofs.lemmas.List.{map-append}
+use Rattle.std.proofs.lemmas.List.{length-append, map-append}
 use Rattle.rv_core.specs.State.{MachineState}
 use Rattle.nv_base.specs.declared.lines.Entry as base
 use Rattle.nv_base.specs.declared.lines.Line.TheVariants as line
@@ -128,6 +128,11 @@ listed_same None xs None e = refl
 listed_same None xs (Some i) e = absurd (cc e)
 listed_same (Some x) xs None e = absurd (cc e)
 listed_same (Some x) xs (Some i) e = let same : items.entry_of i ≡ entry_of x = cc e in ap (λ y. map entry_of xs ++ y ∷ []) same ∙ sym (map-append entry_of xs (x ∷ []))
+
+-- one more at most
+pub few_listed : (found : Option base.Entry) (xs ys : List base.Entry) (room : ℕ) → ys ≡ with_found found xs → length xs < room → length ys ≤ room
+few_listed None xs ys room e l = let m = ap length e in omega (arith, m, l)
+few_listed (Some x) xs ys room e l = let m = ap length e in let n = length-append xs (x ∷ []) in omega (arith, m, n, l)
 
 -- ---- the kernel
 

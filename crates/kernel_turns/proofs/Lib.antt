@@ -3,3 +3,4 @@ pub mod AtStage
 pub mod Starting
 pub mod Failing
 pub mod Booting
+pub mod Lawful

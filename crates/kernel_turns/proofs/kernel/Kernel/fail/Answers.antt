@@ -1,4 +1,4 @@
-use Rattle.std.proofs.Common.{ap, ◌∙◌, sym, subst, length, replicate}
+use Rattle.std.proofs.Common.{ap, ◌∙◌, sym, subst, length, replicate, arith}
 use Rattle.std.specs.List.{AllByRecursion}
 use Rattle.device_model.specs.Words.{Words}
 use Rattle.shadow_index.specs.States.{HasTaken}
@@ -11,7 +11,7 @@ use Rattle.core_seats.specs.declared.seat.Seat.{Seat}
 use Rattle.kernel_turns.specs.declared.kernel.Kernel.{Kernel}
 use Rattle.kernel_turns.specs.declared.kernel.Power.TheVariants as power
 use Rattle.kernel_turns.specs.Failures.{whole_in}
-use Rattle.kernel_turns.proofs.Failing.{fails}
+use Rattle.kernel_turns.proofs.Failing.{fails, few_listed}
 use Rattle.kernel_turns.proofs.kernel.Kernel.fail.Goals as goal
 
 pub returns : goal.returns
@@ -19,7 +19,10 @@ returns c =
     let k = c.args.self.now in
     let seats = ap (λ (x : Kernel). x.seats.items) c.hide.ensures.rest in
     let same = ap (λ (x : Kernel). x.set) c.hide.ensures.rest in
+    let room = ap (λ (x : Kernel). x.room) c.hide.ensures.rest in
     record {
+      rest = record { set = same; room = room };
+      listed = let n = few_listed c.whole_among-found.result k.listing.items c.hide.new.self.listing.items k.room c.hide.ensures.entries c.requires.few in omega (arith, n, room);
       fails = fails c.args.self.now (record c.hide.new.self { seats = c.clear_all.new.seats; power = power.Boot c.begin.result }) c.begin.result c.whole_among-found.result
           (ap (λ (x : Kernel). record x { seats = c.clear_all.new.seats; power = power.Boot c.begin.result }) c.hide.ensures.rest)
           (c.whole_among-found.ensures ∙ ap whole_in c.deref.ensures.value)
