@@ -12,3 +12,6 @@ pub mod Granted
 pub mod Beginning
 pub mod Begun
 pub mod Opened
+pub mod Failing
+pub mod Booting
+pub mod Lawful

@@ -3,3 +3,5 @@ pub mod Keeping
 pub mod Turns
 pub mod Opening
 pub mod Deciding
+pub mod Steps
+pub mod Failures

@@ -5,6 +5,7 @@ mod copying;
 mod kernel;
 mod open;
 mod running;
+mod power;
 mod start;
 mod verdict;
 
