@@ -172,6 +172,7 @@ keeps_begun k words t n plan s new after w h g at alone d room tables same stand
       seats = seats_set k.seats.items (index_of after) t.seats n new seat (seats_stay k.seats.items (index_of k.committed.after) (index_of after) t.seats h.seats alone) stands;
       owed = h.owed;
       entries = h.entries;
+      capacity = h.capacity;
       powered = subst (IsPowered (begun k n new after w) words (seated_tables t n seat)) (sym g.power) (keeps_on k words t n plan s new after w h g alone d room one);
     }
 
