@@ -1,3 +1,5 @@
 pub mod Turned
 pub mod AtStage
 pub mod Starting
+pub mod Represented
+pub mod Writing
