@@ -30,6 +30,8 @@ impl Kernel {
         ensures lost { let words = words_of (F.log dev.old) (F.start dev.old) in
             OnErr result ((F.log dev.new ≡ F.log dev.old)
             ⊎ CoreWrites self.old core.0 words (F.log dev.old) (F.log dev.new)) }
+        ensures same { OnErr result ((self.new ≡ record self.old { writer = self.new.writer })
+            × (self.new.writer.job ≡ self.old.writer.job)) }
         ensures start { F.start dev.new ≡ F.start dev.old }
         ensures failed { OnErr result (FaultCounted (F.lost dev.old) (F.lost dev.new)) }
         ensures never_falls { F.lost dev.old ≤ F.lost dev.new }
