@@ -96,9 +96,9 @@ words_more start log more w l e =
 
 same_committing : (set : TaskSet) (words later : Words) (c : Committed) (w : Writer) (s : own.Seat) (t : Tables MachineState) (i : FinishRecord) (after : Index) (left : ℕ) → later 0 ≡ words 0 → IsCommitting set words c w s t i after left → IsCommitting set later c w s t i after left
 same_committing set words later c w s t i after left e h =
-    let one : IsCommitting set (λ p. words 0) c w s t i after left = record { held = h.held; index = h.index; root = h.root; after_is = h.after_is; begun = h.begun; writes = h.writes; writing = h.writing } in
+    let one : IsCommitting set (λ p. words 0) c w s t i after left = record { held = h.held; index = h.index; root = h.root; after_is = h.after_is; rest = h.rest; begun = h.begun; writes = h.writes; writing = h.writing } in
     let two : IsCommitting set (λ p. later 0) c w s t i after left = subst (λ (v : ℕ). IsCommitting set (λ p. v) c w s t i after left) (sym e) one in
-    record { held = two.held; index = two.index; root = two.root; after_is = two.after_is; begun = two.begun; writes = two.writes; writing = two.writing }
+    record { held = two.held; index = two.index; root = two.root; after_is = two.after_is; rest = two.rest; begun = two.begun; writes = two.writes; writing = two.writing }
 
 -- the commit goes on, with one write less, and another seat of the same attempt
 less_left : (set : TaskSet) (words : Words) (c : Committed) (v w : Writer) (s u : own.Seat) (t : Tables MachineState) (n count : ℕ) (seat : Seat MachineState) (i : FinishRecord) (after : Index) (left : ℕ) (h : IsCommitting set words c v s t i after (suc left)) → count + suc left ≡ length (writes_in (setting_on set words) t i after)
@@ -112,6 +112,7 @@ less_left set words c v w s u t n count seat i after left h number attempt job g
       index = h.index;
       root = h.root;
       after_is = h.after_is;
+      rest = h.rest;
       begun = subst (λ (j : Job). IsBegun course (is_written_by u) (words_by u) j) (sym job) (subst (λ (a : Attempt). IsBegun course (λ o. is_among o a.written) (object_words a.words) v.job) (sym attempt) h.begun);
       writes = h.writes;
       writing = λ l. (count + 1, omega (arith, number), subst (λ (a : Attempt). IsWriting set course (λ o. is_among o a.written) (object_words a.words) (count + 1) w) (sym attempt) (goes l));
@@ -191,6 +192,7 @@ written_keeps k words later t n w seats s i after left h on o inside e first kep
   seats = subst (λ (xs : List own.Seat). AreSeats xs (index_of k.committed.after) (set t.seats n (Saves i after left))) (sym e) (seats_set k.seats.items (index_of k.committed.after) t.seats n s (Saves i after left) h.seats stands);
   owed = h.owed;
   entries = h.entries;
+  listed = h.listed;
   powered = powered (writing_on k seats w) words later (seated_tables t n (Saves i after left)) k.power on (written_on k words later t n w seats s i after left h o inside e first one c);
 }
 

@@ -1,5 +1,5 @@
 -- Which tables a kernel stands for, on which device words. This project's own.
-use Rattle.std.specs.Prelude.{◌≡◌, ℕ, ◌+◌, ◌-◌, ◌<◌, ◌≤◌, List, [], length, map, get_or, Option}
+use Rattle.std.specs.Prelude.{◌≡◌, ℕ, ◌+◌, ◌-◌, ◌<◌, ◌≤◌, List, [], length, map, get_or, Option, vec_capacity}
 use Rattle.std.specs.List.{AllByRecursion}
 use Rattle.rv_core.specs.State.{MachineState}
 use Rattle.nv_base.specs.declared.limits.TheConstants.{MAX_CORES}
@@ -78,6 +78,7 @@ pub record Keeps (k : Kernel) (words : Words) (t : Tables MachineState) : Type 0
   pub seats : AreSeats k.seats.items (index_of k.committed.after) t.seats
   pub owed : t.owed ≡ entry_if k.owed
   pub entries : t.entries ≡ map entry_of k.listing.items
+  pub listed : k.room ≤ vec_capacity k.listing
   pub powered : IsPowered k words t k.power
 
 -- the tables stand for a state of the event machine, which has ids and numbers for as many finishes as there is room for

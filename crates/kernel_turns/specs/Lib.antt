@@ -1,3 +1,4 @@
 pub mod Commits
+pub mod Cuts
 pub mod Keeping
 pub mod Turns
