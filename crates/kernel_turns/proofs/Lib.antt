@@ -2,4 +2,5 @@ pub mod Turned
 pub mod AtStage
 pub mod Starting
 pub mod Represented
+pub mod Cutting
 pub mod Writing

@@ -45,6 +45,7 @@ use Rattle.kernel_turns.specs.declared.kernel.Kernel.{Kernel}
 use Rattle.kernel_turns.specs.declared.kernel.Power.{Power}
 use Rattle.kernel_turns.specs.declared.kernel.Power.TheVariants as power
 use Rattle.kernel_turns.proofs.Turned.{all_at, all_set, seat_at, seated_tables, seats_length, seats_set}
+use Rattle.kernel_turns.proofs.Cutting.{same_place}
 use Rattle.kernel_turns.proofs.Represented.{first_word, one_saves}
 
 -- with power on, what has committed is as the tables have it
@@ -287,12 +288,6 @@ goes_whole set v w seat new completes last x count left h number =
     let m = last x count h in
     let none : left ≡ 0 = omega (arith, m, number) in
     record { writing = λ l. absurd (omega (arith, l, none)); stands = λ i after s. subst (λ (z : ℕ). StandsFor new after (Saves i after z)) (sym none) (completes i after (suc left) s) }
-
--- a place of a list, whatever stands behind its end
-pub same_place : {A : Type 0} → (xs : List A) (n : ℕ) (x y : A) → n < length xs → get_or xs n x ≡ get_or xs n y
-same_place [] n x y l = absurd (omega (arith, l))
-same_place (z ∷ xs) zero x y l = refl
-same_place (z ∷ xs) (suc n) x y l = same_place xs n x y (omega (arith, l))
 
 -- the same step by another name of the core's seat
 abbrev pub by_seat : (k : Kernel) (n at : ℕ) (b : Bool) (seat : own.Seat) → IsSavingAt k n b → at ≡ n → seat ≡ get_or k.seats.items at seat → IsSavingAt k n b
