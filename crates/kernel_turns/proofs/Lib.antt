@@ -4,3 +4,5 @@ pub mod Starting
 pub mod Represented
 pub mod Cutting
 pub mod Writing
+pub mod MayJoin
+pub mod Joined

@@ -77,16 +77,17 @@ saves_by base history kept index n (Committing j more) i after left e =
     let state : index_after kept.plan index j ≡ after = cc e in
     (ap₂ (λ (x : FinishRecord) (m : ℕ). Committing x m) item count, sym state ∙ ap (index_after kept.plan index) item)
 
--- with power on, the tables are those of the state
-pub tables_are : (k : Kernel) (words : Words) (t : Tables MachineState) (l : IsLawful k words t) → t.power ≡ On → t ≡ tables_on (setting_on k.set words) l.base l.last l.represented.0 l.state On
-tables_are k words t l on =
-    let a = l.represented.1 in
-    let power : l.state.power ≡ On = sym (ap (λ (u : Tables MachineState). u.power) a.tables ∙ same l.state.power) ∙ on in
-    a.tables ∙ ap (tables_on (setting_on k.set words) l.base l.last l.represented.0 l.state) power
+-- with power on, it is on in the state
+pub state_on : (k : Kernel) (words : Words) (t : Tables MachineState) (l : IsLawful k words t) → t.power ≡ On → l.state.power ≡ On
+state_on k words t l on = sym (ap (λ (u : Tables MachineState). u.power) l.represented.1.tables ∙ same l.state.power) ∙ on
   where
     same : (p : Power) → (tables_on (setting_on k.set words) l.base l.last l.represented.0 l.state p).power ≡ p
     same On = refl
     same (Boot left) = refl
+
+-- then the tables are those of the state
+pub tables_are : (k : Kernel) (words : Words) (t : Tables MachineState) (l : IsLawful k words t) → t.power ≡ On → t ≡ tables_on (setting_on k.set words) l.base l.last l.represented.0 l.state On
+tables_are k words t l on = l.represented.1.tables ∙ ap (tables_on (setting_on k.set words) l.base l.last l.represented.0 l.state) (state_on k words t l on)
 
 -- the index of the state
 abbrev pub index_in : (k : Kernel) (words : Words) (t : Tables MachineState) → IsLawful k words t → Index
