@@ -87,16 +87,77 @@ abbrev pub joined_on : Kernel → Committed → Vec own.Seat → Vec base.Entry 
 joined_on k new seats listing = record k { committed = new; seats = seats; listing = listing }
 
 -- what the calls leave of the kernel
-pub record HasJoined (k : Kernel) (n : ℕ) (g : IsSavingAt k n true) (j : Joining) (root : ℕ) (new : Committed) (cut : List own.Seat) (cleared : own.Seat) (seats : Vec own.Seat) (listing : Vec base.Entry) : Type 0 where
+pub record HasJoined (k : Kernel) (n : ℕ) (g : IsSavingAt k n true) (j : Joining) (root : ℕ) (new : Committed) (cut : List own.Seat) (cleared : own.Seat)
+    (seats : Vec own.Seat) (listing : Vec base.Entry) : Type 0 where
   pub joining : IsJoiningOf k n g j
-  pub root : (x : Course) (is_written : ℕ → Bool) (words : ℕ → List ℕ) → IsBegun x is_written words k.writer.job → root ≡ root_after x
+  pub rooted : (x : Course) (is_written : ℕ → Bool) (words : ℕ → List ℕ) → IsBegun x is_written words k.writer.job → root ≡ root_after x
   pub committed : IsCommitted k.set new
   pub chains : (i : FinishRecord) → IsFinishOf j i → chains_in new ≡ all_touched i k.committed.after.slots.items 0 (chains_in k.committed)
-  pub state : new.state ≡ record k.committed.after { root = root }
-  pub after : new.after ≡ k.committed.state
-  pub cut : AreCut j.point.0 j.written (length k.seats.items) k.seats.items cut
-  pub seats : seats.items ≡ set cut n cleared
+  pub state_is : new.state ≡ record k.committed.after { root = root }
+  pub after_is : new.after ≡ k.committed.state
+  pub are_cut : AreCut j.point.0 j.written (length k.seats.items) k.seats.items cut
+  pub seats_are : seats.items ≡ set cut n cleared
   pub kept : (s : own.Seat) → s ≡ get_or cut n s → IsFor k.set s.attempt → IsFor k.set cleared.attempt
   pub vacant : (after : Index) → StandsFor cleared after Vacant
   pub entries : listing.items ≡ k.listing.items ++ g.saving.entry ∷ []
   pub capacity : vec_capacity listing ≡ vec_capacity k.listing
+
+-- while power is on
+joined_are_on : (k : Kernel) (words : Words) (t : Tables MachineState) (n : ℕ) (g : IsSavingAt k n true) (j : Joining) (root : ℕ) (new : Committed) (cut : List own.Seat) (cleared : own.Seat) (seats : Vec own.Seat) (listing : Vec base.Entry) (i : FinishRecord)
+    → HasJoined k n g j root new cut cleared seats listing → IsOn k words t → IsCommitting k.set words k.committed k.writer g.seat t i (index_of k.committed.after) 0 → IsFinishOf j i → n < length t.seats → ((m : ℕ) → (m ≡ n → ⊥) → SavesNone (held_at t m))
+    → IsOn (joined_on k new seats listing) words (joined_tables k words t n i (index_of k.committed.after))
+joined_are_on k words t n g j root new cut cleared seats listing i q o c f l none = record {
+  power = o.power;
+  boots = o.boots ∙ sym c.rest.boots ∙ sym (ap (λ (s : State). s.boots) q.state_is);
+  index = sym (ap index_of q.state_is);
+  root = root_is k words t g.seat i (index_of k.committed.after) o c ∙ sym (q.rooted (course_by (device_at k.set words) c.held i (index_of k.committed.after)) (is_written_by g.seat) (words_by g.seat) c.begun) ∙ sym (ap (λ (s : State). s.root) q.state_is);
+  chains = ap (all_touched i k.committed.after.slots.items 0) o.chains ∙ sym (q.chains i f);
+  committed = q.committed;
+  shift = subst (IsShift k.set) (sym shift) o.shift;
+  device = ap (device_of k.set) shift ∙ o.device;
+  commits = λ m x y after left number e. absurd (none_commits t n i l none m y after left e);
+}
+  where
+    shift : new.state.shift ≡ k.committed.state.shift
+    shift = ap (λ (s : State). s.shift) q.state_is ∙ c.rest.shift
+
+powered : (k : Kernel) (words : Words) (t : Tables MachineState) (p : Power) → p ≡ power.On → IsOn k words t → IsPowered k words t p
+powered k words t power.On e o = o
+powered k words t (power.Boot b) e o = absurd (cc e)
+
+pub joins : (k : Kernel) (n : ℕ) (g : IsSavingAt k n true) (j : Joining) (root : ℕ) (new : Committed) (cut : List own.Seat) (cleared : own.Seat) (seats : Vec own.Seat) (listing : Vec base.Entry) → HasJoined k n g j root new cut cleared seats listing
+    → (words : Words) → CoreTurns k n (joined_on k new seats listing) words words (line.Finish g.saving.entry)
+unfolding CoreTurns
+joins k n g j root new cut cleared seats listing q words = λ t h l.
+    let s = saving_stands k words t n true h g in
+    let i = s.finish in
+    let after = index_of k.committed.after in
+    let held = whole_held k words t n h g in
+    let f = finish_is k words t n h g j q.joining in
+    let o = on_saving k words t n true h g in
+    let c = o.commits n g.seat i after 0 (g.inside, g.seat_is) held in
+    let same = seats_length k.seats.items after t.seats h.seats in
+    let inside : n < length t.seats = let b = g.inside in omega (arith, b, same) in
+    let none : (m : ℕ) → (m ≡ n → ⊥) → SavesNone (held_at t m) = λ m ne y x left e. ne (one_saves k words t l o.power n m i y after x 0 left held e) in
+    let size : length seats.items ≡ length k.seats.items = ap length q.seats_are ∙ length-set cut n cleared ∙ q.are_cut.number in
+    let on = joined_are_on k words t n g j root new cut cleared seats listing i q o c f inside none in
+    subst (λ (a : Answer MachineState). IsAnswer (joined_on k new seats listing) words a (line.Finish g.saving.entry)) (sym (join_answer k words t n i after held))
+    (record {
+      keeps = record {
+        limits = h.limits;
+        cores = size ∙ h.cores;
+        few = let d = h.few in omega (arith, size, d);
+        attempts = subst (λ (xs : List own.Seat). AllByRecursion (λ (x : own.Seat). IsFor k.set x.attempt) xs) (sym q.seats_are) (attempts_cut k.set j.point.0 j.written k.seats.items cut n cleared q.are_cut h.attempts q.kept g.inside);
+        own = h.own;
+        layout = h.layout;
+        rooms = q.committed.rooms;
+        writer = h.writer;
+        seats = subst (λ (xs : List own.Seat). AreSeats xs (index_of new.after) (set (map (cut_seat i) t.seats) n Vacant)) (sym q.seats_are)
+            (seats_cut j.point.0 j.written k.seats.items cut t.seats after (index_of new.after) n cleared i q.are_cut f.point f.writes h.seats g.inside none (q.vacant (index_of new.after)));
+        owed = h.owed;
+        entries = ap₂ (λ (xs : List Entry) (e : Entry). xs ++ e ∷ []) h.entries s.entry ∙ sym (map-append told.entry_of k.listing.items (g.saving.entry ∷ [])) ∙ sym (ap (map told.entry_of) q.entries);
+        listed = let d = h.listed in let e = q.capacity in omega (arith, d, e);
+        powered = powered (joined_on k new seats listing) words (joined_tables k words t n i after) k.power g.power on;
+      };
+      tells = ap turns.Finish (sym s.entry);
+    })
