@@ -296,9 +296,21 @@ by_seat k n at b seat g e f =
     let same : seat ≡ g.seat = here ∙ same_place k.seats.items n seat g.seat g.inside ∙ sym g.seat_is in
     record { power = g.power; inside = g.inside; seat = seat; seat_is = here; saving = g.saving; saving_is = ap (λ (s : own.Seat). s.saving) same ∙ g.saving_is; whole = g.whole }
 
+pub one_saving : (s : own.Seat) (v w : Saving) → s.saving ≡ Some v → s.saving ≡ Some w → v.is_whole ≡ w.is_whole
+one_saving s v w p q = let same : v ≡ w = cc (sym p ∙ q) in ap (λ (x : Saving). x.is_whole) same
+
+-- and by another name of its finish
+abbrev pub by_saving : (k : Kernel) (n at : ℕ) (b : Bool) (seat : own.Seat) (saving : Saving) → IsSavingAt k n b → at ≡ n → seat ≡ get_or k.seats.items at seat → seat.saving ≡ Some saving → IsSavingAt k n b
+by_saving k n at b seat saving g e f p =
+    let h = by_seat k n at b seat g e f in
+    record { power = h.power; inside = h.inside; seat = seat; seat_is = h.seat_is; saving = saving; saving_is = p; whole = one_saving seat saving h.saving p h.saving_is ∙ h.whole }
+
 -- two names of the core's seat
 pub one_seat : (k : Kernel) (n at : ℕ) (b : Bool) (x y : own.Seat) → IsSavingAt k n b → at ≡ n → x ≡ get_or k.seats.items at x → y ≡ get_or k.seats.items at y → x ≡ y
 one_seat k n at b x y g e p q = p ∙ same_place k.seats.items at x y (let l = g.inside in omega (arith, l, e)) ∙ sym q
+
+pub one_place : (xs : List own.Seat) (n at : ℕ) (x y : own.Seat) → n < length xs → at ≡ n → x ≡ get_or xs n x → y ≡ get_or xs at y → x ≡ y
+one_place xs n at x y l e p q = p ∙ same_place xs n x y l ∙ sym (q ∙ ap (λ (m : ℕ). get_or xs m y) e)
 
 -- the log of a call that was lost
 longer : (log : List Change) (w : Change) → log ++ w ∷ [] ≡ log → ⊥
