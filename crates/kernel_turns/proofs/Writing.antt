@@ -40,7 +40,7 @@ use Rattle.core_seats.specs.Holding.{AreSeats, IsSaving, StandsFor, StandsForBy}
 use Rattle.core_seats.specs.Steps.{Completes}
 use Rattle.kernel_turns.specs.Commits.{IsCommitting, course_by, is_written_by, setting_on, words_by}
 use Rattle.kernel_turns.specs.Keeping.{IsLawful, IsOn, IsPowered, IsSeatNumber, Keeps}
-use Rattle.kernel_turns.specs.Turns.{CoreTurns, CoreWrites, IsAnswer, IsSavingAt, answer_at, held_at}
+use Rattle.kernel_turns.specs.Turns.{CoreTurns, CoreWrites, HasMade, IsAnswer, IsSavingAt, answer_at, held_at}
 use Rattle.kernel_turns.specs.declared.kernel.Kernel.{Kernel}
 use Rattle.kernel_turns.specs.declared.kernel.Power.{Power}
 use Rattle.kernel_turns.specs.declared.kernel.Power.TheVariants as power
@@ -216,13 +216,28 @@ writes_are k words t n seat c count e =
     ap (λ (a : Answer MachineState). a.writes) (write_answer k words t n c.finish (index_of k.committed.after) c.left c.held)
     ∙ ap (λ (w : Change). w ∷ []) (next_is log count c.left e ∙ ap (λ (ws : List Change). get_or ws count (0, 0)) (sym c.committing.writes))
 
-pub turn_writes : (k : Kernel) (words : Words) (n : ℕ) (g : IsSavingAt k n false) (log more : List Change) → Logs k.set k.writer g.seat log more → CoreWrites k n words log more
-unfolding CoreWrites
-turn_writes k words n g log more logs = λ t h l.
+-- it is made
+write_made : (k : Kernel) (n : ℕ) (g : IsSavingAt k n false) (start : List ℕ) (log more : List Change) (t : Tables MachineState) → need_on (device_at k.set (words_of log start)) ≤ length start → Logs k.set k.writer g.seat log more → Keeps k (words_of log start) t
+    → HasMade (answer_at k (words_of log start) t n).writes (words_of log start) (words_of more start) log more
+write_made k n g start log more t room logs h =
+    let words = words_of log start in
+    let after = index_of k.committed.after in
     let c = has_next k words t n h g in
-    let w = c.committing.writing (omega arith) in
-    logs (course_by (device_at k.set words) c.committing.held c.finish (index_of k.committed.after)) w.0 w.2
-    ∙ ap (λ (ws : List Change). log ++ ws) (sym (writes_are k words t n g.seat c w.0 w.1))
+    let v = c.committing.writing (omega arith) in
+    let count = v.0 in
+    let x = course_by (device_at k.set words) c.committing.held c.finish after in
+    let number : count + suc c.left ≡ length (writes_of x) = v.1 ∙ ap length (sym c.committing.writes) in
+    let change = write_number x count in
+    let fits : change.0 < length start = let m = write_fits x (is_written_by g.seat) (words_by g.seat) k.writer.job count c.committing.begun (omega (arith, number)) in omega (arith, m, room) in
+    let same = sym (writes_are k words t n g.seat c count v.1) in
+    record {
+      logged = logs x count v.2 ∙ ap (λ (ws : List Change). log ++ ws) same;
+      words_are = words_more start log more change fits (logs x count v.2) ∙ ap (λ (ws : List Change). made ws words) same;
+    }
+
+pub turn_writes : (k : Kernel) (n : ℕ) (g : IsSavingAt k n false) (start : List ℕ) (log more : List Change) → need_on (device_at k.set (words_of log start)) ≤ length start → Logs k.set k.writer g.seat log more → CoreWrites k n (words_of log start) (words_of more start) log more
+unfolding CoreWrites
+turn_writes k n g start log more room logs = λ t h l. write_made k n g start log more t room logs h
 
 -- the kernel stands for the tables after the write
 pub turn_turns : (k : Kernel) (n : ℕ) (g : IsSavingAt k n false) (w : Writer) (seats : Vec own.Seat) (s : own.Seat) (start : List ℕ) (log more : List Change)
@@ -242,11 +257,7 @@ turn_turns k n g w seats s start log more e attempt job room logs goes = λ t h 
     let x = course_by (device_at k.set words) c.committing.held c.finish after in
     let number : count + suc c.left ≡ length (writes_of x) = v.1 ∙ ap length (sym c.committing.writes) in
     let go = goes x count c.left v.2 number in
-    let change = write_number x count in
-    let fits : change.0 < length start = let m = write_fits x (is_written_by g.seat) (words_by g.seat) k.writer.job count c.committing.begun (omega (arith, number)) in omega (arith, m, room) in
-    let first : later 0 ≡ words 0 =
-        ap (λ (f : Words). f 0) (words_more start log more change fits (logs x count v.2))
-        ∙ ap (λ (ws : List Change). made ws words 0) (sym (writes_are k words t n g.seat c count v.1)) ∙ first_word k words t n h.limits l o.power in
+    let first : later 0 ≡ words 0 = ap (λ (f : Words). f 0) (write_made k n g start log more t room logs h).words_are ∙ first_word k words t n h.limits l o.power in
     let kept = subst (IsFor k.set) (sym attempt) (all_at (λ (z : own.Seat). IsFor k.set z.attempt) k.seats.items n g.seat h.attempts g.inside g.seat_is) in
     let old = subst (StandsFor g.seat after) c.held (seat_at k.seats.items after t.seats n g.seat h.seats g.inside g.seat_is) in
     let less = less_left k.set words k.committed k.writer w g.seat s t n count (Saves c.finish after c.left) c.finish after c.left c.committing v.1 attempt job go.writing in
@@ -316,14 +327,15 @@ one_place xs n at x y l e p q = p ∙ same_place xs n x y l ∙ sym (q ∙ ap (�
 longer : (log : List Change) (w : Change) → log ++ w ∷ [] ≡ log → ⊥
 longer log w e = let l = ap length e in let m = length-append log (w ∷ []) in absurd (omega (arith, l, m))
 
-pub turn_lost : (k : Kernel) (words : Words) (t : Tables MachineState) (n : ℕ) (g : IsSavingAt k n false) (log more : List Change) → Keeps k words t
+pub turn_lost : (k : Kernel) (t : Tables MachineState) (n : ℕ) (g : IsSavingAt k n false) (start : List ℕ) (log more : List Change) → Keeps k (words_of log start) t → need_on (device_at k.set (words_of log start)) ≤ length start
     → ((x : Course) (count : ℕ) → IsWriting k.set x (is_written_by g.seat) (words_by g.seat) count k.writer → (more ≡ log) ⊎ (more ≡ log ++ write_number x count ∷ []))
-    → (more ≡ log) ⊎ CoreWrites k n words log more
-turn_lost k words t n g log more h either =
+    → (more ≡ log) ⊎ CoreWrites k n (words_of log start) (words_of more start) log more
+turn_lost k t n g start log more h room either =
+    let words = words_of log start in
     let c = has_next k words t n h g in
     let v = c.committing.writing (omega arith) in
     let x = course_by (device_at k.set words) c.committing.held c.finish (index_of k.committed.after) in
-    ⊎_elim (λ same. inl same) (λ grown. inr (turn_writes k words n g log more (λ y m w. ⊎_elim (λ same. absurd (longer log (write_number x v.0) (sym grown ∙ same))) (λ r. r) (either y m w)))) (either x v.0 v.2)
+    ⊎_elim (λ same. inl same) (λ grown. inr (turn_writes k n g start log more room (λ y m w. ⊎_elim (λ same. absurd (longer log (write_number x v.0) (sym grown ∙ same))) (λ r. r) (either y m w)))) (either x v.0 v.2)
 
 -- a write is left
 pub write_left : (k : Kernel) (words : Words) (t : Tables MachineState) (n : ℕ) (g : IsSavingAt k n false) (long : ℕ) → Keeps k words t → need_on (device_at k.set words) ≤ long

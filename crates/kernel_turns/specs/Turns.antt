@@ -4,7 +4,7 @@ use Rattle.rv_core.specs.State.{MachineState}
 use Rattle.nv_base.specs.declared.lines.Line.{Line}
 use Rattle.kernel_model.specs.Cores.{all_but}
 use Rattle.set_model.specs.Views.{line_of}
-use Rattle.device_model.specs.Words.{Change, Words}
+use Rattle.device_model.specs.Words.{Change, Words, made}
 use Rattle.table_machine.specs.Tables.{Seat, Vacant, Tables}
 use Rattle.table_machine.specs.Seats.{SeatTurn, seat_turn}
 use Rattle.table_machine.specs.Events.{Answer, core_answer}
@@ -64,6 +64,11 @@ pub record IsAnswer (new : Kernel) (later : Words) (answer : Answer MachineState
 unfoldable pub CoreTurns : Kernel → ℕ → Kernel → (words later : Words) → Line → Type 0
 CoreTurns old n new words later line = (t : Tables MachineState) → Keeps old words t → IsLawful old words t → IsAnswer new later (answer_at old words t n) line
 
--- the log of a device has grown by what a step of core n writes
-unfoldable pub CoreWrites : Kernel → ℕ → Words → (log more : List Change) → Type 0
-CoreWrites old n words log more = (t : Tables MachineState) → Keeps old words t → IsLawful old words t → more ≡ log ++ (answer_at old words t n).writes
+-- some writes were made: the log has grown by them, and the words are those after them
+pub record HasMade (writes : List Change) (words later : Words) (log more : List Change) : Type 0 where
+  pub logged : more ≡ log ++ writes
+  pub words_are : later ≡ made writes words
+
+-- what a step of core n writes was made
+unfoldable pub CoreWrites : Kernel → ℕ → (words later : Words) → (log more : List Change) → Type 0
+CoreWrites old n words later log more = (t : Tables MachineState) → Keeps old words t → IsLawful old words t → HasMade (answer_at old words t n).writes words later log more

@@ -34,10 +34,12 @@ impl Kernel {
             let later = words_of (F.log dev.new) (F.start dev.new) in
             IfOk result (CoreTurns self.old core.0 self.new words later) }
         ensures written { let words = words_of (F.log dev.old) (F.start dev.old) in
-            OnOk result (CoreWrites self.old core.0 words (F.log dev.old) (F.log dev.new)) }
+            let later = words_of (F.log dev.new) (F.start dev.new) in
+            OnOk result (CoreWrites self.old core.0 words later (F.log dev.old) (F.log dev.new)) }
         ensures lost { let words = words_of (F.log dev.old) (F.start dev.old) in
+            let later = words_of (F.log dev.new) (F.start dev.new) in
             OnErr result ((F.log dev.new ≡ F.log dev.old)
-            ⊎ CoreWrites self.old core.0 words (F.log dev.old) (F.log dev.new)) }
+            ⊎ CoreWrites self.old core.0 words later (F.log dev.old) (F.log dev.new)) }
         ensures same { OnErr result ((self.new ≡ record self.old { writer = self.new.writer })
             × (self.new.writer.job ≡ self.old.writer.job)) }
         ensures fixed { (self.new.set ≡ self.old.set) × (self.new.room ≡ self.old.room) }

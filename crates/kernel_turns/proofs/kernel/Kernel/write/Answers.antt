@@ -4,7 +4,7 @@ use Rattle.core_seats.specs.declared.seat.Seat as own
 use Rattle.core_seats.specs.Steps.{Completes}
 use Rattle.recovery.specs.Images.{words_of}
 use Rattle.nv_base.specs.declared.lines.Line.TheVariants as line
-use Rattle.kernel_turns.specs.Turns.{CoreTurns}
+use Rattle.kernel_turns.specs.Turns.{CoreTurns, CoreWrites}
 use Rattle.kernel_turns.proofs.AtStage.{same_set}
 use Rattle.kernel_turns.proofs.Writing.{by_seat, one_seat, write_left, turn_lost, turn_turns, turn_writes, goes_on, goes_whole, writing_on}
 use Rattle.kernel_turns.proofs.kernel.Kernel.write.Goals as goal
@@ -31,7 +31,8 @@ pub returns-in-Ok-Wrote-clause-written : goal.returns-in-Ok-Wrote-clause-written
 returns-in-Ok-Wrote-clause-written g c =
     let k = c.args.self.now in
     let at = by_seat k c.args.core.0 c.from-seat.result false c.index.result.now c.requires.saving c.from-seat.ensures c.index.ensures in
-    turn_writes k _ c.args.core.0 at _ _ c.in-Ok-Wrote.ensures.written
+    subst (λ (start : List ℕ). CoreWrites k c.args.core.0 (words_of (g.F.Fram.log c.args.dev.now) (g.F.Fram.start c.args.dev.now)) (words_of (g.F.Fram.log c.turn.new.dev) start) (g.F.Fram.log c.args.dev.now) (g.F.Fram.log c.turn.new.dev)) (sym c.turn.ensures.start)
+    (turn_writes k c.args.core.0 at (g.F.Fram.start c.args.dev.now) (g.F.Fram.log c.args.dev.now) (g.F.Fram.log c.turn.new.dev) c.requires.room c.in-Ok-Wrote.ensures.written)
 
 pub returns-in-Ok-Flipped-clause-turns : goal.returns-in-Ok-Flipped-clause-turns
 returns-in-Ok-Flipped-clause-turns g c =
@@ -50,10 +51,12 @@ pub returns-in-Ok-Flipped-clause-written : goal.returns-in-Ok-Flipped-clause-wri
 returns-in-Ok-Flipped-clause-written g c =
     let k = c.args.self.now in
     let at = by_seat k c.args.core.0 c.from-seat.result false c.index.result.now c.requires.saving c.from-seat.ensures c.index.ensures in
-    turn_writes k _ c.args.core.0 at _ _ c.in-Ok-Flipped.ensures.written
+    subst (λ (start : List ℕ). CoreWrites k c.args.core.0 (words_of (g.F.Fram.log c.args.dev.now) (g.F.Fram.start c.args.dev.now)) (words_of (g.F.Fram.log c.turn.new.dev) start) (g.F.Fram.log c.args.dev.now) (g.F.Fram.log c.turn.new.dev)) (sym c.turn.ensures.start)
+    (turn_writes k c.args.core.0 at (g.F.Fram.start c.args.dev.now) (g.F.Fram.log c.args.dev.now) (g.F.Fram.log c.turn.new.dev) c.requires.room c.in-Ok-Flipped.ensures.written)
 
 pub returns-in-Err-clause-lost : goal.returns-in-Err-clause-lost
 returns-in-Err-clause-lost g c =
     let k = c.args.self.now in
     let at = by_seat k c.args.core.0 c.from-seat.result false c.index.result.now c.requires.saving c.from-seat.ensures c.index.ensures in
-    turn_lost k _ c.requires.lawful.0 c.args.core.0 at _ _ c.requires.lawful.1 c.in-Err.ensures.lost
+    subst (λ (start : List ℕ). (g.F.Fram.log c.turn.new.dev ≡ g.F.Fram.log c.args.dev.now) ⊎ CoreWrites k c.args.core.0 (words_of (g.F.Fram.log c.args.dev.now) (g.F.Fram.start c.args.dev.now)) (words_of (g.F.Fram.log c.turn.new.dev) start) (g.F.Fram.log c.args.dev.now) (g.F.Fram.log c.turn.new.dev)) (sym c.turn.ensures.start)
+    (turn_lost k c.requires.lawful.0 c.args.core.0 at (g.F.Fram.start c.args.dev.now) (g.F.Fram.log c.args.dev.now) (g.F.Fram.log c.turn.new.dev) c.requires.lawful.1 c.requires.room c.in-Err.ensures.lost)
