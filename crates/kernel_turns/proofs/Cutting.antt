@@ -1,5 +1,5 @@
 -- A finish that joins cuts what the other cores hold.
-use Rattle.std.proofs.Common.{◌≡◌, ℕ, zero, suc, ◌+◌, ◌<◌, ◌≤◌, Bool, true, false, nat_eq, List, [], ◌∷◌, length, map, set, get_or, Option, Some, None, is_some, refl, sym, ap, ◌∙◌, subst, arith, get_or-set_other, get_or-set_same}
+use Rattle.std.proofs.Common.{◌≡◌, ℕ, zero, suc, ◌+◌, ◌<◌, Bool, true, false, nat_eq, List, [], ◌∷◌, length, map, set, get_or, Option, Some, None, is_some, refl, sym, ap, ◌∙◌, subst, arith, get_or-set_other, get_or-set_same}
 use Rattle.std.specs.List.{AllByRecursion}
 use Rattle.std.proofs.lemmas.Bool.{eqb-false, eqb-true}
 use Rattle.std.proofs.lemmas.List.{length-map, length-set}
@@ -9,7 +9,7 @@ use Rattle.kernel_model.specs.Effects.{written}
 use Rattle.kernel_model.specs.Items.{FinishRecord}
 use Rattle.set_model.specs.Sets.{TaskSet}
 use Rattle.device_model.specs.IndexWords.{Index}
-use Rattle.table_machine.specs.Tables.{Seat, Vacant, Saves}
+use Rattle.table_machine.specs.Tables.{Seat, Vacant}
 use Rattle.table_machine.specs.Events.{cut_seat}
 use Rattle.vol_copy.specs.Tries.{IsFor}
 use Rattle.vol_copy.specs.declared.attempt.Attempt.{Attempt}
@@ -91,7 +91,7 @@ seats_cut point objects seats new held x y n cleared i c at writes h l none vaca
         let here : m ≡ n = eqb-true m n d in
         let mine : cleared ≡ s = sym (e ∙ ap (λ (k : ℕ). get_or (set new n cleared) k s) here ∙ get_or-set_same new n cleared s (let k = c.number in omega (arith, l, k))) in
         let seat : Vacant ≡ get_or (set (map (cut_seat i) held) n Vacant) m Vacant =
-            sym (ap (λ (k : ℕ). get_or (set (map (cut_seat i) held) n Vacant) k Vacant) here ∙ get_or-set_same (map (cut_seat i) held) n Vacant Vacant (let p = length-map held (cut_seat i) in let q = seats_length seats x held h in omega (arith, l, p, q))) in
+        sym (ap (λ (k : ℕ). get_or (set (map (cut_seat i) held) n Vacant) k Vacant) here ∙ get_or-set_same (map (cut_seat i) held) n Vacant Vacant (let p = length-map held (cut_seat i) in let q = seats_length seats x held h in omega (arith, l, p, q))) in
         subst (λ (u : own.Seat). StandsFor u y (get_or (set (map (cut_seat i) held) n Vacant) m Vacant)) mine (subst (StandsFor cleared y) seat vacant)
     each m s b e false d =
         let ne = eqb-false m n d in

@@ -1,5 +1,5 @@
 -- The kernel once a finish has joined.
-use Rattle.std.proofs.Common.{◌≡◌, ℕ, zero, suc, ◌+◌, ◌<◌, ◌≤◌, Bool, true, false, nat_eq, List, [], ◌∷◌, ◌++◌, length, map, set, get_or, Option, Some, None, is_some, refl, sym, ap, ap₂, ◌∙◌, subst, arith, get_or-set_other, get_or-set_same}
+use Rattle.std.proofs.Common.{◌≡◌, ℕ, ◌<◌, Bool, true, false, nat_eq, List, [], ◌∷◌, ◌++◌, length, map, set, get_or, refl, sym, ap, ap₂, ◌∙◌, subst, arith, get_or-set_other, get_or-set_same}
 use Rattle.std.specs.Prelude.{vec_capacity}
 use Rattle.std.specs.Global.{Vec}
 use Rattle.std.specs.List.{AllByRecursion}
@@ -11,7 +11,6 @@ use Rattle.nv_base.specs.declared.lines.Line.TheVariants as line
 use Rattle.kernel_model.specs.Items.{Entry, FinishRecord, entry_of}
 use Rattle.kernel_model.specs.Cores.{all_but}
 use Rattle.kernel_model.specs.Turns as turns
-use Rattle.set_model.specs.Sets.{TaskSet}
 use Rattle.set_model.specs.Views as told
 use Rattle.device_model.specs.Words.{Words}
 use Rattle.device_model.specs.IndexWords.{Index}
@@ -20,7 +19,7 @@ use Rattle.device_model.specs.Commits.{next_root}
 use Rattle.shadow_index.specs.States.{index_of}
 use Rattle.shadow_index.specs.Tells.{IsShift, device_of}
 use Rattle.shadow_index.specs.declared.state.State.{State}
-use Rattle.table_machine.specs.Tables.{Chain, Seat, Vacant, Runs, Copies, Waits, Saves, Tables}
+use Rattle.table_machine.specs.Tables.{Seat, Vacant, Runs, Copies, Waits, Saves, Tables}
 use Rattle.table_machine.specs.Seats.{commit_of, held_in, seat_turn}
 use Rattle.table_machine.specs.Events.{Answer, all_touched, cut_seat, joined, written_by}
 use Rattle.recovery.specs.Images.{device_at}
@@ -30,10 +29,10 @@ use Rattle.committed_state.specs.Committed.{IsCommitted, IsFinishOf, chains_in}
 use Rattle.committed_state.specs.declared.joining.Joining.{Joining}
 use Rattle.committed_state.specs.declared.committed.Committed.{Committed}
 use Rattle.core_seats.specs.declared.seat.Seat as own
-use Rattle.core_seats.specs.Holding.{AreSeats, IsSaving, StandsFor}
+use Rattle.core_seats.specs.Holding.{AreSeats, StandsFor}
 use Rattle.kernel_turns.specs.Commits.{IsCommitting, course_by, is_written_by, setting_on, words_by}
 use Rattle.kernel_turns.specs.Cuts.{AreCut}
-use Rattle.kernel_turns.specs.Keeping.{IsLawful, IsOn, IsPowered, IsSeatNumber, Keeps}
+use Rattle.kernel_turns.specs.Keeping.{IsOn, IsPowered}
 use Rattle.kernel_turns.specs.Turns.{CoreTurns, IsAnswer, IsSavingAt, answer_at, held_at}
 use Rattle.kernel_turns.specs.declared.kernel.Kernel.{Kernel}
 use Rattle.kernel_turns.specs.declared.kernel.Power.{Power}

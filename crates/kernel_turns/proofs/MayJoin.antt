@@ -1,28 +1,25 @@
 -- A finish whose writes are all made may join.
-use Rattle.std.proofs.Common.{◌≡◌, ◌≢◌, ℕ, zero, suc, ◌+◌, ◌-◌, ◌<◌, ◌≤◌, Bool, true, false, cond, eqb, nat_eq, List, [], ◌∷◌, ◌++◌, length, map, get_or, Option, Some, None, is_some, refl, sym, ap, ap₂, ◌∙◌, subst, arith, eqb-true}
+use Rattle.std.proofs.Common.{◌≡◌, ◌≢◌, ℕ, zero, suc, ◌+◌, ◌-◌, ◌<◌, ◌≤◌, Bool, true, false, cond, List, [], ◌∷◌, ◌++◌, length, map, get_or, Option, Some, None, is_some, refl, sym, ap, ap₂, ◌∙◌, subst, arith}
 use Rattle.std.specs.Prelude.{slice_index}
-use Rattle.std.proofs.lemmas.Bool.{le-leb, eqb-false, ne_eqb}
+use Rattle.std.proofs.lemmas.Bool.{le-leb, ne_eqb}
 use Rattle.std.proofs.lemmas.List.{length-map}
 use Rattle.object_sets.specs.ObjectSets.{is_among}
 use Rattle.rv_core.specs.State.{MachineState}
-use Rattle.nv_base.specs.declared.limits.TheConstants.{MAX_SPAWNS}
 use Rattle.nv_base.specs.declared.ids.TaskId.{TaskId}
 use Rattle.nv_base.specs.declared.ids.Point.{Point}
 use Rattle.nv_base.specs.declared.lines.Spawn as base_spawn
 use Rattle.kernel_model.specs.Effects.{Run, Spawn, written, object_words}
-use Rattle.kernel_model.specs.Items.{Entry, FinishRecord, entry_of}
+use Rattle.kernel_model.specs.Items.{Entry, FinishRecord}
 use Rattle.kernel_model.specs.OpenTasks.{children, open_tasks, others_than}
 use Rattle.kernel_model.specs.Replay.{TaskRec, max_id, next_id, task_under}
 use Rattle.kernel_model.specs.Cores.{Core, Committing, Idle, finished_by}
-use Rattle.kernel_model.specs.Events.{On, CoreStep, Power, core_event, with_finish}
+use Rattle.kernel_model.specs.Events.{CoreStep, Power, core_event, with_finish}
 use Rattle.kernel_model.specs.Sound.{IsSoundCore}
-use Rattle.kernel_model.specs.Bounds.{bound_of}
 use Rattle.kernel_model.proofs.ForCallers.{commit_above, length-open_tasks, open_order}
 use Rattle.slot_model.specs.Kept.{Held, newest_slot}
 use Rattle.slot_model.specs.Tabled.{places_of}
-use Rattle.set_model.specs.Sets.{ObjPart, TaskSet, object_at}
+use Rattle.set_model.specs.Sets.{ObjPart, object_at}
 use Rattle.set_model.specs.Views.{spawn_of}
-use Rattle.set_model.specs.Views as told
 use Rattle.device_model.specs.Words.{Words}
 use Rattle.device_model.specs.IndexWords.{Index, IsIndex}
 use Rattle.shadow_index.specs.States.{index_of}
@@ -31,11 +28,11 @@ use Rattle.ver_table.specs.Chains.{Chain, chain_at, holds_newest}
 use Rattle.ver_table.proofs.Reopens.{slots_told}
 use Rattle.table_machine.specs.Tables as tables
 use Rattle.table_machine.specs.Tables.{Saves, Tables, each_from, world_in}
-use Rattle.table_machine.specs.Represents.{chain_of, chains_of}
+use Rattle.table_machine.specs.Represents.{chain_of}
 use Rattle.table_machine.proofs.SeatLists.{chain-each}
-use Rattle.vol_copy.specs.Tries.{IsFor, writes_in}
+use Rattle.vol_copy.specs.Tries.{IsFor}
 use Rattle.vol_copy.proofs.WriteTables.{written-table}
-use Rattle.committed_state.specs.Committed.{IsFinishOf, MayJoin, chains_in}
+use Rattle.committed_state.specs.Committed.{IsFinishOf, MayJoin}
 use Rattle.committed_state.specs.Joining.{IsFreeAt}
 use Rattle.committed_state.specs.declared.joining.Joining.{Joining}
 use Rattle.core_seats.specs.declared.seat.Seat as own
@@ -183,7 +180,7 @@ may_join k words t n g h l j spawns q f = record {
         let slots : (chain_at k.committed.versions p).slots ≡ (object_at k.set p).slots = sym (slots_told k.committed.versions p) ∙ ap (λ (xs : List ℕ). slice_index xs p) h.rooms.slots ∙ slots_at k.set.objects p _ b in
         let named = next_index.named p b in
         let newest : slice_index c.held.index.slots p ≡ newest_slot (l.represented.0.kept.chains p) =
-            ap (λ (x : Index). slice_index x.slots p) (c.index ∙ state_is) ∙ each_at (λ (u : ℕ). newest_slot (l.represented.0.kept.chains u)) 0 (length k.set.objects) p b ∙ ap (λ (u : ℕ). newest_slot (l.represented.0.kept.chains u)) (let e : 0 + p ≡ p = omega arith in e) in
+        ap (λ (x : Index). slice_index x.slots p) (c.index ∙ state_is) ∙ each_at (λ (u : ℕ). newest_slot (l.represented.0.kept.chains u)) 0 (length k.set.objects) p b ∙ ap (λ (u : ℕ). newest_slot (l.represented.0.kept.chains u)) (let e : 0 + p ≡ p = omega arith in e) in
         let other = c.begun.next.other_slot p w.0 w.1 in
         let above = commit_above (world_in (setting_on k.set words) l.base) l.state l.represented.0.floor n 0 p s.finish w.0 l.represented.1.lawful.sound l.represented.1.slots.since z.0 w.1 in
         let bound = ap (λ (x : tables.Chain). x.bound) (chain p b) in

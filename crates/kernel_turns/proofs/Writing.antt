@@ -1,5 +1,5 @@
 -- One write of a core's commit.
-use Rattle.std.proofs.Common.{◌≡◌, ◌⊎◌, inl, inr, ⊎_elim, ℕ, zero, suc, ◌+◌, ◌-◌, ◌<◌, ◌≤◌, Bool, true, false, nat_eq, List, [], ◌∷◌, ◌++◌, length, set, get_or, slice_index, Option, Some, None, refl, sym, ap, ◌∙◌, subst, arith, get_or-set_other, get_or-set_same}
+use Rattle.std.proofs.Common.{◌≡◌, ◌⊎◌, inl, inr, ⊎_elim, ℕ, zero, suc, ◌+◌, ◌-◌, ◌<◌, ◌≤◌, Bool, true, false, nat_eq, List, [], ◌∷◌, ◌++◌, length, set, get_or, slice_index, Some, refl, sym, ap, ◌∙◌, subst, arith, get_or-set_other, get_or-set_same}
 use Rattle.std.specs.Global.{Vec}
 use Rattle.object_sets.specs.ObjectSets.{is_among}
 use Rattle.kernel_model.specs.Effects.{object_words}
@@ -11,13 +11,12 @@ use Rattle.nv_base.specs.declared.lines.Line.TheVariants as line
 use Rattle.kernel_model.specs.Items.{FinishRecord}
 use Rattle.kernel_model.specs.Cores.{all_but}
 use Rattle.kernel_model.specs.Turns as turns
-use Rattle.kernel_model.specs.Events.{On}
 use Rattle.set_model.specs.Sets.{TaskSet}
 use Rattle.fram_dev.specs.Device.{made_in}
 use Rattle.fram_dev.proofs.MadeIn.{length-made_in, made_in-append}
 use Rattle.device_model.specs.Words.{Change, Words, made}
 use Rattle.device_model.specs.IndexWords.{Index}
-use Rattle.device_model.specs.Devices.{Device, layout_on, need_on}
+use Rattle.device_model.specs.Devices.{need_on}
 use Rattle.device_model.proofs.ForCallers.{image_by_place}
 use Rattle.shadow_index.specs.States.{index_of}
 use Rattle.table_machine.specs.Tables.{Seat, Vacant, Saves, Tables}
@@ -39,7 +38,7 @@ use Rattle.core_seats.specs.declared.seat.Saving.{Saving}
 use Rattle.core_seats.specs.Holding.{AreSeats, IsSaving, StandsFor, StandsForBy}
 use Rattle.core_seats.specs.Steps.{Completes}
 use Rattle.kernel_turns.specs.Commits.{IsCommitting, course_by, is_written_by, setting_on, words_by}
-use Rattle.kernel_turns.specs.Keeping.{IsLawful, IsOn, IsPowered, IsSeatNumber, Keeps}
+use Rattle.kernel_turns.specs.Keeping.{IsOn, IsPowered, IsSeatNumber, Keeps}
 use Rattle.kernel_turns.specs.Turns.{CoreTurns, CoreWrites, HasMade, IsAnswer, IsSavingAt, answer_at, held_at}
 use Rattle.kernel_turns.specs.declared.kernel.Kernel.{Kernel}
 use Rattle.kernel_turns.specs.declared.kernel.Power.{Power}

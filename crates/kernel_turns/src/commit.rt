@@ -73,8 +73,14 @@ impl Kernel {
         };
         let finish = finish_of(&seat.attempt, saving.entry);
         let root = self.writer.next_root();
-        self.committed.join(&self.set, &finish, seat.attempt.spawns(), root);
-        cut_all(&mut self.seats, finish.point, finish.written, self.set.objects());
+        self.committed
+            .join(&self.set, &finish, seat.attempt.spawns(), root);
+        cut_all(
+            &mut self.seats,
+            finish.point,
+            finish.written,
+            self.set.objects(),
+        );
         self.listing.push_reserved(saving.entry);
         self.seats[number].clear();
         Line::Finish(saving.entry)

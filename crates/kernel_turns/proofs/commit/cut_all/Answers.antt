@@ -1,4 +1,4 @@
-use Rattle.std.proofs.Common.{◌≡◌, ℕ, ◌<◌, length, arith}
+use Rattle.std.proofs.Common.{◌<◌, length, arith}
 use Rattle.kernel_turns.proofs.Cutting.{cut_more}
 use Rattle.kernel_turns.proofs.commit.cut_all.Goals as goal
 

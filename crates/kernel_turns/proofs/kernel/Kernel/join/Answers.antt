@@ -1,4 +1,4 @@
-use Rattle.std.proofs.Common.{◌≡◌, true, ℕ, ◌<◌, set, get_or, length, arith, sym, ap, ◌∙◌, subst}
+use Rattle.std.proofs.Common.{true, ℕ, ◌<◌, set, length, arith, ap, subst}
 use Rattle.std.specs.Vec.{with_item}
 use Rattle.vol_copy.specs.Tries.{IsFor}
 use Rattle.core_seats.specs.declared.seat.Seat as own
