@@ -17,7 +17,7 @@ use Rattle.device_model.specs.Commits.{Commit}
 use Rattle.device_model.specs.Devices.{Device, layout_on}
 use Rattle.shadow_index.specs.declared.plan.Plan.{Plan}
 use Rattle.shadow_index.specs.declared.state.State.{State}
-use Rattle.shadow_index.specs.States.{HasRoom, index_of}
+use Rattle.shadow_index.specs.States.{HasRoom, KeepsRest, index_of}
 use Rattle.commit_writer.specs.Afters.{IsAfter, IsGranted}
 use Rattle.commit_writer.specs.Courses.{Course}
 use Rattle.commit_writer.specs.Rooms.{IsFor as HasTables, IsTold, course_of}
@@ -81,10 +81,10 @@ begun k n s after w = record (seated k n s) { committed = record k.committed { a
 
 -- the writer has all writes of the commit before it
 writes_all : (k : Kernel) (words : Words) (t : Tables MachineState) (n : ℕ) (plan : Plan) (s new : own.Seat) (after : State) (w : Writer) → Keeps k words t → IsReady k n → (d : IsGrantedAt k words t n plan s)
-    → new.attempt ≡ s.attempt → index_of after ≡ after_at k words t n d.finish
+    → new.attempt ≡ s.attempt → index_of after ≡ after_at k words t n d.finish → KeepsRest k.committed.state after
     → IsWriting k.set (course_of k.set k.committed.state.shift d.due.held (commit_of d.finish (after_at k words t n d.finish))) (is_written_by s) (words_by s) 0 w
     → IsCommitting k.set words (record k.committed { after = after }) w new t d.finish (after_at k words t n d.finish) (writes_at k words t n d.finish)
-writes_all k words t n plan s new after w h g d same is writing =
+writes_all k words t n plan s new after w h g d same is rest writing =
     let o = on k words t h g.power in
     let next = after_at k words t n d.finish in
     let c = commit_of d.finish next in
@@ -96,6 +96,7 @@ writes_all k words t n plan s new after w h g d same is writing =
       index = d.due.index ∙ o.index;
       root = d.due.root ∙ o.root;
       after_is = sym is;
+      rest = rest;
       begun = of_new.begun;
       writes = same_writes (layout_on (device_at k.set words)) k.set d.due.held (held_in t) c d.due.index d.due.root;
       writing = λ some. (0, (let z : 0 + writes_at k words t n d.finish ≡ writes_at k words t n d.finish = omega arith in z), of_new);
@@ -150,7 +151,7 @@ keeps_on k words t n plan s new after w h g alone d room one =
       device = o.device;
       commits = commits_one k words t n new after w (Saves d.finish (after_at k words t n d.finish) (writes_at k words t n d.finish)) g.inside
           (seats_length k.seats.items (index_of k.committed.after) t.seats h.seats) (others_save k words t n h g ∙ alone)
-          (record { held = one.held; index = one.index; root = one.root; after_is = one.after_is; begun = one.begun; writes = one.writes; writing = one.writing });
+          (record { held = one.held; index = one.index; root = one.root; after_is = one.after_is; rest = one.rest; begun = one.begun; writes = one.writes; writing = one.writing });
     }
 
 keeps_begun : (k : Kernel) (words : Words) (t : Tables MachineState) (n : ℕ) (plan : Plan) (s new : own.Seat) (after : State) (w : Writer) → Keeps k words t → (g : IsReady k n) → s ≡ get_or k.seats.items n s → saves_in k.seats.items ≡ false → (d : IsGrantedAt k words t n plan s)
@@ -179,18 +180,18 @@ keeps_begun k words t n plan s new after w h g at alone d room tables same stand
 -- ---- the turn
 
 pub begins : (k : Kernel) (n : ℕ) (plan : Plan) (s new : own.Seat) (spawns : List Spawn) (after : State) (w : Writer) → IsReady k n → s ≡ get_or k.seats.items n s → saves_in k.seats.items ≡ false → IsVerdictOn k n (answer.Granted plan)
-    → spawns ≡ s.attempt.spawns → ((i : FinishRecord) → IsGranted plan spawns i → IsAfter plan k.committed.state i after) → HasRoom k.set after → HasTables k.set w.job
+    → spawns ≡ s.attempt.spawns → ((i : FinishRecord) → IsGranted plan spawns i → IsAfter plan k.committed.state i after) → HasRoom k.set after → KeepsRest k.committed.state after → HasTables k.set w.job
     → ((h : Held) (c : Commit) (is_written : ℕ → Bool) (words : ℕ → List ℕ) → IsTold k.set plan k.committed.state after h c is_written words → IsWriting k.set (course_of k.set k.committed.state.shift h c) is_written words 0 w)
     → new.attempt ≡ s.attempt → Grants s plan.granted new → SeatTurns k n (begun k n new after w) line.Nothing
 unfolding SeatTurns Grants
-begins k n plan s new spawns after w g at alone v spawned makes room tables writes same grants = λ words t h lawful.
+begins k n plan s new spawns after w g at alone v spawned makes room rest tables writes same grants = λ words t h lawful.
     let d = granted_at k words t n plan s h lawful g at alone v in
     let next = after_at k words t n d.finish in
     let left = writes_at k words t n d.finish in
     let is = granted_is k words t n plan s spawns after h g d spawned makes in
     let told = is_told k words t n plan s spawns after h g at d spawned makes in
     let writing = writes d.due.held (commit_of d.finish next) (is_written_by s) (words_by s) told in
-    let one = writes_all k words t n plan s new after w h g d same is writing in
+    let one = writes_all k words t n plan s new after w h g d same is rest writing in
     let some = some_writes (layout_on (device_at k.set words)) k.set (held_in t) (commit_of d.finish next) in
     let task : plan.granted.task ≡ s.attempt.task = ap (λ (j : ℕ). let y : TaskId = record { 0 = j } in y) (ap (λ (e : Entry). e.task) d.plan_is.entry ∙ d.task) in
     let stands = subst (λ (y : Index). StandsFor new y (Saves d.finish next left)) (sym is) (grants d.outcome d.finish next left d.ready (sym d.plan_is.entry) task d.run some) in

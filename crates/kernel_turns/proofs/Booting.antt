@@ -41,7 +41,8 @@ use Rattle.committed_state.specs.declared.committed.Committed.{Committed}
 use Rattle.committed_state.specs.Committed.{HasRooms, IsCommitted, chains_in}
 use Rattle.kernel_turns.specs.Commits.{setting_on}
 use Rattle.kernel_turns.specs.Keeping.{IsInBoot, IsLawful, IsPowered, Keeps}
-use Rattle.kernel_turns.specs.Steps.{HasImage, HasWritten, IsAnswered, MayHaveWritten, Steps, step_of}
+use Rattle.kernel_turns.specs.Steps.{HasImage, HasWritten, MayHaveWritten, Steps, step_of}
+use Rattle.kernel_turns.specs.Turns.{IsAnswered}
 use Rattle.kernel_turns.specs.declared.kernel.Kernel.{Kernel}
 use Rattle.kernel_turns.specs.declared.kernel.Power.TheVariants as power
 use Rattle.kernel_turns.proofs.Failing.{configuration, represented}

@@ -35,7 +35,7 @@ use Rattle.core_seats.specs.declared.seat.Saving.{Saving}
 use Rattle.core_seats.specs.Holding.{AreSeats, IsSaving, StandsFor, StandsForBy}
 use Rattle.kernel_turns.specs.Commits.{setting_on}
 use Rattle.kernel_turns.specs.Keeping.{IsLawful, Keeps}
-use Rattle.kernel_turns.specs.Steps.{IsAnswered}
+use Rattle.kernel_turns.specs.Turns.{IsAnswered}
 use Rattle.kernel_turns.specs.Failures.{Fails, whole_if, whole_in, with_found}
 use Rattle.kernel_turns.specs.declared.kernel.Kernel.{Kernel}
 use Rattle.kernel_turns.specs.declared.kernel.Power.TheVariants as power

@@ -20,12 +20,12 @@ use Rattle.recovery.proofs.ShiftLaws.{held_device}
 use Rattle.vol_copy.specs.Turns.{setting_of}
 use Rattle.kernel_turns.specs.Commits.{setting_on}
 use Rattle.kernel_turns.specs.Keeping.{IsLawful, Keeps}
-use Rattle.kernel_turns.specs.Steps.{KeepsRest}
+use Rattle.kernel_turns.specs.Steps.{KeepsSet}
 use Rattle.kernel_turns.specs.declared.kernel.Kernel.{Kernel}
 use Rattle.kernel_turns.proofs.Failing.{represented}
 
 -- another kernel of the same set, with room for as many finishes
-same_lawful : (k new : Kernel) (words : Words) (t : Tables MachineState) → KeepsRest k new → IsLawful k words t → IsLawful new words t
+same_lawful : (k new : Kernel) (words : Words) (t : Tables MachineState) → KeepsSet k new → IsLawful k words t → IsLawful new words t
 same_lawful k new words t same l = record {
   base = l.base;
   last = l.last;
@@ -38,7 +38,7 @@ same_lawful k new words t same l = record {
 }
 
 -- after an event, where all finishes have room in the listing
-pub lawful_after : (k new : Kernel) (words later : Words) (t : Tables MachineState) (e : Event) → Keeps k words t → IsLawful k words t → KeepsRest k new
+pub lawful_after : (k new : Kernel) (words later : Words) (t : Tables MachineState) (e : Event) → Keeps k words t → IsLawful k words t → KeepsSet k new
     → (let a = table_step (setting_on k.set words) words t e in later ≡ made a.writes words → Keeps new later a.tables → length new.listing.items ≤ new.room → IsLawful new later a.tables)
 lawful_after k new words later t e h l same image kept few =
     let x = setting_on k.set words in

@@ -15,3 +15,8 @@ pub mod Opened
 pub mod Failing
 pub mod Booting
 pub mod Lawful
+pub mod Represented
+pub mod Cutting
+pub mod Writing
+pub mod MayJoin
+pub mod Joined

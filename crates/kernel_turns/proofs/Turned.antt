@@ -87,7 +87,7 @@ still_on k words t n s seat same h none = record {
     at m x i after left number e false b =
         let f = eqb-false m n b in
         let g = h.commits m x i after left (other_seat k.seats.items n m s x f number) (sym (get_or-set_other t.seats n m seat Vacant f) ∙ e) in
-        record { held = g.held; index = g.index; root = g.root; after_is = g.after_is; begun = g.begun; writes = g.writes; writing = g.writing }
+        record { held = g.held; index = g.index; root = g.root; after_is = g.after_is; rest = g.rest; begun = g.begun; writes = g.writes; writing = g.writing }
 
 powered : (k : Kernel) (words : Words) (t : Tables MachineState) (n : ℕ) (s : own.Seat) (seat : Seat MachineState) (p : Power) → length t.seats ≡ length k.seats.items → p ≡ power.On → IsPowered k words t p → SavesNone seat → IsPowered (seated k n s) words (seated_tables t n seat) p
 powered k words t n s seat power.On same e h none = still_on k words t n s seat same h none

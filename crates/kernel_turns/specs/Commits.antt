@@ -9,7 +9,7 @@ use Rattle.device_model.specs.Words.{Words}
 use Rattle.device_model.specs.IndexWords.{Index}
 use Rattle.device_model.specs.Decoding.{Held}
 use Rattle.device_model.specs.Devices.{Device, layout_on}
-use Rattle.shadow_index.specs.States.{index_of}
+use Rattle.shadow_index.specs.States.{KeepsRest, index_of}
 use Rattle.table_machine.specs.Tables.{Setting, Tables}
 use Rattle.table_machine.specs.Seats.{commit_of, writes_in}
 use Rattle.recovery.specs.Images.{device_at}
@@ -41,6 +41,7 @@ pub record IsCommitting (set : TaskSet) (words : Words) (c : Committed) (w : Wri
   pub index : held.index ≡ index_of c.state
   pub root : held.root ≡ c.state.root
   pub after_is : after ≡ index_of c.after
+  pub rest : KeepsRest c.state c.after
   pub begun : IsBegun (course_by (device_at set words) held i after) (is_written_by s) (words_by s) w.job
   pub writes : writes_of (course_by (device_at set words) held i after) ≡ writes_in (setting_on set words) t i after
   pub writing : 0 < left → (count : ℕ) × (count + left ≡ length (writes_in (setting_on set words) t i after)) × IsWriting set (course_by (device_at set words) held i after) (is_written_by s) (words_by s) count w

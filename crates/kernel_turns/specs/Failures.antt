@@ -12,7 +12,7 @@ use Rattle.core_seats.specs.declared.seat.Saving.{Saving}
 use Rattle.core_seats.specs.declared.seat.Seat.{Seat}
 use Rattle.kernel_turns.specs.Commits.{setting_on}
 use Rattle.kernel_turns.specs.Keeping.{IsLawful, Keeps}
-use Rattle.kernel_turns.specs.Steps.{IsAnswered}
+use Rattle.kernel_turns.specs.Turns.{IsAnswered}
 use Rattle.kernel_turns.specs.declared.kernel.Kernel.{Kernel}
 
 -- a finish whose writes are all made

@@ -1,4 +1,5 @@
 pub mod Commits
+pub mod Cuts
 pub mod Keeping
 pub mod Turns
 pub mod Opening

@@ -9,15 +9,11 @@ use Rattle.table_machine.specs.Tables.{Tables}
 use Rattle.table_machine.specs.Events.{Answer, table_step}
 use Rattle.kernel_turns.specs.Commits.{setting_on}
 use Rattle.kernel_turns.specs.Keeping.{IsLawful, Keeps}
+use Rattle.kernel_turns.specs.Turns.{IsAnswered}
 use Rattle.kernel_turns.specs.declared.kernel.Kernel.{Kernel}
 
--- the new kernel stands, on these words, for the tables of an answer, and the line is the answer's
-pub record IsAnswered (new : Kernel) (later : Words) (a : Answer MachineState) (line : Line) : Type 0 where
-  pub keeps : Keeps new later a.tables
-  pub tells : line_of line ≡ a.line
-
 -- what no event changes: the set, and how many finishes there may be
-pub record KeepsRest (old new : Kernel) : Type 0 where
+pub record KeepsSet (old new : Kernel) : Type 0 where
   pub set : new.set ≡ old.set
   pub room : new.room ≡ old.room
 

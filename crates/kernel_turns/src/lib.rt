@@ -2,6 +2,7 @@
 #![tactic(auto)]
 
 mod copying;
+mod commit;
 mod kernel;
 mod open;
 mod running;

@@ -19,7 +19,7 @@ ghost use Rattle.core_seats.specs.Holding.{AreSeats};
 ghost use Rattle.committed_state.specs.Committed.{HasRooms, IsCommitted, chains_in};
 ghost use Rattle.kernel_turns.specs.Failures.{Fails, whole_if, whole_in, with_found};
 ghost use Rattle.kernel_turns.specs.Keeping.{IsLawful, Keeps};
-ghost use Rattle.kernel_turns.specs.Steps.{HasImage, HasWritten, KeepsRest, MayHaveWritten, Steps};
+ghost use Rattle.kernel_turns.specs.Steps.{HasImage, HasWritten, KeepsSet, MayHaveWritten, Steps};
 
 use crate::kernel::{Kernel, Power};
 use core_seats::Seat;
@@ -35,7 +35,7 @@ impl Kernel {
             × IsLawful self.old words t }
         requires few { length self.old.listing.items < self.old.room }
         ensures fails { Fails self.old self.new result }
-        ensures rest { KeepsRest self.old self.new }
+        ensures rest { KeepsSet self.old self.new }
         ensures listed { length self.new.listing.items ≤ self.new.room }
     {
         let found = whole_among(&self.seats);
@@ -64,7 +64,7 @@ impl Kernel {
             OnOk result (HasImage self.old core.0 words later) }
         ensures cut { let words = words_of (F.log dev.old) (F.start dev.old) in
             OnErr result (MayHaveWritten self.old core.0 words (F.log dev.old) (F.log dev.new)) }
-        ensures rest { KeepsRest self.old self.new }
+        ensures rest { KeepsSet self.old self.new }
         ensures listing { self.new.listing ≡ self.old.listing }
         ensures lost { OnErr result (FaultCounted (F.lost dev.old) (F.lost dev.new)) }
         ensures start { F.start dev.new ≡ F.start dev.old }

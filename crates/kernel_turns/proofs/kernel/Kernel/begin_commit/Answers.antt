@@ -50,5 +50,5 @@ returns c =
     let s : Seat = c.index_mut-seat.result.now in
     let at : s ≡ get_or k.seats.items n s = subst (λ (m : ℕ). s ≡ get_or k.seats.items m s) c.from.ensures c.index_mut-seat.ensures.value in
     let turns = begins k n c.args.plan.now s c.grant.new.self c.spawns-spawns.result.now c.finish_into.new.after c.begin.new.self c.requires.ready at c.requires.alone c.requires.granted
-    c.spawns-spawns.ensures c.finish_into.ensures.index c.finish_into.ensures.room c.begin.ensures.set c.begin.ensures.begun c.grant.ensures.attempt c.grant.ensures.grants in
+    c.spawns-spawns.ensures c.finish_into.ensures.index c.finish_into.ensures.room c.finish_into.ensures.rest c.begin.ensures.set c.begin.ensures.begun c.grant.ensures.attempt c.grant.ensures.grants in
     record { turns = subst (λ (m : ℕ). SeatTurns k n (begun k m c.grant.new.self c.finish_into.new.after c.begin.new.self) line.Nothing) (sym c.from.ensures) turns }
