@@ -1,21 +1,24 @@
 -- What the state that the tables stand for says of the tables and of the words.
-use Rattle.std.proofs.Common.{◌≡◌, ℕ, ◌≤◌, List, get_or, refl, sym, ap, ap₂, ◌∙◌, subst, arith}
+use Rattle.std.proofs.Common.{◌≡◌, ℕ, ◌+◌, ◌≤◌, List, [], ◌∷◌, ◌++◌, length, get_or, refl, sym, ap, ap₂, ◌∙◌, subst, arith}
+use Rattle.std.proofs.lemmas.List.{length-append}
 use Rattle.rv_core.specs.State.{MachineState}
-use Rattle.kernel_model.specs.Items.{FinishRecord}
+use Rattle.kernel_model.specs.Items.{FinishRecord, entry_of, listing}
 use Rattle.kernel_model.specs.Replay.{DeviceState, max_id, next_id}
 use Rattle.kernel_model.specs.Cores.{Core, Idle, Running, Copying, Ready, Committing, commits}
-use Rattle.kernel_model.specs.Events.{Power, On, Boot, Event, CoreStep, event_step}
+use Rattle.kernel_model.specs.Events.{Power, On, Boot, State, Event, CoreStep, event_step}
+use Rattle.kernel_model.specs.Fit.{HasIds}
 use Rattle.kernel_model.proofs.ForCallers.{history-step, next_sound, sound-ids}
 use Rattle.slot_model.specs.Kept.{Kept}
 use Rattle.set_model.specs.Sets.{TaskSet}
 use Rattle.set_model.specs.Limits.{IsTaskSet}
 use Rattle.device_model.specs.Words.{Words, made}
+use Rattle.device_model.specs.Layouts.{IsKindOf}
 use Rattle.device_model.specs.IndexWords.{Index}
 use Rattle.task_model.specs.TaskSteps.{task_steps}
 use Rattle.table_machine.specs.Tables.{Vacant, Saves, Tables, world_in}
 use Rattle.table_machine.specs.Places.{index_after}
 use Rattle.table_machine.specs.Events.{table_step, step_answer, Answer}
-use Rattle.table_machine.specs.Represents.{index_of, seat_of, tables_on}
+use Rattle.table_machine.specs.Represents.{Represents, index_of, seat_of, tables_on}
 use Rattle.table_machine.specs.Simulates.{IsSetting, Simulates}
 use Rattle.table_machine.proofs.SeatLists.{seat_at}
 use Rattle.table_machine.proofs.Opened.{kind_setting}
@@ -105,3 +108,47 @@ core_commits k words t l n i after left on e = saves_by l.base l.state.history l
 -- one finish commits at most
 pub one_saves : (k : Kernel) (words : Words) (t : Tables MachineState) → IsLawful k words t → t.power ≡ On → (n m : ℕ) (i j : FinishRecord) (x y : Index) (a b : ℕ) → held_at t n ≡ Saves i x a → held_at t m ≡ Saves j y b → m ≡ n
 one_saves k words t l on n m i j x y a b e f = l.represented.1.lawful.sound.one_commits m n (ap commits (core_commits k words t l m j y b on f).0) (ap commits (core_commits k words t l n i x a on e).0)
+
+-- ---- the next state
+
+length-listing : (history : List FinishRecord) → length (listing history) ≡ length history
+length-listing [] = refl
+length-listing (i ∷ history) = let e = length-listing history in let f = length-append (listing history) (entry_of i ∷ []) in omega (arith, e, f)
+
+-- what a step of a core leaves is lawful, on the words after its writes, where the listing has room for what it lists
+pub still_lawful : (k new : Kernel) (words later : Words) (t : Tables MachineState) (n : ℕ) → IsTaskSet k.set → IsLawful k words t → t.power ≡ On → new.set ≡ k.set → new.room ≡ k.room → later ≡ made (answer_at k words t n).writes words → length (answer_at k words t n).tables.entries ≤ k.room → IsLawful new later (answer_at k words t n).tables
+still_lawful k new words later t n h l on set_is room_is words_are few = record {
+  base = l.base;
+  last = l.last;
+  state = next;
+  represented = represents;
+  kind = subst (λ (s : TaskSet). IsKindOf s.format (device_at s later).kind) (sym set_is) (subst (λ (v : ℕ). IsKindOf k.set.format (device_at k.set (λ p. v)).kind) (sym first) l.kind);
+  ids = subst (λ (m : ℕ). HasIds l.base (m + 1)) (sym room_is) l.ids;
+  numbers = let e = l.numbers in omega (arith, e, room_is);
+  room = let e = entries in omega (arith, e, few, room_is);
+}
+  where
+    event : Event
+    event = CoreStep n
+
+    next : State MachineState
+    next = (event_step (world_in (setting_on k.set words) l.base) l.state event).0
+
+    first : later 0 ≡ words 0
+    first = ap (λ (f : Words). f 0) words_are ∙ first_word k words t n h l on
+
+    step : Represents (setting_on k.set words) l.base l.last (answer_at k words t n).tables (made (answer_at k words t n).writes words) next
+    step = subst (λ (a : Answer MachineState). Represents (setting_on k.set words) l.base l.last a.tables (made a.writes words) next) (step_is k words t n on) (simulated k words t event h l).state
+
+    represents : Represents (setting_on new.set later) l.base l.last (answer_at k words t n).tables later next
+    represents =
+        subst (λ (s : TaskSet). Represents (setting_on s later) l.base l.last (answer_at k words t n).tables later next) (sym set_is)
+        (subst (λ (v : ℕ). Represents (setting_on k.set (λ p. v)) l.base l.last (answer_at k words t n).tables later next) (sym first)
+        (subst (λ (w : Words). Represents (setting_on k.set words) l.base l.last (answer_at k words t n).tables w next) (sym words_are) step))
+
+    listed : (p : Power) → (tables_on (setting_on k.set words) l.base l.last step.0 next p).entries ≡ listing next.history
+    listed On = refl
+    listed (Boot left) = refl
+
+    entries : length (answer_at k words t n).tables.entries ≡ length next.history
+    entries = ap (λ (u : Tables MachineState). length u.entries) step.1.tables ∙ ap length (listed next.power) ∙ length-listing next.history

@@ -57,6 +57,7 @@ impl Kernel {
             Err(lost) => Err(lost),
         }
     }
+
     /// The core's finish joins, whose writes are all made: its line.
     pub(crate) fn join(&mut self, core: CoreId) -> Line
         requires lawful { (words : Words) × (t : Tables MachineState)
