@@ -20,3 +20,4 @@ pub mod Cutting
 pub mod Writing
 pub mod MayJoin
 pub mod Joined
+pub mod Stepping

@@ -11,6 +11,7 @@ ghost use Rattle.recovery.specs.Images.{device_at, words_of};
 ghost use Rattle.table_machine.specs.Tables.{Tables};
 ghost use Rattle.kernel_turns.specs.Cuts.{AreCut};
 ghost use Rattle.kernel_turns.specs.Keeping.{IsLawful, Keeps};
+ghost use Rattle.kernel_turns.specs.Steps.{KeepsSet};
 ghost use Rattle.kernel_turns.specs.Turns.{CoreTurns, CoreWrites, IsSavingAt};
 
 use crate::kernel::Kernel;
@@ -42,10 +43,11 @@ impl Kernel {
             ⊎ CoreWrites self.old core.0 words later (F.log dev.old) (F.log dev.new)) }
         ensures same { OnErr result ((self.new ≡ record self.old { writer = self.new.writer })
             × (self.new.writer.job ≡ self.old.writer.job)) }
-        ensures fixed { (self.new.set ≡ self.old.set) × (self.new.room ≡ self.old.room) }
         ensures start { F.start dev.new ≡ F.start dev.old }
         ensures failed { OnErr result (FaultCounted (F.lost dev.old) (F.lost dev.new)) }
         ensures never_falls { F.lost dev.old ≤ F.lost dev.new }
+        ensures rest { KeepsSet self.old self.new }
+        ensures live { self.new.lost ≡ self.old.lost }
     {
         let seat = usize::from(core.0);
         match self.writer.turn(dev, &self.set, &self.seats[seat].attempt) {
@@ -65,7 +67,8 @@ impl Kernel {
         requires saving { IsSavingAt self.old core.0 true }
         requires few { length self.old.listing.items < self.old.room }
         ensures turns { (words : Words) → CoreTurns self.old core.0 self.new words words result }
-        ensures fixed { (self.new.set ≡ self.old.set) × (self.new.room ≡ self.old.room) }
+        ensures rest { KeepsSet self.old self.new }
+        ensures live { self.new.lost ≡ self.old.lost }
     {
         let number = usize::from(core.0);
         let seat = &self.seats[number];

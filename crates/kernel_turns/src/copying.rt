@@ -11,6 +11,7 @@ ghost use Rattle.table_machine.specs.Tables.{Tables};
 ghost use Rattle.recovery.specs.Images.{device_at, words_of};
 ghost use Rattle.vol_copy.specs.Stages.{IsCopying};
 ghost use Rattle.kernel_turns.specs.Keeping.{IsLawful, Keeps};
+ghost use Rattle.kernel_turns.specs.Steps.{KeepsSet};
 ghost use Rattle.kernel_turns.specs.Turns.{IsAtStage, TurnsOn};
 
 use crate::kernel::Kernel;
@@ -33,6 +34,8 @@ impl Kernel {
         ensures start { F.start dev.new ≡ F.start dev.old }
         ensures failed { OnErr result (FaultCounted (F.lost dev.old) (F.lost dev.new)) }
         ensures never_falls { F.lost dev.old ≤ F.lost dev.new }
+        ensures rest { KeepsSet self.old self.new }
+        ensures live { self.new.lost ≡ self.old.lost }
     {
         let n = usize::from(core.0);
         let Doing::Copies { object, copied } = self.seats[n].attempt.doing() else {

@@ -8,6 +8,7 @@ mod open;
 mod running;
 mod power;
 mod start;
+mod turn;
 mod verdict;
 
 pub use kernel::Kernel;

@@ -36,6 +36,7 @@ impl Kernel {
         requires few { length self.old.listing.items < self.old.room }
         ensures fails { Fails self.old self.new result }
         ensures rest { KeepsSet self.old self.new }
+        ensures live { self.new.lost ≡ self.old.lost }
         ensures listed { length self.new.listing.items ≤ self.new.room }
     {
         let found = whole_among(&self.seats);
@@ -65,6 +66,7 @@ impl Kernel {
         ensures cut { let words = words_of (F.log dev.old) (F.start dev.old) in
             OnErr result (MayHaveWritten self.old core.0 words (F.log dev.old) (F.log dev.new)) }
         ensures rest { KeepsSet self.old self.new }
+        ensures live { self.new.lost ≡ self.old.lost }
         ensures listing { self.new.listing ≡ self.old.listing }
         ensures lost { OnErr result (FaultCounted (F.lost dev.old) (F.lost dev.new)) }
         ensures start { F.start dev.new ≡ F.start dev.old }

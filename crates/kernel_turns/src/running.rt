@@ -6,6 +6,7 @@ ghost use Rattle.device_model.specs.Words.{Words};
 ghost use Rattle.table_machine.specs.Tables.{Tables};
 ghost use Rattle.vol_copy.specs.declared.attempt.Stage.TheVariants.{Running};
 ghost use Rattle.kernel_turns.specs.Keeping.{IsLawful, Keeps};
+ghost use Rattle.kernel_turns.specs.Steps.{KeepsSet};
 ghost use Rattle.kernel_turns.specs.Turns.{IsAtStage, SeatTurns};
 
 use crate::kernel::Kernel;
@@ -20,6 +21,8 @@ impl Kernel {
             × IsLawful self.old words t }
         requires running { IsAtStage self.old core.0 (λ s. s ≡ Running) }
         ensures turns { SeatTurns self.old core.0 self.new result }
+        ensures rest { KeepsSet self.old self.new }
+        ensures live { self.new.lost ≡ self.old.lost }
     {
         object_is_tabled();
         chosen_is_place();

@@ -6,6 +6,7 @@ ghost use Rattle.rv_core.specs.State.{MachineState};
 ghost use Rattle.table_machine.specs.Tables.{Tables};
 ghost use Rattle.vol_copy.specs.declared.attempt.Stage.TheVariants.{Blank};
 ghost use Rattle.kernel_turns.specs.Keeping.{Keeps};
+ghost use Rattle.kernel_turns.specs.Steps.{KeepsSet};
 ghost use Rattle.kernel_turns.specs.Turns.{IsAtStage, SeatTurns};
 
 use crate::kernel::Kernel;
@@ -19,6 +20,8 @@ impl Kernel {
         requires keeps { (words : Words) × (t : Tables MachineState) × Keeps self.old words t }
         requires blank { IsAtStage self.old core.0 (λ s. s ≡ Blank) }
         ensures turns { SeatTurns self.old core.0 self.new result }
+        ensures rest { KeepsSet self.old self.new }
+        ensures live { self.new.lost ≡ self.old.lost }
     {
         let (tasks, count) = held(&self.seats);
         held_tasks_are_not_ready();

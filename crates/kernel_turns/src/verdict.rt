@@ -8,6 +8,7 @@ ghost use Rattle.vol_copy.specs.Stages.{is_waiting};
 ghost use Rattle.core_seats.specs.Others.{saves_in};
 ghost use Rattle.validate.specs.declared.verdict.Verdict.TheVariants.{Granted};
 ghost use Rattle.kernel_turns.specs.Keeping.{IsLawful, Keeps};
+ghost use Rattle.kernel_turns.specs.Steps.{KeepsSet};
 ghost use Rattle.kernel_turns.specs.Turns.{IsAtStage, SeatTurns};
 ghost use Rattle.kernel_turns.specs.Deciding.{GivesUp, IsVerdictOn};
 
@@ -26,6 +27,8 @@ impl Kernel {
             × IsLawful self.old words t }
         requires ready { IsAtStage self.old core.0 (λ s. is_waiting s ≡ true) }
         ensures turns { SeatTurns self.old core.0 self.new result }
+        ensures rest { KeepsSet self.old self.new }
+        ensures live { self.new.lost ≡ self.old.lost }
     {
         if is_saving(&self.seats) {
             return Line::Nothing;
@@ -81,6 +84,8 @@ impl Kernel {
         requires keeps { (words : Words) × (t : Tables MachineState) × Keeps self.old words t }
         requires ready { IsAtStage self.old core.0 (λ s. is_waiting s ≡ true) }
         ensures gives_up { GivesUp self.old core.0 self.new result.0 }
+        ensures rest { KeepsSet self.old self.new }
+        ensures live { self.new.lost ≡ self.old.lost }
     {
         let seat = &mut self.seats[usize::from(core.0)];
         let task = seat.attempt.task();
@@ -96,6 +101,8 @@ impl Kernel {
         requires alone { saves_in self.old.seats.items ≡ false }
         requires granted { IsVerdictOn self.old core.0 (Granted plan.now) }
         ensures turns { SeatTurns self.old core.0 self.new Line.Nothing }
+        ensures rest { KeepsSet self.old self.new }
+        ensures live { self.new.lost ≡ self.old.lost }
     {
         let seat = &mut self.seats[usize::from(core.0)];
         let committed = &mut self.committed;

@@ -1,4 +1,4 @@
-use Rattle.std.proofs.Common.{◌≡◌, ℕ, get_or, sym, subst}
+use Rattle.std.proofs.Common.{◌≡◌, ℕ, get_or, sym, subst, refl}
 use Rattle.nv_base.specs.declared.lines.Line.TheVariants as line
 use Rattle.core_seats.specs.declared.seat.Seat.{Seat}
 use Rattle.kernel_turns.specs.Turns.{SeatTurns}
@@ -51,4 +51,4 @@ returns c =
     let at : s ≡ get_or k.seats.items n s = subst (λ (m : ℕ). s ≡ get_or k.seats.items m s) c.from.ensures c.index_mut-seat.ensures.value in
     let turns = begins k n c.args.plan.now s c.grant.new.self c.spawns-spawns.result.now c.finish_into.new.after c.begin.new.self c.requires.ready at c.requires.alone c.requires.granted
     c.spawns-spawns.ensures c.finish_into.ensures.index c.finish_into.ensures.room c.finish_into.ensures.rest c.begin.ensures.set c.begin.ensures.begun c.grant.ensures.attempt c.grant.ensures.grants in
-    record { turns = subst (λ (m : ℕ). SeatTurns k n (begun k m c.grant.new.self c.finish_into.new.after c.begin.new.self) line.Nothing) (sym c.from.ensures) turns }
+    record { turns = subst (λ (m : ℕ). SeatTurns k n (begun k m c.grant.new.self c.finish_into.new.after c.begin.new.self) line.Nothing) (sym c.from.ensures) turns; rest = record { set = refl; room = refl }; live = refl }

@@ -22,6 +22,7 @@ returns c =
     let room = ap (λ (x : Kernel). x.room) c.hide.ensures.rest in
     record {
       rest = record { set = same; room = room };
+      live = ap (λ (x : Kernel). x.lost) c.hide.ensures.rest;
       listed = let n = few_listed c.whole_among-found.result k.listing.items c.hide.new.self.listing.items k.room c.hide.ensures.entries c.requires.few in omega (arith, n, room);
       fails = fails c.args.self.now (record c.hide.new.self { seats = c.clear_all.new.seats; power = power.Boot c.begin.result }) c.begin.result c.whole_among-found.result
           (ap (λ (x : Kernel). record x { seats = c.clear_all.new.seats; power = power.Boot c.begin.result }) c.hide.ensures.rest)
