@@ -1,5 +1,5 @@
 -- The commit of a finish begins: what the writer is told, and what may be asked of the state after it.
-use Rattle.std.proofs.Common.{◌≡◌, ℕ, zero, suc, ◌+◌, ◌<◌, ◌≤◌, Bool, true, cond, ◌++◌, List, [], ◌∷◌, get_or, length, length-append, map, slice_index, sym, ap, ap₂, ◌∙◌, subst, arith}
+use Rattle.std.proofs.Common.{◌≡◌, ℕ, zero, suc, ◌+◌, ◌<◌, ◌≤◌, Bool, true, false, cond, ◌++◌, List, [], ◌∷◌, get_or, length, length-append, map, slice_index, sym, ap, ap₂, ◌∙◌, subst, arith}
 use Rattle.std.proofs.lemmas.List.{length-map}
 use Rattle.object_sets.specs.ObjectSets.{is_among}
 use Rattle.rv_core.specs.State.{MachineState}
@@ -26,13 +26,16 @@ use Rattle.table_machine.specs.Seats.{commit_of}
 use Rattle.vol_copy.specs.Tries.{IsFor}
 use Rattle.vol_copy.proofs.Commits.{sizes_written, words_written}
 use Rattle.validate.proofs.Decided.{objects_written}
+use Rattle.validate.specs.declared.verdict.Verdict.TheVariants as answer
 use Rattle.core_seats.specs.declared.seat.Seat as own
+use Rattle.core_seats.specs.Others.{saves_in}
+use Rattle.kernel_turns.specs.Deciding.{IsVerdictOn}
 use Rattle.kernel_turns.specs.Commits.{is_written_by, words_by}
 use Rattle.kernel_turns.specs.Keeping.{IsLawful, Keeps}
 use Rattle.kernel_turns.specs.declared.kernel.Kernel.{Kernel}
 use Rattle.kernel_turns.proofs.AtStage.{kept_at, on}
 use Rattle.kernel_turns.proofs.Due.{has_ids}
-use Rattle.kernel_turns.proofs.Granted.{IsGrantedAt, after_at, after_is}
+use Rattle.kernel_turns.proofs.Granted.{IsGrantedAt, after_at, after_is, granted_at}
 use Rattle.kernel_turns.proofs.Waiting.{IsReady, same_item}
 
 -- ---- what may be asked of the state after it
@@ -40,15 +43,15 @@ use Rattle.kernel_turns.proofs.Waiting.{IsReady, same_item}
 pub kept_seat : (k : Kernel) (words : Words) (t : Tables MachineState) (n : ℕ) (s : own.Seat) → Keeps k words t → (g : IsReady k n) → s ≡ get_or k.seats.items n s → IsFor k.set s.attempt
 kept_seat k words t n s h g at = subst (λ (x : own.Seat). IsFor k.set x.attempt) (same_item k.seats.items n g.seat s g.inside g.seat_is at) (kept_at k words t n _ h g)
 
-pub number_is : (k : Kernel) (words : Words) (t : Tables MachineState) (n : ℕ) (plan : Plan) (s : own.Seat) → Keeps k words t → IsReady k n → IsGrantedAt k words t n plan s → plan.granted.number.0 ≡ k.committed.state.number.0 + 1
+number_is : (k : Kernel) (words : Words) (t : Tables MachineState) (n : ℕ) (plan : Plan) (s : own.Seat) → Keeps k words t → IsReady k n → IsGrantedAt k words t n plan s → plan.granted.number.0 ≡ k.committed.state.number.0 + 1
 number_is k words t n plan s h g d =
     ap (λ (e : Entry). e.number) d.plan_is.entry ∙ d.number ∙ ap (λ (x : Index). x.number + 1) (on k words t h g.power).index
 
-pub first_is : (k : Kernel) (words : Words) (t : Tables MachineState) (n : ℕ) (plan : Plan) (s : own.Seat) → Keeps k words t → IsReady k n → IsGrantedAt k words t n plan s → plan.granted.first.0 ≡ k.committed.state.next.0
+first_is : (k : Kernel) (words : Words) (t : Tables MachineState) (n : ℕ) (plan : Plan) (s : own.Seat) → Keeps k words t → IsReady k n → IsGrantedAt k words t n plan s → plan.granted.first.0 ≡ k.committed.state.next.0
 first_is k words t n plan s h g d =
     ap (λ (e : Entry). e.first) d.plan_is.entry ∙ d.first ∙ ap (λ (x : Index). x.next) (on k words t h g.power).index
 
-pub ids_are : (k : Kernel) (words : Words) (t : Tables MachineState) (n : ℕ) (s : own.Seat) (spawns : List Spawn) → Keeps k words t → IsLawful k words t → (g : IsReady k n) → s ≡ get_or k.seats.items n s → spawns ≡ s.attempt.spawns → k.committed.state.next.0 + length spawns < 4294967296
+ids_are : (k : Kernel) (words : Words) (t : Tables MachineState) (n : ℕ) (s : own.Seat) (spawns : List Spawn) → Keeps k words t → IsLawful k words t → (g : IsReady k n) → s ≡ get_or k.seats.items n s → spawns ≡ s.attempt.spawns → k.committed.state.next.0 + length spawns < 4294967296
 ids_are k words t n s spawns h lawful g at e =
     let o = on k words t h g.power in
     let left = has_ids k words t lawful o.power in
@@ -61,7 +64,7 @@ ids_are k words t n s spawns h lawful g at e =
 spawned : (k : Kernel) (words : Words) (t : Tables MachineState) (n : ℕ) (plan : Plan) (s : own.Seat) (spawns : List Spawn) → (d : IsGrantedAt k words t n plan s) → spawns ≡ s.attempt.spawns → d.finish.run.spawns ≡ map spawn_of spawns
 spawned k words t n plan s spawns d e = ap (λ (r : Run). r.spawns) d.run ∙ ap (map spawn_of) (sym e)
 
-pub records_are : (k : Kernel) (words : Words) (t : Tables MachineState) (n : ℕ) (plan : Plan) (s : own.Seat) (spawns : List Spawn) → Keeps k words t → IsReady k n → IsGrantedAt k words t n plan s → spawns ≡ s.attempt.spawns
+records_are : (k : Kernel) (words : Words) (t : Tables MachineState) (n : ℕ) (plan : Plan) (s : own.Seat) (spawns : List Spawn) → Keeps k words t → IsReady k n → IsGrantedAt k words t n plan s → spawns ≡ s.attempt.spawns
     → length (others_than plan.granted.task.0 (map task_of k.committed.state.tasks.items)) + length spawns ≤ k.set.records
 records_are k words t n plan s spawns h g d e =
     let o = on k words t h g.power in
@@ -77,6 +80,25 @@ records_are k words t n plan s spawns h g d e =
 pub granted_is : (k : Kernel) (words : Words) (t : Tables MachineState) (n : ℕ) (plan : Plan) (s : own.Seat) (spawns : List Spawn) (new : State) → Keeps k words t → IsReady k n → (d : IsGrantedAt k words t n plan s) → spawns ≡ s.attempt.spawns
     → ((i : FinishRecord) → IsGranted plan spawns i → IsAfter plan k.committed.state i new) → index_of new ≡ after_at k words t n d.finish
 granted_is k words t n plan s spawns new h g d e makes = after_is k words t n plan s new h g d (makes d.finish (record { entry = sym d.plan_is.entry; spawned = spawned k words t n plan s spawns d e }))
+
+-- all that is asked before the state after a plan's finish is made
+pub record MayFinish (k : Kernel) (plan : Plan) (spawns : List Spawn) : Type 0 where
+  pub records : length (others_than plan.granted.task.0 (map task_of k.committed.state.tasks.items)) + length spawns ≤ k.set.records
+  pub number : plan.granted.number.0 ≡ k.committed.state.number.0 + 1
+  pub first : plan.granted.first.0 ≡ k.committed.state.next.0
+  pub ids : k.committed.state.next.0 + length spawns < 4294967296
+
+pub may_finish : (k : Kernel) (words : Words) (t : Tables MachineState) (n m : ℕ) (plan : Plan) (s : own.Seat) (spawns : List Spawn) → Keeps k words t → IsLawful k words t → IsReady k n → m ≡ n → s ≡ get_or k.seats.items m s
+    → saves_in k.seats.items ≡ false → IsVerdictOn k n (answer.Granted plan) → spawns ≡ s.attempt.spawns → MayFinish k plan spawns
+may_finish k words t n m plan s spawns h lawful g same found alone v e =
+    let at : s ≡ get_or k.seats.items n s = subst (λ (j : ℕ). s ≡ get_or k.seats.items j s) same found in
+    let d = granted_at k words t n plan s h lawful g at alone v in
+    record {
+      records = records_are k words t n plan s spawns h g d e;
+      number = number_is k words t n plan s h g d;
+      first = first_is k words t n plan s h g d;
+      ids = ids_are k words t n s spawns h lawful g at e;
+    }
 
 -- ---- what the writer is told
 

@@ -55,12 +55,6 @@ has_ids k words t h on =
     let next : t.index.next ≡ next_id h.base h.state.history = ap (λ (u : Tables MachineState). u.index.next) (tables_at x h.base h.last h.represented.0 t words h.state a on) in
     omega (arith, h.ids, h.room, bound, next)
 
--- the number of the last finish is that of the history
-pub has_number : (k : Kernel) (words : Words) (t : Tables MachineState) → IsLawful k words t → t.power ≡ On → t.index.number + 1 < 4294967295
-has_number k words t h on =
-    let number : t.index.number ≡ h.base.number + length h.state.history = ap (λ (u : Tables MachineState). u.index.number) (tables_at (setting_on k.set words) h.base h.last h.represented.0 t words h.state h.represented.1 on) in
-    omega (arith, h.numbers, h.room, number)
-
 -- ---- the core that commits
 
 commits_at : (base : DeviceState) (history : List FinishRecord) (kept : Kept) (index : Index) (n : ℕ) (c : Core MachineState) (i : FinishRecord) (after : Index) (left : ℕ) → seat_of base history kept index n c ≡ Saves i after left → (c ≡ Committing i left) × (after ≡ index_after kept.plan index i)
