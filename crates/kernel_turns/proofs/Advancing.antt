@@ -1,5 +1,5 @@
 -- One step of a try that runs.
-use Rattle.std.proofs.Common.{◌≡◌, ℕ, ◌<◌, ◌++◌, ◌∷◌, Bool, true, false, cond, nat_lt, List, [], get_or, length, map, Option, Some, None, refl, sym, ap, ◌∙◌, subst}
+use Rattle.std.proofs.Common.{◌≡◌, ℕ, ◌<◌, ◌++◌, ◌∷◌, Bool, true, false, cond, nat_lt, List, [], length, Option, Some, None, refl, sym, ap, ◌∙◌, subst}
 use Rattle.std.specs.Prelude.{IsSome, unwrap_or}
 use Rattle.rv_core.specs.State.{MachineState}
 use Rattle.nv_base.specs.declared.ids.CoreId.{CoreId}
@@ -11,11 +11,9 @@ use Rattle.kernel_model.specs.Runs.{Step, Went, Reads, Writes, Spawns, Ends, max
 use Rattle.kernel_model.specs.Turns as turns
 use Rattle.kernel_model.specs.Intervals.{is_empty}
 use Rattle.kernel_model.specs.Cores.{all_but}
-use Rattle.kernel_model.specs.Items.{FinishRecord}
 use Rattle.set_model.specs.Sets.{TaskSet}
 use Rattle.set_model.specs.Views.{line_of}
 use Rattle.device_model.specs.Words.{Words}
-use Rattle.device_model.specs.IndexWords.{Index}
 use Rattle.interval.specs.Ranges.{number_of, range_of}
 use Rattle.slot_model.specs.Tabled.{Place, chosen_place}
 use Rattle.shadow_index.specs.States as states
@@ -31,7 +29,7 @@ use Rattle.vol_copy.specs.Tries.{IsFor, IsSeatAt, IsTry}
 use Rattle.vol_copy.specs.declared.attempt.Stage.TheVariants as stage
 use Rattle.core_seats.specs.declared.seat.Seat as own
 use Rattle.core_seats.specs.Holding.{StandsFor}
-use Rattle.core_seats.specs.Steps.{HasVersions, Leaves, RunsOn, Tells}
+use Rattle.core_seats.specs.Steps.{HasVersions, RunsOn, Tells}
 use Rattle.core_seats.proofs.Standing.{running_try}
 use Rattle.committed_state.proofs.Joined.{count_versions}
 use Rattle.kernel_turns.specs.Commits.{setting_on}
@@ -74,10 +72,10 @@ has_versions k words t n tabled_law chosen_law h l g = record {
         let on = on k words t h g.power in
         let p = version_exists (setting_on k.set words) l.base l.last l.represented.0 t words l.state n found.0 l.represented.1 on.power found.1 (ap is_empty interval ∙ some) o inside in
         let same : newest_before (number_of g.seat.reads.hi) (chain_at k.committed.versions o).stored ≡ Some p.0 =
-            sym (chosen_law (range_of g.seat.reads).hi (chain_at k.committed.versions o))
-            ∙ ap (λ (c : table.Chain). chosen_place (range_of g.seat.reads).hi c.places) (sym (tabled_law k.committed.versions o))
-            ∙ ap (λ (cs : List table.Chain). chosen_place (range_of g.seat.reads).hi (places_at cs o)) (sym on.chains)
-            ∙ ap (λ i. chosen_place i.hi (places_at t.chains o)) (sym interval) ∙ p.1 in
+        sym (chosen_law (range_of g.seat.reads).hi (chain_at k.committed.versions o))
+        ∙ ap (λ (c : table.Chain). chosen_place (range_of g.seat.reads).hi c.places) (sym (tabled_law k.committed.versions o))
+        ∙ ap (λ (cs : List table.Chain). chosen_place (range_of g.seat.reads).hi (places_at cs o)) (sym on.chains)
+        ∙ ap (λ i. chosen_place i.hi (places_at t.chains o)) (sym interval) ∙ p.1 in
         subst IsSome (sym same) refl
 
 -- a step of a try leaves no finish that commits
@@ -121,7 +119,7 @@ turned_by k n s stale told g kept runs says = λ words t h lawful.
     let leaves = runs after n found.0 stands in
     let steps = task_steps k.set in
     let turn : turn_at k words t n ≡ run_step steps (all_tabled k.committed.versions) n found.0 (steps.step found.0.state) =
-        ap (seat_turn (setting_on k.set words) t words (all_but n t.seats) n) found.1 ∙ ap (λ (cs : List table.Chain). run_step steps cs n found.0 (steps.step found.0.state)) (on k words t h g.power).chains in
+    ap (seat_turn (setting_on k.set words) t words (all_but n t.seats) n) found.1 ∙ ap (λ (cs : List table.Chain). run_step steps cs n found.0 (steps.step found.0.state)) (on k words t h g.power).chains in
     subst (λ (u : SeatTurn MachineState). HasTurned (seated k n s) words t n u told) (sym turn)
     (record { keeps = turned k words t n s _ h g.power kept leaves.stands (run_saves_none k.set _ n found.0 _); tells = says found.0 _ tried leaves.tells })
 

@@ -1,18 +1,17 @@
 -- What the tables have of a core, by the stage of its attempt.
-use Rattle.std.proofs.Common.{◌≡◌, ℕ, zero, suc, ◌+◌, ◌<◌, List, [], ◌∷◌, length, set, get_or, Option, Some, None, refl, sym, ap, ◌∙◌, subst, arith}
+use Rattle.std.proofs.Common.{◌≡◌, ℕ, zero, suc, ◌<◌, List, [], ◌∷◌, length, set, get_or, refl, sym, ap, ◌∙◌, subst, arith}
 use Rattle.rv_core.specs.State.{MachineState}
 use Rattle.device_model.specs.Words.{Words}
 use Rattle.interval.specs.Ranges.{range_of}
-use Rattle.nv_base.specs.declared.ids.ObjId.{ObjId}
 use Rattle.nv_base.specs.declared.lines.Line.{Line}
 use Rattle.set_model.specs.Views.{line_of}
 use Rattle.shadow_index.specs.States.{index_of}
-use Rattle.table_machine.specs.Tables.{Seat, Vacant, Runs, Copies, Waits, Try, Tables}
+use Rattle.table_machine.specs.Tables.{Vacant, Tables}
 use Rattle.table_machine.specs.Seats.{SeatTurn}
 use Rattle.vol_copy.specs.Tries.{IsFor, IsSeatAt}
 use Rattle.vol_copy.specs.declared.attempt.Stage.{Stage}
 use Rattle.vol_copy.specs.declared.attempt.Stage.TheVariants as stage
-use Rattle.core_seats.specs.Holding.{IsFromSlot, StandsFor, StandsForBy}
+use Rattle.core_seats.specs.Holding.{IsFromSlot, StandsForBy}
 use Rattle.kernel_turns.specs.Keeping.{IsOn, IsPowered, Keeps}
 use Rattle.kernel_turns.specs.Turns.{HasTurned, IsAtStage, held_at}
 use Rattle.kernel_turns.specs.declared.kernel.Kernel.{Kernel}

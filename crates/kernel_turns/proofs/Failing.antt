@@ -20,7 +20,7 @@ use Rattle.shadow_index.specs.States.{HasTaken, index_of}
 use Rattle.shadow_index.specs.declared.state.State as own_state
 use Rattle.interval.specs.Ranges.{range_of}
 use Rattle.table_machine.specs.Tables.{Seat, Vacant, Saves, Tables}
-use Rattle.table_machine.specs.Events.{saved_by, saved_in, table_step, with_entry}
+use Rattle.table_machine.specs.Events.{saved_by, saved_in, table_step, untold, with_entry}
 use Rattle.table_machine.specs.Configurations.{Configuration, IsRepresented}
 use Rattle.table_machine.proofs.EachImage.{holds, tables_tell}
 use Rattle.table_machine.proofs.Opened.{kind_setting}
@@ -194,3 +194,7 @@ fails k new b found is e entries owed capacity count kept vacant none ready = λ
       };
       tells = refl;
     })
+
+-- what no line has told
+pub told_now : (k : Kernel) (words : Words) (t : Tables MachineState) → Keeps k words t → untold t ≡ entry_if (option_or (whole_in k.seats.items) k.owed)
+told_now k words t h = ap (still_owed (saved_in t.seats)) h.owed ∙ owed_same (whole_in k.seats.items) k.owed (saved_in t.seats) (all_saved k.seats.items (index_of k.committed.after) t.seats h.seats)

@@ -1,12 +1,12 @@
 -- Cores without a task.
-use Rattle.std.proofs.Common.{◌≡◌, ℕ, zero, suc, ◌+◌, List, [], ◌∷◌, ◌++◌, length, replicate, refl, sym, ap, ◌∙◌, length-append, subst, arith}
+use Rattle.std.proofs.Common.{◌≡◌, ℕ, ◌+◌, List, [], ◌∷◌, ◌++◌, length, replicate, sym, ap, length-append, subst, arith}
 use Rattle.std.specs.List.{AllByRecursion}
 use Rattle.set_model.specs.Sets.{TaskSet}
 use Rattle.device_model.specs.IndexWords.{Index}
 use Rattle.table_machine.specs.Tables.{Vacant}
 use Rattle.vol_copy.specs.Tries.{IsFor}
 use Rattle.core_seats.specs.declared.seat.Seat.{Seat}
-use Rattle.core_seats.specs.Holding.{AreSeats, StandsFor}
+use Rattle.core_seats.specs.Holding.{AreSeats}
 use Rattle.kernel_turns.specs.Opening.{AreIdle, IsIdle}
 
 all_idle : (set : TaskSet) (seats : List Seat) (s : Seat) → AllByRecursion (IsIdle set) seats → IsIdle set s → AllByRecursion (IsIdle set) (seats ++ s ∷ [])

@@ -1,24 +1,20 @@
 -- A kernel that begins on a device whose words hold a state.
-use Rattle.std.proofs.Common.{◌≡◌, ◌⊎◌, inl, inr, ℕ, zero, suc, ◌+◌, ◌*◌, ◌<◌, ◌≤◌, ◌++◌, Bool, true, false, nat_eq, List, [], get_or, length, map, replicate, slice_index, Option, None, refl, sym, ap, ◌∙◌, subst, arith}
+use Rattle.std.proofs.Common.{◌≡◌, ◌⊎◌, inl, inr, ℕ, zero, suc, ◌<◌, ◌≤◌, ◌++◌, Bool, true, false, nat_eq, List, [], get_or, length, map, replicate, slice_index, None, refl, sym, ap, ◌∙◌, subst, arith}
 use Rattle.std.specs.Prelude.{vec_capacity}
-use Rattle.std.specs.List.{AllByRecursion}
 use Rattle.std.proofs.lemmas.Bool.{eqb-false, eqb-true}
 use Rattle.fram_dev.specs.Device.{Change, made_in}
 use Rattle.nv_base.specs.Streams.{FaultCounted}
-use Rattle.kernel_model.specs.Items.{FinishRecord}
 use Rattle.rv_core.specs.State.{MachineState}
-use Rattle.nv_base.specs.declared.lines.Entry as base
-use Rattle.kernel_model.specs.Items.{Entry}
 use Rattle.kernel_model.specs.Replay.{max_id}
 use Rattle.kernel_model.specs.Events.{Power, On, opened}
-use Rattle.kernel_model.specs.Fit.{HasIds, IsMachine}
+use Rattle.kernel_model.specs.Fit.{IsMachine}
 use Rattle.set_model.specs.Sets.{TaskSet}
 use Rattle.set_model.specs.Limits.{IsTaskSet}
 use Rattle.set_model.specs.Numbers.{sizes_of}
 use Rattle.set_model.specs.Views.{entry_if, entry_of}
 use Rattle.device_model.specs.Words.{Words}
-use Rattle.device_model.specs.Layouts.{IsKindOf, Kind, Plain, Paged, kind_named, layout_of, magic_of}
-use Rattle.device_model.specs.IndexWords.{Index, IsIndex, base_of}
+use Rattle.device_model.specs.Layouts.{IsKindOf, Plain, Paged, kind_named}
+use Rattle.device_model.specs.IndexWords.{IsIndex, base_of}
 use Rattle.device_model.specs.Decoding.{Held}
 use Rattle.device_model.specs.Decoding as stored
 use Rattle.device_model.specs.Counting.{sizes_on}
@@ -43,9 +39,8 @@ use Rattle.committed_state.specs.Committed.{HasRooms, IsCommitted, chains_in}
 use Rattle.core_seats.specs.Holding.{AreSeats}
 use Rattle.kernel_turns.specs.Commits.{setting_on}
 use Rattle.kernel_turns.specs.Keeping.{IsLawful, IsOn, IsPowered, Keeps}
-use Rattle.kernel_turns.specs.Opening.{AreIdle, IsIdle, IsOpenedOn}
+use Rattle.kernel_turns.specs.Opening.{AreIdle, IsOpenedOn}
 use Rattle.kernel_turns.specs.declared.kernel.Kernel.{Kernel}
-use Rattle.kernel_turns.specs.declared.kernel.Power as own
 use Rattle.kernel_turns.specs.declared.kernel.Power.TheVariants as power
 use Rattle.kernel_turns.proofs.Idle.{idle_kept, vacant_seats}
 

@@ -1,24 +1,22 @@
 -- What the state that the tables stand for says of the tables and of the words.
-use Rattle.std.proofs.Common.{◌≡◌, ℕ, ◌+◌, ◌≤◌, List, [], ◌∷◌, ◌++◌, length, get_or, refl, sym, ap, ap₂, ◌∙◌, subst, arith}
+use Rattle.std.proofs.Common.{◌≡◌, ℕ, ◌≤◌, List, [], ◌∷◌, length, get_or, refl, sym, ap, ap₂, ◌∙◌, subst, arith}
 use Rattle.std.proofs.lemmas.List.{length-append}
 use Rattle.rv_core.specs.State.{MachineState}
 use Rattle.kernel_model.specs.Items.{FinishRecord, entry_of, listing}
 use Rattle.kernel_model.specs.Replay.{DeviceState, max_id, next_id}
 use Rattle.kernel_model.specs.Cores.{Core, Idle, Running, Copying, Ready, Committing, commits}
-use Rattle.kernel_model.specs.Events.{Power, On, Boot, State, Event, CoreStep, event_step}
-use Rattle.kernel_model.specs.Fit.{HasIds}
+use Rattle.kernel_model.specs.Events.{Power, On, Boot, Event, CoreStep, event_step}
 use Rattle.kernel_model.proofs.ForCallers.{history-step, next_sound, sound-ids}
 use Rattle.slot_model.specs.Kept.{Kept}
 use Rattle.set_model.specs.Sets.{TaskSet}
 use Rattle.set_model.specs.Limits.{IsTaskSet}
 use Rattle.device_model.specs.Words.{Words, made}
-use Rattle.device_model.specs.Layouts.{IsKindOf}
 use Rattle.device_model.specs.IndexWords.{Index}
 use Rattle.task_model.specs.TaskSteps.{task_steps}
 use Rattle.table_machine.specs.Tables.{Vacant, Saves, Tables, world_in}
 use Rattle.table_machine.specs.Places.{index_after}
 use Rattle.table_machine.specs.Events.{table_step, step_answer, Answer}
-use Rattle.table_machine.specs.Represents.{Represents, index_of, seat_of, tables_on}
+use Rattle.table_machine.specs.Represents.{index_of, seat_of, tables_on}
 use Rattle.table_machine.specs.Simulates.{IsSetting, Simulates}
 use Rattle.table_machine.proofs.SeatLists.{seat_at}
 use Rattle.table_machine.proofs.Opened.{kind_setting}

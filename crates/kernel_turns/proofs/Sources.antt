@@ -1,6 +1,5 @@
 -- Where a try copies from, and what a word makes of it.
-use Rattle.std.proofs.Common.{◌≡◌, ℕ, ◌+◌, ◌<◌, ◌≤◌, ◌++◌, Bool, true, false, cond, nat_lt, List, [], ◌∷◌, get_or, length, take, Option, Some, None, refl, sym, ap, ap₂, ◌∙◌, subst, arith}
-use Rattle.std.specs.List.{AllByRecursion}
+use Rattle.std.proofs.Common.{◌≡◌, ℕ, ◌+◌, ◌<◌, ◌++◌, Bool, true, false, cond, nat_lt, List, [], ◌∷◌, get_or, length, take, Option, refl, sym, ap, ap₂, ◌∙◌, subst}
 use Rattle.rv_core.specs.State.{MachineState}
 use Rattle.nv_base.specs.declared.ids.ObjId.{ObjId}
 use Rattle.nv_base.specs.declared.lines.Line.TheVariants as line
@@ -9,11 +8,9 @@ use Rattle.kernel_model.specs.Replay.{DeviceState}
 use Rattle.kernel_model.specs.Versions.{Read, read_words}
 use Rattle.kernel_model.specs.Cores.{Attempt, Core, Idle, Running, Copying, Ready, Committing, all_but}
 use Rattle.kernel_model.specs.Events.{On, State}
-use Rattle.kernel_model.specs.Sound.{IsSoundCore}
-use Rattle.kernel_model.specs.Turns as turns
 use Rattle.slot_model.specs.Kept.{Kept}
 use Rattle.slot_model.proofs.ForCallers.{copied_stands}
-use Rattle.set_model.specs.Sets.{TaskSet, object_at}
+use Rattle.set_model.specs.Sets.{object_at}
 use Rattle.device_model.specs.Words.{Words}
 use Rattle.device_model.specs.IndexWords.{Index}
 use Rattle.device_model.specs.Layouts.{slot_place}
@@ -22,11 +19,11 @@ use Rattle.device_model.proofs.ForCallers.{slot_place-high}
 use Rattle.interval.specs.Ranges.{range_of}
 use Rattle.shadow_index.specs.States as states
 use Rattle.recovery.specs.Images.{device_at}
-use Rattle.table_machine.specs.Tables.{Copy, Seat, Vacant, Copies, Runs, Saves, Try, Setting, Tables, sizes_in, world_in}
+use Rattle.table_machine.specs.Tables.{Copy, Vacant, Copies, Runs, Try, Setting, Tables, sizes_in}
 use Rattle.table_machine.specs.Seats.{SeatTurn, copy_word, given_words, seat_turn, still}
-use Rattle.table_machine.specs.Represents.{Agrees, Ghost, begun_copies, index_of, seat_of, slots_in, tables_on, try_of}
+use Rattle.table_machine.specs.Represents.{Agrees, Ghost, begun_copies, index_of, seat_of, slots_in, try_of}
 use Rattle.table_machine.proofs.SeatLists.{seat_at}
-use Rattle.vol_copy.specs.Tries.{IsCopyingTry, IsFor, IsForAt, IsSeatAt}
+use Rattle.vol_copy.specs.Tries.{IsFor, IsForAt, IsSeatAt}
 use Rattle.vol_copy.specs.Stages.{IsCopying}
 use Rattle.vol_copy.specs.Doings.{doing_in}
 use Rattle.vol_copy.specs.declared.doing.Doing.TheVariants as doing

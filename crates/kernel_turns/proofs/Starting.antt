@@ -1,5 +1,5 @@
 -- A core without a task takes one.
-use Rattle.std.proofs.Common.{◌≡◌, ℕ, ◌<◌, Bool, true, false, not, cond, List, [], ◌∷◌, get_or, length, map, Option, Some, None, refl, sym, ap, ◌∙◌, subst}
+use Rattle.std.proofs.Common.{◌≡◌, ℕ, ◌<◌, Bool, true, false, not, cond, List, [], ◌∷◌, get_or, length, Option, Some, None, refl, sym, ap, ◌∙◌, subst}
 use Rattle.std.specs.Option.{option_map}
 use Rattle.std.specs.List.{AllByRecursion}
 use Rattle.rv_core.specs.State.{MachineState}
@@ -22,8 +22,8 @@ use Rattle.core_seats.specs.declared.seat.Seat as own
 use Rattle.core_seats.specs.Holding.{AreSeats, StandsFor}
 use Rattle.core_seats.specs.Others.{tasks_in}
 use Rattle.kernel_turns.specs.Commits.{setting_on}
-use Rattle.kernel_turns.specs.Keeping.{IsLawful, Keeps}
-use Rattle.kernel_turns.specs.Turns.{HasTurned, IsAtStage, SeatTurns, held_at, turn_at}
+use Rattle.kernel_turns.specs.Keeping.{Keeps}
+use Rattle.kernel_turns.specs.Turns.{HasTurned, IsAtStage, SeatTurns, turn_at}
 use Rattle.kernel_turns.specs.declared.kernel.Kernel.{Kernel}
 use Rattle.kernel_turns.specs.declared.kernel.Power.TheVariants as power
 use Rattle.kernel_turns.proofs.Turned.{seated, turned}
@@ -41,8 +41,8 @@ start_turn k words t n ids found law h g e f =
     let o = on k words t h g.power in
     let tasks : k.committed.queue.tasks ≡ t.index.tasks = ap (λ (q : queues.Queued). q.tasks) o.committed.queue ∙ ap (λ (x : Index). x.tasks) (sym o.index) in
     let ready : next_ready (all_but n t.seats) t.index.tasks ≡ option_map task_of found =
-        law k.seats.items (index_of k.committed.after) t.seats n t.index.tasks h.seats (ap task_on vacant)
-        ∙ ap (λ (xs : List ℕ). queues.next_ready xs t.index.tasks) (sym e) ∙ ap (queues.next_ready ids) (sym tasks) ∙ sym f in
+    law k.seats.items (index_of k.committed.after) t.seats n t.index.tasks h.seats (ap task_on vacant)
+    ∙ ap (λ (xs : List ℕ). queues.next_ready xs t.index.tasks) (sym e) ∙ ap (queues.next_ready ids) (sym tasks) ∙ sym f in
     ap (seat_turn (setting_on k.set words) t words (all_but n t.seats) n) vacant
     ∙ ap (start_try (task_steps k.set) t.index.clock n) ready
     ∙ ap (λ (x : Index). start_try (task_steps k.set) x.clock n (option_map task_of found)) o.index

@@ -1,5 +1,5 @@
 -- One event: the arms of a core's step and a failure, as the tables have them.
-use Rattle.std.proofs.Common.{◌≡◌, ◌⊎◌, inl, inr, ⊎_elim, Bool, true, ◌+◌, ◌≤◌, ◌<◌, ℕ, List, [], ◌∷◌, ◌++◌, length, set, get_or, is_some, false, Some, None, Result, Ok, Err, OnErr, OnOk, refl, sym, ap, ◌∙◌, subst, arith}
+use Rattle.std.proofs.Common.{◌≡◌, ◌⊎◌, inl, inr, ⊎_elim, Bool, true, ◌+◌, ◌≤◌, ◌<◌, ℕ, List, [], ◌++◌, length, set, get_or, is_some, false, Some, None, Result, Ok, Err, OnErr, OnOk, refl, sym, ap, ◌∙◌, subst, arith}
 use Rattle.std.proofs.lemmas.List.{append-nil, length-map}
 use Rattle.rv_core.specs.State.{MachineState}
 use Rattle.nv_base.specs.declared.lines.Line.{Line}
@@ -14,7 +14,7 @@ use Rattle.power_trace.specs.declared.event.Event.TheVariants as event
 use Rattle.device_model.specs.Words.{Change, Words, made}
 use Rattle.table_machine.specs.Tables.{Seat, Vacant, Runs, Copies, Waits, Saves, Setting, Tables, world_in}
 use Rattle.table_machine.specs.Seats.{SeatTurn, saves}
-use Rattle.table_machine.specs.Events.{Answer, joined, table_step, written_by}
+use Rattle.table_machine.specs.Events.{Answer, joined, written_by}
 use Rattle.table_machine.proofs.EachImage.{tables_tell}
 use Rattle.shadow_index.specs.States.{index_of}
 use Rattle.recovery.specs.declared.boot.Boot.{Boot}
@@ -66,7 +66,7 @@ tried k words t n P h g =
     let after = index_of k.committed.after in
     step_is k words t n (on k words t h g.power).power
     ∙ no_save (setting_on k.set words) t n (turn_at k words t n) (held_at t n)
-      (saves_same g.seat after (held_at t n) (seat_at k.seats.items after t.seats n g.seat h.seats g.inside g.seat_is) ∙ ap is_some g.trying)
+    (saves_same g.seat after (held_at t n) (seat_at k.seats.items after t.seats n g.seat h.seats g.inside g.seat_is) ∙ ap is_some g.trying)
 
 pub try_steps : (old new : Kernel) (words : Words) (n : ℕ) (P : Stage → Type 0) (line : Line) → IsAtStage old n P → TurnsOn words old n new line → Steps old n words new words line
 unfolding TurnsOn Steps

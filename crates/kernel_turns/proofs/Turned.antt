@@ -1,12 +1,11 @@
 -- One core's seat changes, and all else stays.
-use Rattle.std.proofs.Common.{◌≡◌, ℕ, zero, suc, ◌+◌, ◌<◌, ◌≤◌, Bool, true, false, nat_eq, List, [], ◌∷◌, length, set, get_or, Option, Some, None, refl, sym, ap, ◌∙◌, subst, arith, get_or-set_other, get_or-set_same}
+use Rattle.std.proofs.Common.{◌≡◌, ℕ, zero, suc, ◌<◌, Bool, true, false, nat_eq, List, [], ◌∷◌, length, set, get_or, refl, sym, ap, ◌∙◌, subst, arith, get_or-set_other, get_or-set_same}
 use Rattle.std.specs.Vec.{with_item}
 use Rattle.std.proofs.lemmas.Bool.{eqb-false, eqb-true}
 use Rattle.std.specs.List.{AllByRecursion}
 use Rattle.std.proofs.lemmas.List.{length-set}
 use Rattle.rv_core.specs.State.{MachineState}
 use Rattle.kernel_model.specs.Items.{FinishRecord}
-use Rattle.set_model.specs.Sets.{TaskSet}
 use Rattle.device_model.specs.Words.{Words}
 use Rattle.device_model.specs.IndexWords.{Index}
 use Rattle.shadow_index.specs.States.{index_of}
@@ -15,7 +14,7 @@ use Rattle.vol_copy.specs.Tries.{IsFor}
 use Rattle.core_seats.specs.declared.seat.Seat as own
 use Rattle.core_seats.specs.Holding.{AreSeats, StandsFor}
 use Rattle.kernel_turns.specs.Commits.{IsCommitting}
-use Rattle.kernel_turns.specs.Keeping.{IsInBoot, IsOn, IsPowered, IsSeatNumber, Keeps}
+use Rattle.kernel_turns.specs.Keeping.{IsOn, IsPowered, IsSeatNumber, Keeps}
 use Rattle.kernel_turns.specs.declared.kernel.Kernel.{Kernel}
 use Rattle.kernel_turns.specs.declared.kernel.Power.{Power}
 use Rattle.kernel_turns.specs.declared.kernel.Power.TheVariants as power

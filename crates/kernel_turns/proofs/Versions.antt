@@ -1,10 +1,7 @@
 -- A try whose interval of reads is not empty finds a version of each object.
-use Rattle.std.proofs.Common.{◌≡◌, ℕ, ◌<◌, Bool, false, List, get_or, length, Option, Some, None, refl, sym, ap, ◌∙◌, subst}
-use Rattle.std.specs.Prelude.{IsSome}
-use Rattle.rv_core.specs.State.{MachineState}
+use Rattle.std.proofs.Common.{◌≡◌, ℕ, ◌<◌, false, List, get_or, length, Option, Some, refl, sym, ap, ◌∙◌, subst}
 use Rattle.kernel_model.specs.Items.{Entry, FinishRecord}
 use Rattle.kernel_model.specs.Replay.{DeviceState}
-use Rattle.kernel_model.specs.Versions.{Version, chosen, versions}
 use Rattle.kernel_model.specs.Intervals.{Interval, is_empty, read_interval}
 use Rattle.kernel_model.specs.Cores.{Attempt, Core, Idle, Running, Copying, Ready, Committing}
 use Rattle.kernel_model.specs.Room.{interval_of}
@@ -16,9 +13,9 @@ use Rattle.slot_model.specs.Tabled.{Place, chosen_place}
 use Rattle.slot_model.proofs.ForCallers.{read_at}
 use Rattle.device_model.specs.Words.{Words}
 use Rattle.device_model.specs.IndexWords.{Index}
-use Rattle.table_machine.specs.Tables.{Seat, Vacant, Runs, Try, Setting, Tables, sizes_in, world_in}
+use Rattle.table_machine.specs.Tables.{Vacant, Runs, Try, Setting, Tables, sizes_in, world_in}
 use Rattle.table_machine.specs.Places.{places_at, seen_in}
-use Rattle.table_machine.specs.Represents.{Agrees, Ghost, chains_of, copies_of, index_of, seat_of, seats_of, slots_in, tables_of, tables_on, try_of}
+use Rattle.table_machine.specs.Represents.{Agrees, Ghost, chains_of, copies_of, index_of, seat_of, slots_in, tables_on, try_of}
 use Rattle.table_machine.proofs.SeatLists.{seat_at}
 use Rattle.table_machine.proofs.OnPower.{are_tables}
 

@@ -1,5 +1,5 @@
 -- Which tables a kernel stands for, on which device words. This project's own.
-use Rattle.std.specs.Prelude.{◌≡◌, ℕ, ◌+◌, ◌-◌, ◌<◌, ◌≤◌, List, [], length, map, get_or, vec_capacity, Option}
+use Rattle.std.specs.Prelude.{◌≡◌, ℕ, ◌+◌, ◌<◌, ◌≤◌, List, [], length, map, get_or, vec_capacity, Option}
 use Rattle.std.specs.List.{AllByRecursion}
 use Rattle.rv_core.specs.State.{MachineState}
 use Rattle.nv_base.specs.declared.limits.TheConstants.{MAX_CORES}
@@ -7,7 +7,6 @@ use Rattle.kernel_model.specs.Items.{Entry, FinishRecord}
 use Rattle.kernel_model.specs.Replay.{DeviceState}
 use Rattle.kernel_model.specs.Events.{On, Boot, State}
 use Rattle.kernel_model.specs.Fit.{HasIds}
-use Rattle.set_model.specs.Sets.{TaskSet}
 use Rattle.set_model.specs.Limits.{IsTaskSet}
 use Rattle.set_model.specs.Views.{entry_if, entry_of}
 use Rattle.device_model.specs.Words.{Words}

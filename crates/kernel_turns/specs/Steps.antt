@@ -3,7 +3,6 @@ use Rattle.std.specs.Prelude.{◌≡◌, ◌⊎◌, ℕ, List, ◌++◌}
 use Rattle.rv_core.specs.State.{MachineState}
 use Rattle.nv_base.specs.declared.lines.Line.{Line}
 use Rattle.kernel_model.specs.Events.{CoreStep}
-use Rattle.set_model.specs.Views.{line_of}
 use Rattle.device_model.specs.Words.{Change, Words, made}
 use Rattle.table_machine.specs.Tables.{Tables}
 use Rattle.table_machine.specs.Events.{Answer, table_step}

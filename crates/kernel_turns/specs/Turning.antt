@@ -1,8 +1,7 @@
 -- What an event makes of a kernel over a device, and what it writes. This project's own.
-use Rattle.std.specs.Prelude.{◌≡◌, ◌⊎◌, ◌<◌, List, length, ◌++◌}
+use Rattle.std.specs.Prelude.{◌≡◌, ◌⊎◌, ◌<◌, List, ◌++◌}
 use Rattle.rv_core.specs.State.{MachineState}
 use Rattle.nv_base.specs.declared.lines.Line.{Line}
-use Rattle.kernel_model.specs.Events as model
 use Rattle.power_trace.specs.Events.{event_of}
 use Rattle.power_trace.specs.declared.event.Event.{Event}
 use Rattle.power_trace.specs.declared.event.Event.TheVariants as event

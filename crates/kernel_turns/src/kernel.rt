@@ -1,8 +1,8 @@
 //! The kernel of one to eight cores over a device: what it keeps.
 
+use commit_writer::Writer;
 use committed_state::Committed;
 use core_seats::Seat;
-use commit_writer::Writer;
 use nv_base::Entry;
 use recovery::Boot;
 use shadow_index::Layout;

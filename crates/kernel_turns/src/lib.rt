@@ -1,14 +1,16 @@
 //! The kernel of one to eight cores over a device: each turn is one event.
 #![tactic(auto)]
 
-mod copying;
 mod commit;
+mod copying;
 mod kernel;
 mod open;
-mod running;
 mod power;
+mod running;
 mod start;
+mod told;
 mod turn;
 mod verdict;
 
 pub use kernel::Kernel;
+pub use open::OpenRefusal;

@@ -1,6 +1,6 @@
 //! A kernel takes all its memory, and begins on a device.
 
-ghost use Rattle.std.specs.Prelude.{◌≡◌, ◌≤◌, ◌++◌, ℕ, IfOk, OnErr, OnOk, length};
+ghost use Rattle.std.specs.Prelude.{◌≡◌, ◌≢◌, ◌<◌, ◌≤◌, ◌++◌, ℕ, IfOk, IsErr, OnErr, OnOk, false, length};
 ghost use Rattle.nv_base.specs.Streams.{FaultCounted};
 ghost use Rattle.device_model.specs.Devices.{first_on, format_on, need_on};
 ghost use Rattle.shadow_index.specs.Tells.{device_of};
@@ -10,6 +10,7 @@ ghost use Rattle.table_machine.specs.Tables.{Vacant};
 ghost use Rattle.vol_copy.specs.Tries.{IsFor};
 ghost use Rattle.core_seats.specs.Holding.{StandsFor};
 ghost use Rattle.kernel_turns.specs.Opening.{AreIdle, HasRoomFor, IsOpenedOn};
+ghost use Rattle.kernel_turns.specs.Steps.{KeepsSet};
 
 use crate::kernel::{Kernel, Power};
 use commit_writer::Writer;
@@ -23,13 +24,70 @@ use nv_base::limits::MAX_EVENTS;
 use recovery::laws::words_hold_one_state;
 use recovery::read_state;
 use rv_core::Machine;
-use shadow_index::Layout;
+use shadow_index::{Layout, need};
 use std::alloc::Global;
 use table_machine::events::{device_is_setting, opened_tables_represent};
 use task_model::laws::tasks_are_a_machine;
 use task_set::TaskSet;
 
+/// Why no kernel begins on a device.
+#[derive(Clone, Copy, PartialEq, Eq, Debug)]
+pub enum OpenRefusal {
+    /// The device has fewer words than the set needs. Nothing was written.
+    Small {
+        /// How many words the set needs.
+        need: u32,
+        /// How many words the device has.
+        len: u32,
+    },
+    /// There is not memory enough. Nothing was written.
+    NoMemory,
+    /// The device lost a call.
+    Lost,
+}
+
 impl Kernel {
+    /// Formats a device, and begins on it, with room for so many finishes. All memory is taken here, before the first
+    /// write. `Small` where the device has too few words, else `NoMemory` where there is not memory enough: nothing is
+    /// written then. `Lost` where the device lost a call.
+    pub fn open_fresh<F: Fram>(
+        alloc: Global,
+        dev: &mut F,
+        set: TaskSet,
+        room: u32,
+    ) -> Result<Kernel, OpenRefusal>
+        requires { room ≤ MAX_EVENTS }
+        ensures opened { let words = words_of (F.log dev.new) (F.start dev.new) in
+            IfOk result (λ k. IsOpenedOn k words (first_on (device_of set 0))) }
+        ensures set { IfOk result (λ k. (k.set ≡ set) × (k.room ≡ room) × (k.lost ≡ false)) }
+        ensures written { OnOk result
+            (F.log dev.new ≡ F.log dev.old ++ format_on (device_of set 0)) }
+        ensures small { let need = need_on (device_of set 0) in
+            let len = length (F.start dev.old) in
+            len < need → result ≡ Err (OpenRefusal.Small need len) }
+        ensures large { need_on (device_of set 0) ≤ length (F.start dev.old)
+            → (need len : ℕ) → result ≢ Err (OpenRefusal.Small need len) }
+        ensures unwritten { result ≢ Err OpenRefusal.Lost → IsErr result
+            → (F.log dev.new ≡ F.log dev.old) × (F.lost dev.new ≡ F.lost dev.old) }
+        ensures failed { result ≡ Err OpenRefusal.Lost
+            → FaultCounted (F.lost dev.old) (F.lost dev.new) }
+        ensures start { F.start dev.new ≡ F.start dev.old }
+        ensures never_falls { F.lost dev.old ≤ F.lost dev.new }
+    {
+        let need = need(&set);
+        let len = dev.len();
+        if len < need {
+            return Err(OpenRefusal::Small { need, len });
+        }
+        let Ok(mut kernel) = Kernel::with_room(alloc, set, room) else {
+            return Err(OpenRefusal::NoMemory);
+        };
+        let Ok(()) = kernel.begin_fresh(dev) else {
+            return Err(OpenRefusal::Lost);
+        };
+        Ok(kernel)
+    }
+
     /// A kernel of a set, with room for so many finishes, on no device yet. All memory is taken here; `NoMemory` where
     /// there is none.
     pub(crate) fn with_room(alloc: Global, set: TaskSet, room: u32) -> Result<Kernel, NoMemory>
@@ -61,7 +119,8 @@ impl Kernel {
         requires long { need_on (device_of self.old.set 0) ≤ length (F.start dev.old) }
         ensures opened { let words = words_of (F.log dev.new) (F.start dev.new) in
             OnOk result (IsOpenedOn self.new words (first_on (device_of self.old.set 0))) }
-        ensures set { self.new.set ≡ self.old.set }
+        ensures rest { KeepsSet self.old self.new }
+        ensures live { self.new.lost ≡ self.old.lost }
         ensures written { OnOk result
             (F.log dev.new ≡ F.log dev.old ++ format_on (device_of self.old.set 0)) }
         ensures start { F.start dev.new ≡ F.start dev.old }

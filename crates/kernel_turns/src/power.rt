@@ -144,7 +144,7 @@ fn clear_all(seats: &mut Vec<Seat>)
 }
 
 // The finish whose writes are all made, if there is one.
-fn whole_among(seats: &[Seat]) -> Option<Entry>
+pub(crate) fn whole_among(seats: &[Seat]) -> Option<Entry>
     ensures { result ≡ whole_in seats.now }
 {
     for seat in seats {

@@ -1,7 +1,6 @@
-use Rattle.std.proofs.Common.{◌≡◌, ℕ, List, ◌∙◌, ap, length, refl, sym, subst, arith}
-use Rattle.std.specs.List.{AllByRecursion}
+use Rattle.std.proofs.Common.{ℕ, List, refl, sym, subst, arith}
 use Rattle.core_seats.specs.declared.seat.Seat.{Seat}
-use Rattle.kernel_turns.specs.Opening.{AreIdle, IsIdle}
+use Rattle.kernel_turns.specs.Opening.{AreIdle}
 use Rattle.kernel_turns.proofs.Idle.{idle_more}
 use Rattle.kernel_turns.proofs.open.idle_seats.Goals as goal
 

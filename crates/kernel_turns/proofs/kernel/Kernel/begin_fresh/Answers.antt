@@ -1,20 +1,17 @@
-use Rattle.std.proofs.Common.{◌≡◌, ◌≤◌, ℕ, List, length, refl, sym, ap, ◌∙◌, subst, arith}
-use Rattle.set_model.specs.Sets.{TaskSet}
+use Rattle.std.proofs.Common.{◌≤◌, ℕ, List, length, sym, ap, ◌∙◌, subst, arith}
 use Rattle.set_model.proofs.ForCallers.{few_records}
 use Rattle.device_model.specs.IndexWords.{Index}
 use Rattle.device_model.specs.Layouts.{IsKindOf}
 use Rattle.device_model.specs.Devices.{Device, HoldsOn, first_on, need_on}
 use Rattle.fram_dev.specs.Device.{Change}
-use Rattle.shadow_index.specs.States.{index_of}
 use Rattle.shadow_index.specs.Tells.{IsLayoutOf, IsShift, device_of}
 use Rattle.shadow_index.specs.declared.state.State.{State}
 use Rattle.recovery.specs.Images.{IsStateOn, device_at, words_of}
-use Rattle.recovery.specs.Reading.{IsRefused}
 use Rattle.table_machine.specs.Events.{reopened}
 use Rattle.committed_state.specs.Committed.{HasRooms}
-use Rattle.kernel_turns.specs.Opening.{HasRoomFor, IsOpenedOn}
+use Rattle.kernel_turns.specs.Opening.{IsOpenedOn}
 use Rattle.kernel_turns.specs.declared.kernel.Kernel.{Kernel}
-use Rattle.kernel_turns.proofs.Opened.{HasBegun, IsFormatted, begun, counted_later, first_kind_of, formatted, lost_read, own_of, read_first, read_index_fits}
+use Rattle.kernel_turns.proofs.Opened.{HasBegun, begun, counted_later, first_kind_of, formatted, lost_read, own_of, read_first, read_index_fits}
 use Rattle.kernel_turns.proofs.kernel.Kernel.begin_fresh.Goals as goal
 
 pub read_state-requires-clause-own : goal.read_state-requires-clause-own
@@ -40,9 +37,11 @@ pub reopen-requires : goal.reopen-requires
 reopen-requires g c =
     let k = c.args.self.now in
     let set = k.set in
-    let f = formatted set (g.F.Fram.start c.args.dev.now) (g.F.Fram.start c.format.new.dev) _ _ c.whole_format_holds_first.ensures c.words_hold_one_state.ensures.device c.requires.room.2.limits c.requires.long c.format.ensures.same c.in-Ok.ensures.whole in
-    (set, record { limits = c.requires.room.2.limits; state = c.requires.room.2.rooms.state; after = c.read_state.ensures.room; slots = c.requires.room.2.rooms.slots; records = c.requires.room.2.rooms.records },
-    read_index_fits set _ _ c.read_state.new.into c.words_hold_one_state.ensures.once c.requires.room.2.limits f c.in-Ok-read_state.ensures.held)
+    let f = formatted set (g.F.Fram.start c.args.dev.now) (g.F.Fram.start c.format.new.dev) _ _ c.whole_format_holds_first.ensures c.words_hold_one_state.ensures.device c.requires.room.2.limits c.requires.long c.format.ensures.same c.in-Ok.ensures.whole in (
+      set,
+      record { limits = c.requires.room.2.limits; state = c.requires.room.2.rooms.state; after = c.read_state.ensures.room; slots = c.requires.room.2.rooms.slots; records = c.requires.room.2.rooms.records },
+      read_index_fits set _ _ c.read_state.new.into c.words_hold_one_state.ensures.once c.requires.room.2.limits f c.in-Ok-read_state.ensures.held,
+    )
 
 pub returns-clause-opened : goal.returns-clause-opened
 returns-clause-opened g c =

@@ -1,4 +1,4 @@
-use Rattle.std.proofs.Common.{◌≡◌, ◌<◌, ℕ, ◌+◌, refl, sym, ap, ◌∙◌, subst, arith}
+use Rattle.std.proofs.Common.{◌<◌, ℕ, ◌+◌, refl, sym, ap, ◌∙◌, subst, arith}
 use Rattle.set_model.specs.Sets.{object_at}
 use Rattle.device_model.specs.Layouts.{slot_place}
 use Rattle.device_model.specs.Devices.{layout_on}

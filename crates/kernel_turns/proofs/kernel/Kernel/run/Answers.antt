@@ -1,4 +1,4 @@
-use Rattle.std.proofs.Common.{◌≡◌, ℕ, None, Some, sym, ap, ◌∙◌, subst, refl}
+use Rattle.std.proofs.Common.{ℕ, None, Some, sym, ap, ◌∙◌, subst, refl}
 use Rattle.core_seats.specs.declared.seat.Seat as own
 use Rattle.core_seats.specs.Steps.{HasVersions, RunsOn}
 use Rattle.nv_base.specs.declared.lines.Line.TheVariants as line

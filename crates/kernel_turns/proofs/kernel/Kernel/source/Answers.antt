@@ -1,6 +1,5 @@
-use Rattle.std.proofs.Common.{◌≡◌, ◌+◌, ◌<◌, ◌∙◌, length, sym, ap, arith, subst}
-use Rattle.device_model.specs.Devices.{Device, layout_on, need_on}
-use Rattle.device_model.specs.Layouts.{slot_place}
+use Rattle.std.proofs.Common.{◌<◌, length, sym, arith, subst}
+use Rattle.device_model.specs.Devices.{layout_on}
 use Rattle.set_model.specs.Sets.{TaskSet, object_at}
 use Rattle.device_model.proofs.ForCallers.{slot_place-high}
 use Rattle.kernel_turns.proofs.kernel.Kernel.source.Goals as goal

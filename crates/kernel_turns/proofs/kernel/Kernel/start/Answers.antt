@@ -1,4 +1,4 @@
-use Rattle.std.proofs.Common.{◌≡◌, ℕ, sym, ap, ◌∙◌, subst, refl}
+use Rattle.std.proofs.Common.{ℕ, sym, ap, ◌∙◌, subst, refl}
 use Rattle.core_seats.specs.Others.{tasks_in}
 use Rattle.nv_base.specs.declared.lines.Line.TheVariants as line
 use Rattle.kernel_turns.specs.Turns.{SeatTurns}
