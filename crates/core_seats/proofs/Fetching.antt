@@ -39,6 +39,6 @@ is_read chains old new o v h e f interval slot opens = λ after n t m tried rang
     let u : Try MachineState = record t { interval = with_place p t.interval; copies = record { object = o.0; words = [] } ∷ t.copies; state = m } in
     let copying = opens.1 (record t { state = m }) (with_place p t.interval) tried in
     let named = subst (λ (k : ℕ). let w : Try MachineState = record t { interval = with_place p t.interval; copies = record { object = k; words = [] } ∷ t.copies; state = m } in IsSeatAt new.attempt (range_of new.reads) (stage.Copying v.object f.0 0) (Copies w p.slot)) h.named
-        (_, p.slot, copying, ap (with_place p) range ∙ sym (interval p h.version), refl) in
+    (_, p.slot, copying, ap (with_place p) range ∙ sym (interval p h.version), refl) in
     let stands = subst (λ s. IsSeatAt new.attempt (range_of new.reads) s (Copies u p.slot)) (sym stage_is) named in
     leaves_still new after n t.task (Copies u p.slot) _ (h.fetched n t m range) (subst (λ w. StandsForBy new after w (Copies u p.slot)) (sym e) (stands, sym h.version.slot ∙ sym slot))
