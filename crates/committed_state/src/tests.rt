@@ -114,7 +114,7 @@ fn a_state_that_was_read_is_reopened(rt: HostRuntime) -> Result<(), Fail> {
         program: ProgId(0),
         arg,
     };
-    assert!(rt; kept.queue.open_tasks() == &[task(4, 11), task(8, 12)]);
+    assert!(rt; kept.queue.open_tasks() == [task(4, 11), task(8, 12)].as_slice());
     assert!(rt; kept.queue.next() == TaskId(9) && kept.state.clock == Point(5));
     assert!(rt; kept.after.clock == Point(0) && kept.after.tasks.len() == 0);
     Ok(())

@@ -8,5 +8,5 @@ abbrev pub invariant-loop-i : goal.invariant-loop-i
 invariant-loop-i l = record {
   taken : HasTaken l.set l.i l.into;
   words : (k : ℕ) → k < l.i → word_of l.into k ≡ slice_index l.words k;
-  faultless : (k : ℕ) → k < l.i → is_faulty l.set (slice_index l.words) k (slice_index l.words k) ≡ false
+  faultless : (k : ℕ) → k < l.i → is_faulty l.set (slice_index l.words) k (slice_index l.words k) ≡ false;
 }
