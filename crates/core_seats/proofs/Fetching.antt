@@ -1,21 +1,18 @@
 -- An outside read: its version, or none.
-use Rattle.std.proofs.Common.{◌≡◌, ℕ, List, [], ◌∷◌, Option, Some, None, refl, sym, ap, ◌∙◌, subst}
+use Rattle.std.proofs.Common.{◌≡◌, ℕ, List, [], ◌∷◌, Some, None, refl, sym, ap, ◌∙◌, subst}
 use Rattle.rv_core.specs.State.{MachineState}
 use Rattle.nv_base.specs.declared.ids.ObjId.{ObjId}
 use Rattle.device_model.specs.IndexWords.{Index}
 use Rattle.interval.specs.Ranges.{range_of}
-use Rattle.interval.specs.declared.ranges.Interval.{Interval}
 use Rattle.interval.specs.declared.version.Version.{Version}
 use Rattle.slot_model.specs.Tabled.{Place, with_place}
-use Rattle.table_machine.specs.Tables.{Copy, Try, Copies, Vacant}
+use Rattle.table_machine.specs.Tables.{Try, Copies, Vacant}
 use Rattle.ver_table.specs.Chains.{Chain}
-use Rattle.ver_table.specs.Tabled.{all_tabled}
 use Rattle.validate.specs.Reading.{IsAdmitted, IsStale, IsVersionAt}
 use Rattle.validate.specs.declared.reading.Stale.{Stale}
 use Rattle.vol_copy.specs.Stages.{IsFetching}
-use Rattle.vol_copy.specs.Tries.{IsSeatAt, IsTry}
+use Rattle.vol_copy.specs.Tries.{IsSeatAt}
 use Rattle.vol_copy.specs.Turns.{OpensRead}
-use Rattle.vol_copy.specs.declared.attempt.Attempt.{Attempt}
 use Rattle.vol_copy.specs.declared.attempt.Stage.TheVariants as stage
 use Rattle.core_seats.specs.Holding.{StandsFor, StandsForBy}
 use Rattle.core_seats.specs.Steps.{Fetches, Leaves}

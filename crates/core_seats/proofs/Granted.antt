@@ -1,5 +1,5 @@
 -- A finish that is granted, all of whose writes are made, and one that joins on another core.
-use Rattle.std.proofs.Common.{◌≡◌, ℕ, zero, suc, ◌+◌, ◌<◌, ◌≤◌, ◌&&◌, ◌||◌, ◌==◌, Bool, true, false, List, [], ◌∷◌, Option, Some, None, refl, sym, ap, ◌∙◌, subst, arith, below_more}
+use Rattle.std.proofs.Common.{◌≡◌, ℕ, ◌+◌, ◌<◌, ◌||◌, ◌==◌, Bool, true, false, List, [], ◌∷◌, Option, Some, None, refl, sym, ap, ◌∙◌, subst, arith, below_more}
 use Rattle.std.specs.Prelude.{is_some}
 use Rattle.std.specs.List.{list_any}
 use Rattle.std.proofs.lemmas.Bool.{eq-eqb, eqb-true}
@@ -20,7 +20,7 @@ use Rattle.vol_copy.specs.declared.attempt.Attempt.{Attempt}
 use Rattle.vol_copy.specs.Tries.{IsSeat, has_read}
 use Rattle.core_seats.specs.declared.seat.Seat.{Seat}
 use Rattle.core_seats.specs.declared.seat.Saving.{Saving}
-use Rattle.core_seats.specs.Holding.{IsFromSlot, IsSaving, StandsFor, StandsForBy}
+use Rattle.core_seats.specs.Holding.{IsFromSlot, StandsForBy}
 use Rattle.core_seats.specs.Steps.{Completes, Grants, IsCutBy}
 
 pub grants : (s : Seat) (e : Entry) → Grants s e (record s { saving = Some (record { entry = e; is_whole = false }) })

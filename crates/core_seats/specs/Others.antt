@@ -1,5 +1,5 @@
 -- What the cores hold, as a start and a verdict ask. This project's own.
-use Rattle.std.specs.Prelude.{ℕ, Bool, true, false, List, [], ◌∷◌, Option, Some, None, is_some}
+use Rattle.std.specs.Prelude.{ℕ, Bool, List, [], ◌∷◌, Option, Some, None, is_some}
 use Rattle.std.specs.List.{list_any}
 use Rattle.interval.specs.Ranges.{range_of}
 use Rattle.slot_model.specs.Tabled.{View, with_view}

@@ -1,5 +1,5 @@
 -- What a core's own steps are in the kernel over tables. This project's own.
-use Rattle.std.specs.Prelude.{◌≡◌, ℕ, ◌+◌, ◌<◌, false, List, IsSome, is_some, length, map, Option, Some, None}
+use Rattle.std.specs.Prelude.{◌≡◌, ℕ, ◌+◌, ◌<◌, false, List, IsSome, is_some, length, Option, Some, None}
 use Rattle.object_sets.specs.ObjectSets.{is_among}
 use Rattle.rv_core.specs.State.{MachineState}
 use Rattle.nv_base.specs.declared.ids.ObjId.{ObjId}
