@@ -33,7 +33,8 @@ abbrev pub view_at : Seat → Stage → Option View
 view_at s stage.Blank = None
 view_at s stage.Running = Some (record { interval = range_of s.reads; copying = None })
 view_at s (stage.Fetching object want) = Some (record { interval = range_of s.reads; copying = None })
-view_at s (stage.Copying object want copied) = Some (record { interval = range_of s.reads; copying = Some (record { object = object.0; slot = s.slot }) })
+view_at s (stage.Copying object want copied) =
+    Some (record { interval = range_of s.reads; copying = Some (record { object = object.0; slot = s.slot }) })
 view_at s (stage.Ready outcome) = Some (record { interval = range_of s.reads; copying = None })
 
 -- unless a finish of it commits
