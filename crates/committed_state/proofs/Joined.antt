@@ -7,7 +7,7 @@ use Rattle.set_model.specs.Views.{spawn_of}
 use Rattle.shadow_index.specs.declared.state.State.{State}
 use Rattle.task_queue.specs.Queues.{Queued, after_finish}
 use Rattle.ver_table.specs.Chains.{Chain}
-use Rattle.committed_state.specs.Committed.{IsCommitted, MayJoin, queue_in}
+use Rattle.committed_state.specs.Committed.{IsCommitted, MayJoin}
 use Rattle.committed_state.specs.Joining.{AreTouchedBy}
 use Rattle.committed_state.specs.declared.committed.Committed.{Committed}
 use Rattle.committed_state.specs.declared.joining.Joining.{Joining}

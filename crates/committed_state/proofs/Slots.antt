@@ -1,10 +1,10 @@
 -- Lists that are the same at each number, and how many slots the objects of a table have.
-use Rattle.std.proofs.Common.{◌≡◌, ℕ, zero, suc, ◌+◌, ◌<◌, ◌≤◌, List, [], ◌∷◌, length, map, refl, sym, ap, ap₂, ◌∙◌, arith}
+use Rattle.std.proofs.Common.{◌≡◌, ℕ, suc, ◌<◌, ◌≤◌, List, [], ◌∷◌, length, map, refl, sym, ap, ap₂, ◌∙◌, arith}
 use Rattle.std.specs.Prelude.{slice_index}
 use Rattle.std.proofs.lemmas.List.{length-map}
 use Rattle.ver_table.specs.Chains.{Chain, chain_at}
 use Rattle.ver_table.proofs.Reopens.{slots_told}
-use Rattle.committed_state.specs.Joining.{AreTouchedBy, touched_by}
+use Rattle.committed_state.specs.Joining.{AreTouchedBy}
 use Rattle.committed_state.specs.declared.joining.Joining.{Joining}
 use Rattle.committed_state.proofs.Touching.{slots_stay}
 

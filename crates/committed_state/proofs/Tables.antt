@@ -1,5 +1,5 @@
 -- What a finish makes of the table of versions, and what an opened table is, as the kernel over tables has them.
-use Rattle.std.proofs.Common.{◌≡◌, ℕ, ◌+◌, ◌<◌, ◌≤◌, Bool, true, false, List, cond, length, map, Option, Some, None, refl, sym, ap, ◌∙◌, arith}
+use Rattle.std.proofs.Common.{◌≡◌, ℕ, ◌<◌, Bool, true, false, List, cond, length, Option, Some, None, refl, sym, ap, ◌∙◌, arith}
 use Rattle.std.specs.Prelude.{is_some, slice_index}
 use Rattle.object_sets.specs.ObjectSets.{is_among}
 use Rattle.kernel_model.specs.Effects.{written}

@@ -1,14 +1,10 @@
 -- Objects that a finish touches, one after another.
-use Rattle.std.proofs.Common.{◌≡◌, ℕ, ◌+◌, ◌<◌, ◌≤◌, Bool, true, false, List, [], cond, length, set, Some, None, refl, sym, ap, ◌∙◌, arith, below_more, get_or-set_same, get_or-set_other}
-use Rattle.std.specs.Prelude.{slice_index, is_some}
+use Rattle.std.proofs.Common.{◌≡◌, ℕ, ◌+◌, ◌<◌, Bool, true, false, List, [], cond, length, set, refl, ap, ◌∙◌, arith, below_more, get_or-set_same, get_or-set_other}
+use Rattle.std.specs.Prelude.{slice_index}
 use Rattle.std.proofs.lemmas.List.{length-set}
 use Rattle.object_sets.specs.ObjectSets.{is_among}
-use Rattle.kernel_model.specs.Effects.{written}
-use Rattle.kernel_model.specs.Items.{FinishRecord}
-use Rattle.table_machine.specs.Events.{touched}
-use Rattle.ver_table.specs.Chains.{Chain, chain_at, holds_newest, installed, noted}
-use Rattle.ver_table.specs.Tabled.{AreTouched, tabled}
-use Rattle.committed_state.specs.Joining.{AreTouchedBy, IsFreeAt, touched_by}
+use Rattle.ver_table.specs.Chains.{Chain, chain_at, installed, noted}
+use Rattle.committed_state.specs.Joining.{AreTouchedBy, touched_by}
 use Rattle.committed_state.specs.declared.joining.Joining.{Joining}
 
 -- no object

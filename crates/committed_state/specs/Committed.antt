@@ -59,4 +59,5 @@ pub record MayJoin (set : TaskSet) (j : Joining) (spawns : List base_spawn.Spawn
       → IsFreeAt (slice_index c.after.slots.items o) j.point.0 (chain_at c.versions o)
   pub after : IsIndex set (index_of c.after)
   pub next : (index_of c.after).next ≡ c.state.next.0 + length spawns
-  pub tasks : (index_of c.after).tasks ≡ others_than j.task.0 (index_of c.state).tasks ++ children c.state.next.0 (map spawn_of spawns)
+  pub tasks : (index_of c.after).tasks
+      ≡ others_than j.task.0 (index_of c.state).tasks ++ children c.state.next.0 (map spawn_of spawns)

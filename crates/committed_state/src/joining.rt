@@ -45,8 +45,8 @@ impl Joining {
         requires few { o.0 < MAX_OBJECTS }
         requires free { is_among o.0 self.now.written ≡ true
             → IsFreeAt slot self.now.point.0 (chain_at versions.old o.0) }
-        ensures { versions.new
-            ≡ slice_set versions.old o.0 (touched_by self.now o.0 slot (chain_at versions.old o.0)) }
+        ensures { let touched = touched_by self.now o.0 slot (chain_at versions.old o.0) in
+            versions.new ≡ slice_set versions.old o.0 touched }
     {
         if self.written.has(o) {
             versions.install(o, slot, self.point);

@@ -6,3 +6,6 @@ mod joining;
 
 pub use committed::Committed;
 pub use joining::Joining;
+
+#[cfg(test)]
+mod tests;

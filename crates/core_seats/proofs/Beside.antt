@@ -1,6 +1,6 @@
 -- What the cores hold, one by one and all.
 use Rattle.std.proofs.Common.{◌≡◌, ℕ, zero, suc, ◌+◌, ◌<◌, Bool, true, false, not, ◌||◌, cond, nat_eq, List, [], ◌∷◌, ◌++◌, Option, Some, None, get_or, length, map, take, refl, sym, ap, ap₂, ◌∙◌, subst, arith}
-use Rattle.std.specs.Prelude.{find, is_some}
+use Rattle.std.specs.Prelude.{is_some}
 use Rattle.std.specs.List.{list_any}
 use Rattle.std.specs.Option.{option_map}
 use Rattle.std.proofs.lemmas.Bool.{eqb-false, eqb-true}
@@ -9,7 +9,7 @@ use Rattle.nv_base.specs.declared.ids.TaskId.{TaskId}
 use Rattle.validate.specs.Views.{view_of}
 use Rattle.validate.specs.declared.beside.View as own
 use Rattle.rv_core.specs.State.{MachineState}
-use Rattle.kernel_model.specs.Items.{Entry, entry_of}
+use Rattle.kernel_model.specs.Items.{Entry}
 use Rattle.kernel_model.specs.Cores.{all_but, is_task}
 use Rattle.kernel_model.specs.Replay.{TaskRec}
 use Rattle.device_model.specs.IndexWords.{Index}

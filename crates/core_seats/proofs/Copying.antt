@@ -1,16 +1,15 @@
 -- One word of a copy.
-use Rattle.std.proofs.Common.{◌≡◌, ℕ, ◌+◌, Bool, true, false, Option, Some, None, refl, sym, ap, ◌∙◌, subst}
+use Rattle.std.proofs.Common.{◌≡◌, ℕ, Bool, true, false, None, refl, sym, ◌∙◌, subst}
 use Rattle.rv_core.specs.State.{MachineState}
 use Rattle.nv_base.specs.declared.ids.ObjId.{ObjId}
 use Rattle.kernel_model.specs.Turns as turns
 use Rattle.device_model.specs.IndexWords.{Index}
 use Rattle.interval.specs.Ranges.{range_of}
-use Rattle.table_machine.specs.Tables.{Try, Seat, Copies, Runs}
-use Rattle.table_machine.specs.Seats.{SeatTurn, copy_word, still}
+use Rattle.table_machine.specs.Tables.{Try, Copies, Runs}
+use Rattle.table_machine.specs.Seats.{SeatTurn}
 use Rattle.vol_copy.specs.Tries.{IsSeatAt}
-use Rattle.vol_copy.specs.Turns.{CopiesTo, CopiesWord, setting_of}
+use Rattle.vol_copy.specs.Turns.{CopiesTo, CopiesWord}
 use Rattle.vol_copy.specs.declared.attempt.Attempt.{Attempt}
-use Rattle.vol_copy.specs.declared.attempt.Stage.TheVariants as stage
 use Rattle.vol_copy.specs.declared.want.Want.{Want}
 use Rattle.core_seats.specs.Holding.{StandsFor, StandsForBy}
 use Rattle.core_seats.specs.Steps.{CopiesOn}

@@ -1,5 +1,5 @@
 -- A finish that is granted, all of whose writes are made, and one that joins on another core.
-use Rattle.std.proofs.Common.{◌≡◌, ℕ, zero, suc, ◌+◌, ◌<◌, ◌≤◌, ◌&&◌, ◌||◌, ◌==◌, Bool, true, false, List, [], ◌∷◌, Option, Some, None, refl, sym, ap, ◌∙◌, subst, arith, below_more}
+use Rattle.std.proofs.Common.{◌≡◌, ℕ, ◌+◌, ◌<◌, ◌||◌, ◌==◌, Bool, true, false, List, [], ◌∷◌, Option, Some, None, refl, sym, ap, ◌∙◌, subst, arith, below_more}
 use Rattle.std.specs.Prelude.{is_some}
 use Rattle.std.specs.List.{list_any}
 use Rattle.std.proofs.lemmas.Bool.{eq-eqb, eqb-true}
@@ -20,7 +20,7 @@ use Rattle.vol_copy.specs.declared.attempt.Attempt.{Attempt}
 use Rattle.vol_copy.specs.Tries.{IsSeat, has_read}
 use Rattle.core_seats.specs.declared.seat.Seat.{Seat}
 use Rattle.core_seats.specs.declared.seat.Saving.{Saving}
-use Rattle.core_seats.specs.Holding.{IsFromSlot, IsSaving, StandsFor, StandsForBy}
+use Rattle.core_seats.specs.Holding.{IsFromSlot, StandsForBy}
 use Rattle.core_seats.specs.Steps.{Completes, Grants, IsCutBy}
 
 pub grants : (s : Seat) (e : Entry) → Grants s e (record s { saving = Some (record { entry = e; is_whole = false }) })
@@ -79,7 +79,7 @@ is_cut s point objects reads law e = λ after i seat p w h. at after i seat p w 
     at : (after : Index) (i : FinishRecord) (seat : table.Seat MachineState) → i.point ≡ point → ((o : ℕ) → is_some (written i.run.writes o) ≡ is_among o objects) → (v : Option Saving) → StandsForBy s after v seat → StandsForBy (record s { reads = reads }) after v (cut_seat i seat)
     at after i seat p w None h =
         let same : cut i.point (has_read s.attempt i.run.writes) (range_of s.reads) ≡ range_of reads =
-            ap (λ (k : ℕ). cut k (has_read s.attempt i.run.writes) (range_of s.reads)) p ∙ ap (λ (b : Bool). cut point b (range_of s.reads)) (read_same objects s.attempt.reads i.run.writes w) ∙ sym e in
+        ap (λ (k : ℕ). cut k (has_read s.attempt i.run.writes) (range_of s.reads)) p ∙ ap (λ (b : Bool). cut point b (range_of s.reads)) (read_same objects s.attempt.reads i.run.writes w) ∙ sym e in
         (subst (λ k. IsSeat s.attempt k (cut_seat i seat)) same (law s.attempt (range_of s.reads) seat i h.0), from_cut s.slot i seat h.1)
     at after i seat p w (Some v) h = record {
       finish = h.finish;
@@ -107,6 +107,7 @@ any_some objects (x ∷ reads) o e f = at (x == o) refl e (λ h. any_some object
     at : (b : Bool) → (x == o) ≡ b → (b || is_among o reads) ≡ true → (is_among o reads ≡ true → list_any (λ x. is_among x objects) reads ≡ true) → (is_among x objects || list_any (λ x. is_among x objects) reads) ≡ true
     at true g h rest = ap (λ b. b || list_any (λ x. is_among x objects) reads) (ap (λ k. is_among k objects) (eqb-true x o g) ∙ f)
     at false g h rest = ap (λ b. is_among x objects || b) (rest h) ∙ or-true (is_among x objects)
+
 -- none of those below a number is a common one
 abbrev pub NoneBelow : (count : ℕ) (objects reads : List ℕ) → Type 0
 NoneBelow count objects reads = (o : ℕ) → o < count → is_among o reads ≡ true → is_among o objects ≡ false

@@ -1,13 +1,10 @@
 -- One step of a try that runs.
-use Rattle.std.proofs.Common.{◌≡◌, ℕ, List, Option, Some, None, refl, sym, ap, ◌∙◌, subst}
-use Rattle.rv_core.specs.State.{MachineState}
+use Rattle.std.proofs.Common.{◌≡◌, List, Option, None, refl, sym, ◌∙◌, subst}
 use Rattle.nv_base.specs.declared.ids.ObjId.{ObjId}
 use Rattle.set_model.specs.Sets.{TaskSet}
 use Rattle.set_model.specs.Views.{outcome_of}
-use Rattle.task_model.specs.TaskSteps.{task_steps}
 use Rattle.interval.specs.Ranges.{range_of}
-use Rattle.table_machine.specs.Tables.{Try, Runs, Waits}
-use Rattle.table_machine.specs.Seats.{SeatTurn, run_step}
+use Rattle.table_machine.specs.Tables.{Runs, Waits}
 use Rattle.ver_table.specs.Chains.{Chain}
 use Rattle.ver_table.specs.Tabled.{all_tabled}
 use Rattle.validate.specs.declared.reading.Stale.{Stale}
@@ -16,7 +13,7 @@ use Rattle.vol_copy.specs.Turns.{Advances}
 use Rattle.vol_copy.specs.declared.attempt.Attempt.{Attempt}
 use Rattle.vol_copy.specs.declared.attempt.Stage.TheVariants as stage
 use Rattle.vol_copy.specs.declared.running.Need.TheVariants as need
-use Rattle.core_seats.specs.Holding.{IsFromSlot, StandsFor, StandsForBy}
+use Rattle.core_seats.specs.Holding.{StandsForBy}
 use Rattle.core_seats.specs.Steps.{Fetches, Leaves, RunsOn}
 use Rattle.core_seats.specs.declared.seat.Seat.{Seat}
 use Rattle.core_seats.proofs.Standing.{leaves_still, running_try}

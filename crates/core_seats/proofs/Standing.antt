@@ -1,18 +1,16 @@
 -- Which try a core stands for, by how far its attempt is.
-use Rattle.std.proofs.Common.{◌≡◌, ℕ, Option, Some, None, refl, sym, ap, ◌∙◌, subst}
+use Rattle.std.proofs.Common.{◌≡◌, ℕ, None, refl, sym, ap, ◌∙◌, subst}
 use Rattle.rv_core.specs.State.{MachineState}
 use Rattle.nv_base.specs.declared.ids.ObjId.{ObjId}
-use Rattle.kernel_model.specs.Turns as turns
 use Rattle.device_model.specs.IndexWords.{Index}
 use Rattle.interval.specs.Ranges.{range_of}
 use Rattle.table_machine.specs.Tables.{Try, Seat, Runs, Copies}
 use Rattle.table_machine.specs.Seats.{SeatTurn, still}
-use Rattle.validate.specs.declared.reading.Stale.{Stale}
 use Rattle.vol_copy.specs.Tries.{IsCopyingTry, IsSeatAt, IsTry}
 use Rattle.vol_copy.specs.declared.attempt.Stage.TheVariants as stage
 use Rattle.vol_copy.specs.declared.want.Want.{Want}
 use Rattle.core_seats.specs.Holding.{StandsFor, StandsForBy}
-use Rattle.core_seats.specs.Steps.{Leaves, Tells}
+use Rattle.core_seats.specs.Steps.{Leaves}
 use Rattle.core_seats.specs.declared.seat.Seat as own
 
 -- a core that runs a try

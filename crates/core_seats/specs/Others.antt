@@ -1,5 +1,5 @@
 -- What the cores hold, as a start and a verdict ask. This project's own.
-use Rattle.std.specs.Prelude.{ℕ, Bool, true, false, List, [], ◌∷◌, Option, Some, None, is_some}
+use Rattle.std.specs.Prelude.{ℕ, Bool, List, [], ◌∷◌, Option, Some, None, is_some}
 use Rattle.std.specs.List.{list_any}
 use Rattle.interval.specs.Ranges.{range_of}
 use Rattle.slot_model.specs.Tabled.{View, with_view}
@@ -33,7 +33,8 @@ abbrev pub view_at : Seat → Stage → Option View
 view_at s stage.Blank = None
 view_at s stage.Running = Some (record { interval = range_of s.reads; copying = None })
 view_at s (stage.Fetching object want) = Some (record { interval = range_of s.reads; copying = None })
-view_at s (stage.Copying object want copied) = Some (record { interval = range_of s.reads; copying = Some (record { object = object.0; slot = s.slot }) })
+view_at s (stage.Copying object want copied) =
+    Some (record { interval = range_of s.reads; copying = Some (record { object = object.0; slot = s.slot }) })
 view_at s (stage.Ready outcome) = Some (record { interval = range_of s.reads; copying = None })
 
 -- unless a finish of it commits

@@ -5,7 +5,8 @@ pub mod laws;
 mod seat;
 mod seats;
 
-
 pub use seat::{Saving, Seat};
 pub use seats::{held, is_saving, views_beside};
 
+#[cfg(test)]
+mod tests;

@@ -1,6 +1,5 @@
-use Rattle.std.proofs.Common.{◌≡◌, sym, arith, subst}
-use Rattle.object_sets.specs.ObjectSets.{AreBelow}
-use Rattle.core_seats.proofs.Granted.{NoneBelow, any_none, any_some}
+use Rattle.std.proofs.Common.{sym, arith}
+use Rattle.core_seats.proofs.Granted.{any_none, any_some}
 use Rattle.core_seats.proofs.seat.has_common.Goals as goal
 
 pub returns-then-has-2 : goal.returns-then-has-2

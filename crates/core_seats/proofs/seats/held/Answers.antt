@@ -1,4 +1,4 @@
-use Rattle.std.proofs.Common.{◌≡◌, ◌+◌, ap, ◌∙◌, arith}
+use Rattle.std.proofs.Common.{ap, ◌∙◌, arith}
 use Rattle.core_seats.specs.Others.{task_in}
 use Rattle.core_seats.proofs.Beside.{one_task}
 use Rattle.core_seats.proofs.seats.held.Goals as goal

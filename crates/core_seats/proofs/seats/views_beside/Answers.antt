@@ -1,4 +1,4 @@
-use Rattle.std.proofs.Common.{◌≡◌, ◌+◌, None, cond, nat_eq, ap, ◌∙◌, arith}
+use Rattle.std.proofs.Common.{None, cond, nat_eq, ap, ◌∙◌, arith}
 use Rattle.core_seats.specs.Others.{view_in}
 use Rattle.core_seats.proofs.Beside.{one_view}
 use Rattle.core_seats.proofs.seats.views_beside.Goals as goal

@@ -1,4 +1,4 @@
-use Rattle.std.proofs.Common.{◌≡◌, ℕ, List, length, sym, ap, ◌∙◌, subst, arith}
+use Rattle.std.proofs.Common.{ℕ, List, sym, ◌∙◌, subst, arith}
 use Rattle.committed_state.specs.Joining.{AreTouchedBy}
 use Rattle.committed_state.proofs.Joined.{count_versions, joined}
 use Rattle.committed_state.proofs.Tables.{Touches, all_touched_by}

@@ -1,4 +1,4 @@
-use Rattle.std.proofs.Common.{◌≡◌, List, ℕ, length, sym, ap, ◌∙◌, subst}
+use Rattle.std.proofs.Common.{List, ℕ, ap, ◌∙◌, subst}
 use Rattle.shadow_index.specs.States.{index_of}
 use Rattle.shadow_index.specs.declared.state.State.{State}
 use Rattle.ver_table.specs.Chains.{AreOpened}
