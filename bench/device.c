@@ -1,6 +1,7 @@
 /* Formats, commits and boots of a device in memory in plain C, for bench/device.py: the same layout, the same order of
    reads and writes, and the same checks of each word, as the crates device_format, commit_writer and recovery have.
-   Called as ACT FORMAT large|small BATCHES ROUNDS TURNS, it prints how many turns there were and a sum of the device's words. */
+   Called as ACT FORMAT large|single|small BATCHES ROUNDS TURNS, it prints how many turns there were and a sum of the
+   device's words. */
 #include <stdbool.h>
 #include <stdint.h>
 #include <stdio.h>
@@ -337,20 +338,20 @@ static int boot_turn(struct boot *b, struct device *d, const struct set *s, stru
 
 /* The sets that are timed, and the rounds. */
 
-static void build(struct set *s, u32 format, bool is_large) {
-    bool is_1 = format == 1;
+static void build(struct set *s, u32 format, const char *size) {
+    bool is_1 = format == 1, is_small = strcmp(size, "small") == 0;
     s->format = format, s->memory = 65536;
-    s->objects = !is_large ? 1 : is_1 ? 64 : 128;
-    s->records = !is_large ? 1 : is_1 ? 256 : 1024;
-    s->programs = is_large ? 16 : 1;
+    s->objects = is_small ? 1 : is_1 ? 64 : 128;
+    s->records = is_small ? 1 : is_1 ? 256 : 1024;
+    s->programs = strcmp(size, "large") == 0 ? 16 : 1;
     for (u32 o = 0; o < s->objects; o++) {
-        u32 others = !is_large ? 2 : is_1 ? 8 : o <= 26 ? 6 : 5;
-        s->object[o].size = o == 0 ? 1 : 64;
-        s->object[o].slots = o == 0 ? (is_large ? 8 : 2) : others;
-        for (u32 i = 0; i < s->object[o].size; i++) s->object[o].first[i] = o * 64 + 1 + i;
+        struct object *object = &s->object[o];
+        object->size = o == 0 ? 1 : 64;
+        object->slots = is_small ? 2 : is_1 || o == 0 ? 8 : o <= 26 ? 6 : 5;
+        for (u32 i = 0; i < object->size; i++) object->first[i] = o * 64 + 1 + i;
     }
     for (u32 p = 0; p < s->programs; p++) {
-        s->program[p].fuel = 1000000, s->program[p].length = is_large ? 1024 : 12;
+        s->program[p].fuel = 1000000, s->program[p].length = is_small ? 12 : 1024;
         for (u32 i = 0; i < s->program[p].length; i++) s->program[p].code[i] = p * 1024 + 115 + i;
     }
     for (u32 t = 0; t < s->records; t++) s->task[t] = (struct task){t + 1, t % s->programs, t + 7};
@@ -423,7 +424,7 @@ int main(int count, char **words) {
     if (count != 7) return 2;
     struct call c = {words[1], atoi(words[4]), atoi(words[5]), atoi(words[6])};
     u32 turns = 0, sum = 0;
-    build(&s, atoi(words[2]), strcmp(words[3], "large") == 0);
+    build(&s, atoi(words[2]), words[3]);
     struct device d = {.passes = PASSES};
     d.start = calloc(WORDS, sizeof(u32)), d.words = calloc(WORDS, sizeof(u32));
     d.log = malloc((PASSES + 1) * sizeof(struct change));

@@ -1,10 +1,11 @@
 #!/usr/bin/env python3
 """bench/device.py [FOLDER]: times a format, commits and a boot of a device in memory beside the same in plain C.
 
-The program of bench/device is proved and built in FOLDER, over a copy of the crates, and what is there is used again.
-Without a word the folder is a temporary one. bench/README.md says how to read what is printed.
+The program of bench/device is proved and built in FOLDER, over a copy of the crates, and what was proved there is used
+again; without a word the folder is a temporary one. bench/README.md says how to read what is printed.
 """
 import os
+import re
 import shutil
 import subprocess
 import sys
@@ -13,60 +14,64 @@ import time
 
 ROOT = os.path.dirname(os.path.dirname(os.path.abspath(__file__)))
 OWN = "device_bench"
-USES = "commit_writer recovery device_format shadow_index task_set fram_dev device_model set_model kernel_model"
-USES = f"{USES} object_sets plain_text nv_base"
+USES = """object_sets kernel_model nv_base plain_text set_model fram_dev device_model task_set shadow_index device_format
+commit_writer recovery""".split()
 RUNS = 15
 # about as many turns as are timed at once, of which a device passes the writes; and how many of them its log keeps
 TURNS = 4300000
 LOGGED = 20000
+# how many rounds are timed up to their first turn
+BEGINS = 20000
 # more turns than a commit or a boot has
 ALL = 100000
+TAKES_TURNS = ("all", "one", "boot")
+ROWS = [
+    ("write", "writes alone", (1,), ("large",)),
+    ("format", "format", (1, 2), ("large", "small")),
+    ("all", "commit of all objects", (1, 2), ("large", "small")),
+    ("one", "commit of one word", (1, 2), ("large", "small")),
+    ("boot", "boot", (1, 2), ("large", "single", "small")),
+]
 
 
-def lines_of_crates():
-    """The lines of crates.txt for the crates that the program uses, lowest first, and its own."""
-    with open(os.path.join(ROOT, "crates.txt")) as lines:
-        listed = [line.strip() for line in lines if not line.startswith("#") and ":" in line]
-    return [line for line in listed if line.split(":")[0] in USES.split()] + [f"{OWN}: {USES}"]
-
-
-def put(source, target):
-    """Copies a file, where the target is not the same already: rt proves anew what has changed."""
-    os.makedirs(os.path.dirname(target), exist_ok=True)
-    shutil.copyfile(source, target)
+def copy(source, target, suffix=""):
+    """Copies the parts of a crate, without the suffix of each file's name."""
+    for part in ("src", "specs", "proofs"):
+        shutil.rmtree(os.path.join(target, part), ignore_errors=True)
+        for at, _, files in os.walk(os.path.join(source, part)):
+            to = os.path.join(target, os.path.relpath(at, source))
+            os.makedirs(to, exist_ok=True)
+            for file in files:
+                shutil.copyfile(os.path.join(at, file), os.path.join(to, file.removesuffix(suffix)))
 
 
 def copy_crates(folder):
-    """The crates, and the program's: its files stand here as .txt, since no crate of the repository reads them."""
-    lines = lines_of_crates()
-    for name in [line.split(":")[0] for line in lines]:
-        own = name == OWN
-        source = os.path.join(ROOT, "bench", "device") if own else os.path.join(ROOT, "crates", name)
-        target = os.path.join(folder, "crates", name)
-        for part in ("src", "specs", "proofs"):
-            shutil.rmtree(os.path.join(target, part), ignore_errors=True)
-            for at, _, files in os.walk(os.path.join(source, part)):
-                for file in files:
-                    named = file.removesuffix(".txt") if own else file
-                    put(os.path.join(at, file), os.path.join(target, os.path.relpath(at, source), named))
+    """The crates that the program uses, and its own, whose files are .txt here: the repository's checks read none of them."""
+    with open(os.path.join(ROOT, "crates.txt")) as text:
+        lines = [line.strip() for line in text if line.split(":")[0] in USES]
+    for name in USES:
+        copy(os.path.join(ROOT, "crates", name), os.path.join(folder, "crates", name))
+    copy(os.path.join(ROOT, "bench", "device"), os.path.join(folder, "crates", OWN), ".txt")
     with open(os.path.join(folder, "crates.txt"), "w") as text:
-        text.write("\n".join(lines) + "\n")
-    put(os.path.join(ROOT, "HANDLES"), os.path.join(folder, "HANDLES"))
+        text.write("\n".join(lines + [f"{OWN}: {' '.join(USES)}"]) + "\n")
+    shutil.copyfile(os.path.join(ROOT, "HANDLES"), os.path.join(folder, "HANDLES"))
 
 
 def build(folder):
     """Both programs, the plain one first."""
+    os.makedirs(folder, exist_ok=True)
     plain = os.path.join(folder, "plain")
     subprocess.run(["cc", "-O2", "-o", plain, os.path.join(ROOT, "bench", "device.c")], check=True)
     copy_crates(folder)
     crate = os.path.join(folder, "crates", OWN)
     print("proving and building the program, which takes long the first time", flush=True)
-    by_llvm = {**os.environ, "RT_BACKEND": ""}
     words = ["rt", "run", "--", "write", "1", "small", "0", "0", "0"]
+    by_llvm = {**os.environ, "RT_BACKEND": ""}
     with open(os.path.join(folder, "log"), "w") as log:
         ran = subprocess.run(words, cwd=crate, env=by_llvm, stdin=subprocess.DEVNULL, stdout=log, stderr=log)
     if ran.returncode != 0:
-        sys.exit(f"the program was not built: {folder}/log has why")
+        with open(os.path.join(folder, "log")) as log:
+            sys.exit("the program was not built:\n" + log.read()[-3000:])
     return [plain, os.path.join(crate, "out", OWN)]
 
 
@@ -84,52 +89,61 @@ def times(programs, words):
     return least, int(told.pop().split()[0])
 
 
-def count_turns(programs, act, form, size):
-    ran = subprocess.run([programs[0], act, str(form), size, "1", "1", str(ALL)], stdout=subprocess.PIPE, check=True)
+def count_turns(programs, call):
+    ran = subprocess.run([programs[0], *map(str, call), "1", "1", str(ALL)], stdout=subprocess.PIPE, check=True)
     return int(ran.stdout.split()[0])
 
 
-def measure(programs, act, form, size):
-    """The turns of a round; and of each program the nanoseconds of a turn, and those up to the end of the first one."""
-    turns = count_turns(programs, act, form, size)
+def measure(programs, call, turns, left):
+    """Of each program the nanoseconds of a turn, and those up to the end of the first one where rounds have turns."""
     rounds = max(1, LOGGED // turns)
     batches = TURNS // (turns * rounds)
-    call = [act, form, size, batches, rounds]
-    whole, made = times(programs, [*call, ALL])
-    # a round up to its first turn, or, where a round has no turns of its own, no round
-    first, begun = times(programs, [*call, 1 if act in TAKES_TURNS else 0])
-    none, _ = times(programs, [act, form, size, batches, 0, 0])
+    whole, made = times(programs, [*call, batches, rounds, ALL])
+    first, begun = times(programs, [*call, batches, rounds, left])
     each = [(long - short) / (made - begun) * 1e9 for long, short in zip(whole, first)]
-    return turns, each, [(long - short) / (batches * rounds) * 1e9 for long, short in zip(first, none)]
+    return each, measure_begin(programs, call) if left else []
 
 
-TAKES_TURNS = ("all", "one", "boot")
-ROWS = [
-    ("write", "writes alone", (1,), ("large",)),
-    ("format", "format", (1, 2), ("large", "small")),
-    ("all", "commit of all objects", (1, 2), ("large", "small")),
-    ("one", "commit of one word", (1, 2), ("large", "small")),
-    ("boot", "boot", (1, 2), ("large", "small")),
-]
+def measure_begin(programs, call):
+    """Of each program the nanoseconds of a round up to the end of its first turn."""
+    first, begun = times(programs, [*call, 1, BEGINS, 1])
+    none, _ = times(programs, [*call, 1, 0, 1])
+    return [(long - short) / begun * 1e9 for long, short in zip(first, none)]
 
 
-def show(programs, act, title, form, size):
-    turns, each, before = measure(programs, act, form, size)
-    row = f"{title + ',':23} format {form}, {size} set {turns:6} {each[0]:8.2f} {each[1]:8.2f} {each[0] / each[1]:6.2f}"
-    if act in TAKES_TURNS:
-        row += f" {before[0]:9.0f} {before[1]:9.0f}"
-    print(row, flush=True)
+def instructions(program, words):
+    counted = ["valgrind", "--tool=callgrind", "--callgrind-out-file=/dev/null", program, *map(str, words)]
+    ran = subprocess.run(counted, stdout=subprocess.DEVNULL, stderr=subprocess.PIPE, text=True, check=True)
+    return int(re.search(r"Collected : (\d+)", ran.stderr)[1])
+
+
+def count_instructions(program, call, turns, left):
+    """How many instructions a turn has."""
+    rounds = max(1, LOGGED // turns)
+    whole, first = (instructions(program, [*call, 1, rounds, most]) for most in (ALL, left))
+    return (whole - first) / (rounds * (turns - left))
+
+
+def show(programs, title, call):
+    # a round is left after its first turn, or, where it has no turns of its own, before it
+    left = 1 if call[0] in TAKES_TURNS else 0
+    turns = count_turns(programs, call)
+    each, before = measure(programs, call, turns, left)
+    row = f"{title + ',':23}format {call[1]}, {call[2] + ' set':10} {turns:6} {each[0]:7.2f} {each[1]:7.2f} {each[0] / each[1]:5.2f}"
+    if shutil.which("valgrind"):
+        row += "".join(f" {count_instructions(program, call, turns, left):6.1f}" for program in programs)
+    print(row + "".join(f" {one:7.0f}" for one in before), flush=True)
 
 
 def main():
     with tempfile.TemporaryDirectory() as room:
         programs = build(os.path.abspath(sys.argv[1]) if len(sys.argv) == 2 else room)
-        print("a turn, and a round up to the end of its first turn, in nanoseconds: plain C, this program")
-        print(f"{'':42} {'turns':>6} {'C':>8} {'this':>8} {'ratio':>6} {'C':>9} {'this':>9}")
+        print("plain C and this program: nanoseconds of a turn, with the ratio; instructions of a turn, where valgrind is")
+        print("installed; nanoseconds of a round up to the end of its first turn")
         for act, title, forms, sizes in ROWS:
             for form in forms:
                 for size in sizes:
-                    show(programs, act, title, form, size)
+                    show(programs, title, [act, form, size])
 
 
 main()
