@@ -6,17 +6,17 @@ again; without a word the folder is a temporary one. bench/README.md says how to
 """
 import os
 import re
+import resource
 import shutil
 import subprocess
 import sys
 import tempfile
-import time
 
 ROOT = os.path.dirname(os.path.dirname(os.path.abspath(__file__)))
 OWN = "device_bench"
 USES = """object_sets kernel_model nv_base plain_text set_model fram_dev device_model task_set shadow_index device_format
 commit_writer recovery""".split()
-RUNS = 15
+RUNS = 30
 # about as many turns as are timed at once, of which a device passes the writes; and how many of them its log keeps
 TURNS = 4300000
 LOGGED = 20000
@@ -75,18 +75,27 @@ def build(folder):
     return [plain, os.path.join(crate, "out", OWN)]
 
 
-def times(programs, words):
-    """The least time of each program, run in turn, and the turns that both tell. They must tell the same."""
-    least, told = [float("inf")] * len(programs), set()
+def spent():
+    """The processor time of all programs that have ended, in seconds: a busy machine disturbs it little."""
+    used = resource.getrusage(resource.RUSAGE_CHILDREN)
+    return used.ru_utime + used.ru_stime
+
+
+def times(programs, calls):
+    """By call and program the least processor time, all run in turn, and by call the turns that both programs tell."""
+    least = [[float("inf")] * len(programs) for _ in calls]
+    told = [set() for _ in calls]
     for _ in range(RUNS):
-        for number, program in enumerate(programs):
-            begun = time.perf_counter()
-            ran = subprocess.run([program, *map(str, words)], stdout=subprocess.PIPE, check=True)
-            least[number] = min(least[number], time.perf_counter() - begun)
-            told.add(ran.stdout)
-    if len(told) != 1:
-        sys.exit(f"the programs differ at {words}: {told}")
-    return least, int(told.pop().split()[0])
+        for at, call in enumerate(calls):
+            for number, program in enumerate(programs):
+                begun = spent()
+                ran = subprocess.run([program, *map(str, call)], stdout=subprocess.PIPE, check=True)
+                least[at][number] = min(least[at][number], spent() - begun)
+                told[at].add(ran.stdout)
+    for call, said in zip(calls, told):
+        if len(said) != 1:
+            sys.exit(f"the programs differ at {call}: {said}")
+    return least, [int(said.pop().split()[0]) for said in told]
 
 
 def count_turns(programs, call):
@@ -95,20 +104,21 @@ def count_turns(programs, call):
 
 
 def measure(programs, call, turns, left):
-    """Of each program the nanoseconds of a turn, and those up to the end of the first one where rounds have turns."""
+    """Of each program the nanoseconds of a turn."""
     rounds = max(1, LOGGED // turns)
     batches = TURNS // (turns * rounds)
-    whole, made = times(programs, [*call, batches, rounds, ALL])
-    first, begun = times(programs, [*call, batches, rounds, left])
-    each = [(long - short) / (made - begun) * 1e9 for long, short in zip(whole, first)]
-    return each, measure_begin(programs, call) if left else []
+    return nanoseconds(programs, [*call, batches, rounds, ALL], [*call, batches, rounds, left])
 
 
 def measure_begin(programs, call):
     """Of each program the nanoseconds of a round up to the end of its first turn."""
-    first, begun = times(programs, [*call, 1, BEGINS, 1])
-    none, _ = times(programs, [*call, 1, 0, 1])
-    return [(long - short) / begun * 1e9 for long, short in zip(first, none)]
+    return nanoseconds(programs, [*call, 1, BEGINS, 1], [*call, 1, 0, 1])
+
+
+def nanoseconds(programs, long, short):
+    """Of each program the nanoseconds of a turn that one call has more than another."""
+    (longs, shorts), (more, fewer) = times(programs, [long, short])
+    return [(one - other) / (more - fewer) * 1e9 for one, other in zip(longs, shorts)]
 
 
 def instructions(program, words):
@@ -128,7 +138,8 @@ def show(programs, title, call):
     # a round is left after its first turn, or, where it has no turns of its own, before it
     left = 1 if call[0] in TAKES_TURNS else 0
     turns = count_turns(programs, call)
-    each, before = measure(programs, call, turns, left)
+    each = measure(programs, call, turns, left)
+    before = measure_begin(programs, call) if left else []
     row = f"{title + ',':23}format {call[1]}, {call[2] + ' set':10} {turns:6} {each[0]:7.2f} {each[1]:7.2f} {each[0] / each[1]:5.2f}"
     if shutil.which("valgrind"):
         row += "".join(f" {count_instructions(program, call, turns, left):6.1f}" for program in programs)
