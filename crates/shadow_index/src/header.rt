@@ -93,29 +93,40 @@ fn code_at(set: &TaskSet, places: &CodePlaces, at: u32) -> u32
     ensures { (magic : ℕ) → AreCodePlaces set.now places.now
         → result ≡ slice_index (header magic set.now) at }
 {
-    let p = last_up_to(places, set.programs(), at);
-    let code = set.code(ProgId(p));
-    let i = at.saturating_sub(places[usize::from(p)]) as usize;
+    let p = last_up_to(places, usize::from(set.programs()), at);
+    let code = set.code(ProgId(p as u8));
+    let i = at.saturating_sub(places[p]) as usize;
     if i < code.len() { code[i] } else { 0 }
 }
 
 /// The last of the first places that is not behind a place, by halves: of 16 places four are looked at.
-fn last_up_to(places: &CodePlaces, count: u8, at: u32) -> u8
+fn last_up_to(places: &CodePlaces, count: usize, at: u32) -> usize
     requires some { 0 < count }
     requires few { count ≤ MAX_PROGRAMS }
     ensures inside { result < count }
     ensures up_to { slice_index places.now 0 ≤ at → slice_index places.now result ≤ at }
     ensures last { result + 1 < count → at < slice_index places.now (result + 1) }
 {
-    let mut low = 0;
-    let mut high = count;
-    while high - low > 1 {
-        let middle = (low + high) / 2;
-        if places[usize::from(middle)] <= at {
-            low = middle;
-        } else {
-            high = middle;
-        }
+    let of_eight = step_up(places, count, at, 0, 8);
+    let of_four = step_up(places, count, at, of_eight, 4);
+    let of_two = step_up(places, count, at, of_four, 2);
+    step_up(places, count, at, of_two, 1)
+}
+
+/// Where the half begins that has the last one, of twice so many places: the later half, where its first is not behind `at`.
+fn step_up(places: &CodePlaces, count: usize, at: u32, from: usize, by: usize) -> usize
+    requires few { count ≤ MAX_PROGRAMS }
+    requires inside { from < count }
+    requires short { by ≤ 8 }
+    requires half { from + 2 * by < count → at < slice_index places.now (from + 2 * by) }
+    ensures inside { result < count }
+    ensures up_to { slice_index places.now from ≤ at → slice_index places.now result ≤ at }
+    ensures half { result + by < count → at < slice_index places.now (result + by) }
+{
+    let next = from + by;
+    if next < count && places[next] <= at {
+        next
+    } else {
+        from
     }
-    low
 }

@@ -8,8 +8,8 @@ pub returns-then-i-code : goal.returns-then-i-code
 returns-then-i-code c = λ magic t.
     let set = c.args.set.now in
     let p : ℕ = c.last_up_to-p.result in
-    let l : p < length set.programs = omega (arith, c.programs.ensures.exact, c.last_up_to-p.ensures.inside) in
-    let place : slice_index c.args.places.now c.from.result ≡ code_place set p = ap (slice_index c.args.places.now) c.from.ensures ∙ t p l in
+    let l : p < length set.programs = omega (arith, c.programs.ensures.exact, c.from.ensures, c.last_up_to-p.ensures.inside) in
+    let place : slice_index c.args.places.now p ≡ code_place set p = t p l in
     let first : slice_index c.args.places.now 0 ≤ c.args.at = omega (arith, t 0 (omega (arith, l)), first_code set, c.requires) in
     let up : code_place set p ≤ c.args.at = omega (arith, c.last_up_to-p.ensures.up_to first, t p l) in
     let code : c.code-code.result.now ≡ (program_at set p).code = c.code-code.ensures.exact in
@@ -22,10 +22,10 @@ pub returns-else-i-code : goal.returns-else-i-code
 returns-else-i-code c = λ magic t.
     let set = c.args.set.now in
     let p : ℕ = c.last_up_to-p.result in
-    let l : p < length set.programs = omega (arith, c.programs.ensures.exact, c.last_up_to-p.ensures.inside) in
-    let place : slice_index c.args.places.now c.from.result ≡ code_place set p = ap (slice_index c.args.places.now) c.from.ensures ∙ t p l in
+    let l : p < length set.programs = omega (arith, c.programs.ensures.exact, c.from.ensures, c.last_up_to-p.ensures.inside) in
+    let place : slice_index c.args.places.now p ≡ code_place set p = t p l in
     let first : slice_index c.args.places.now 0 ≤ c.args.at = omega (arith, t 0 (omega (arith, l)), first_code set, c.requires) in
     let up : code_place set p ≤ c.args.at = omega (arith, c.last_up_to-p.ensures.up_to first, t p l) in
     let i : c.saturating_sub-i.result ≡ c.args.at - code_place set p = c.saturating_sub-i.ensures ∙ ap (λ (n : ℕ). c.args.at - n) place in
     let words = ap (length {A = ℕ}) c.code-code.ensures.exact in
-    code_behind magic set p c.args.at l up (omega (arith, i, words, c.if-i-code.false)) (λ a. let b = c.last_up_to-p.ensures.last (omega (arith, a, c.programs.ensures.exact)) in omega (arith, b, t (p + 1) a))
+    code_behind magic set p c.args.at l up (omega (arith, i, words, c.if-i-code.false)) (λ a. let b = c.last_up_to-p.ensures.last (omega (arith, a, c.programs.ensures.exact, c.from.ensures)) in omega (arith, b, t (p + 1) a))
