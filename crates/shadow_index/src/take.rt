@@ -142,7 +142,8 @@ impl State {
         requires room { self.old.told ≤ vec_capacity self.old.tasks }
         requires begun { length self.old.tasks.items ≡ min self.old.told ((k + 2) / 3) }
         ensures fault { result
-            ≡ not (is_faulty_task self.old.told self.old.next.0 self.old.tasks.items programs k word) }
+            ≡ not (is_faulty_task self.old.told self.old.next.0 self.old.tasks.items
+            programs k word) }
         ensures room { vec_capacity self.new.tasks ≡ vec_capacity self.old.tasks }
         ensures word { IsTrue result → record_word self.new.tasks.items k ≡ word }
         ensures before { IsTrue result → (j : ℕ) → j < k
