@@ -68,6 +68,7 @@ fn state(
         last,
         slots,
         tasks: Vec::new(rt.alloc()),
+        told: 0,
         boots: 0,
         root,
         shift: 0,

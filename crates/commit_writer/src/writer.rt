@@ -165,9 +165,10 @@ impl Writer {
             → count + 1 ≡ length (writes_of g) }
         ensures kept { self.new.job ≡ self.old.job }
     {
-        let (place, word) = self.job.write_at(copies, self.position);
+        let position = self.position;
+        let (place, word) = self.job.write_at(copies, position);
         dev.write(place, word)?;
-        self.position = self.job.after(set, self.position);
+        self.position = self.job.after(set, position);
         Ok(match self.position {
             Position::Done => Turn::Flipped,
             _ => Turn::Wrote,

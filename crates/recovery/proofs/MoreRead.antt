@@ -11,7 +11,7 @@ use Rattle.device_model.specs.Devices.{Device, is_faulty_on, layout_on, read_on}
 use Rattle.device_model.specs.Places.{IsLaidOut}
 use Rattle.device_model.proofs.ForCallers.{decodes_damaged, fault-same, laid_out_set}
 use Rattle.shadow_index.specs.declared.state.State.{State}
-use Rattle.shadow_index.specs.States.{HasTaken, KeepsRest, word_of}
+use Rattle.shadow_index.specs.States.{HasTaken, KeepsRest, taken_word}
 use Rattle.shadow_index.specs.Tells.{IsLayoutOf}
 use Rattle.recovery.specs.declared.reader.Reader.{Reader}
 use Rattle.recovery.specs.Images.{shift_on}
@@ -128,17 +128,17 @@ root_known d words r into h a =
 word_is : (d : Device) (words : Words) (r : Reader) (into : State) (i word : ℕ) → HasRead d words r into → (layout_on d).head_reads ≤ r.count → word ≡ words (index_place (layout_on d) into.root i) → word ≡ index_in (layout_on d) words i
 word_is d words r into i word h a e = e ∙ ap (λ (k : ℕ). words (index_place (layout_on d) k i)) (root_known d words r into h a).0
 
-tested : (d : Device) (words : Words) (r : Reader) (into : State) (i word : ℕ) (b : Bool) → HasRead d words r into → (layout_on d).head_reads ≤ r.count → i ≡ r.count - (layout_on d).head_reads → word ≡ words (index_place (layout_on d) into.root i) → is_faulty d.set (word_of into) i word ≡ b
+tested : (d : Device) (words : Words) (r : Reader) (into : State) (i word : ℕ) (b : Bool) → HasRead d words r into → (layout_on d).head_reads ≤ r.count → i ≡ r.count - (layout_on d).head_reads → word ≡ words (index_place (layout_on d) into.root i) → is_faulty d.set (taken_word into) i word ≡ b
     → is_faulty_on d words r.count ≡ b
 tested d words r into i word b h a n e t =
     index_fault (layout_on d) d.set words r.count a
     ∙ ap (λ (k : ℕ). is_faulty d.set (index_in (layout_on d) words) k (index_in (layout_on d) words k)) (sym n)
     ∙ ap (is_faulty d.set (index_in (layout_on d) words) i) (sym (word_is d words r into i word h a e))
-    ∙ sym (fault-same d.set (word_of into) (index_in (layout_on d) words) i word (λ k l. h.index k (omega arith)))
+    ∙ sym (fault-same d.set (taken_word into) (index_in (layout_on d) words) i word (λ k l. h.index k (omega arith)))
     ∙ t
 
 pub index_damaged : (d : Device) (words : Words) (r : Reader) (into : State) (i at word : ℕ) → HasRead d words r into → r.count < reads (layout_on d) → (layout_on d).head_reads ≤ r.count → i ≡ r.count - (layout_on d).head_reads
-    → at ≡ index_place (layout_on d) into.root i → word ≡ words at → is_faulty d.set (word_of into) i word ≡ true → (decode d.set words ≡ Damaged at) × (at ≡ read_on d words r.count)
+    → at ≡ index_place (layout_on d) into.root i → word ≡ words at → is_faulty d.set (taken_word into) i word ≡ true → (decode d.set words ≡ Damaged at) × (at ≡ read_on d words r.count)
 index_damaged d words r into i at word h m a n p e t =
     let place : at ≡ read_on d words r.count =
     p ∙ ap (λ (k : ℕ). index_place (layout_on d) k i) (root_known d words r into h a).0
@@ -147,8 +147,8 @@ index_damaged d words r into i at word h m a n p e t =
     damaged d words r into at h m place (tested d words r into i word true h a n (e ∙ ap words p) t)
 
 pub index_more : (d : Device) (words : Words) (r new : Reader) (into after : State) (i at word : ℕ) → HasRead d words r into → r.count < reads (layout_on d) → (layout_on d).head_reads ≤ r.count → i ≡ r.count - (layout_on d).head_reads
-    → at ≡ index_place (layout_on d) into.root i → word ≡ words at → is_faulty d.set (word_of into) i word ≡ false → new.count ≡ r.count + 1 → new.layout ≡ r.layout
-    → KeepsRest into after → HasTaken d.set (i + 1) after → word_of after i ≡ word → ((k : ℕ) → k < i → word_of after k ≡ word_of into k) → HasRead d words new after
+    → at ≡ index_place (layout_on d) into.root i → word ≡ words at → is_faulty d.set (taken_word into) i word ≡ false → new.count ≡ r.count + 1 → new.layout ≡ r.layout
+    → KeepsRest into after → HasTaken d.set (i + 1) after → taken_word after i ≡ word → ((k : ℕ) → k < i → taken_word after k ≡ taken_word into k) → HasRead d words new after
 index_more d words r new into after i at word h m a n p e f one same rest taken here before =
     let k = laid d h.limits in let b = k.root_in in let c = k.head_read in
     let next : i + 1 ≡ new.count - (layout_on d).head_reads = omega arith in record {
@@ -163,7 +163,7 @@ index_more d words r new into after i at word h m a n p e f one same rest taken 
       root = λ q. rest.root ∙ (root_known d words r into h a).0;
       boots = λ q. rest.boots ∙ h.boots (omega (arith, a, c));
       taken = subst (λ (j : ℕ). HasTaken d.set j after) next taken;
-      index = λ j q. ⊎_elim (λ l. before j l ∙ h.index j (omega arith)) (λ l. let s : j ≡ i = omega arith in ap (word_of after) s ∙ here ∙ word_is d words r into i word h a (e ∙ ap words p) ∙ ap (index_in (layout_on d) words) (sym s)) (cases_lt j i);
+      index = λ j q. ⊎_elim (λ l. before j l ∙ h.index j (omega arith)) (λ l. let s : j ≡ i = omega arith in ap (taken_word after) s ∙ here ∙ word_is d words r into i word h a (e ∙ ap words p) ∙ ap (index_in (layout_on d) words) (sym s)) (cases_lt j i);
     }
 
 -- ---- as the code has them

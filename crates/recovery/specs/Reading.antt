@@ -9,7 +9,7 @@ use Rattle.device_model.specs.Decoding as stored
 use Rattle.device_model.specs.Decoding.{decode, index_in}
 use Rattle.device_model.specs.Devices.{Device, HoldsOn, held_on, is_faulty_on, layout_on, read_on}
 use Rattle.shadow_index.specs.declared.state.State.{State}
-use Rattle.shadow_index.specs.States.{HasTaken, word_of}
+use Rattle.shadow_index.specs.States.{HasTaken, taken_word}
 use Rattle.shadow_index.specs.Tells.{IsLayoutOf, IsShift, device_of}
 use Rattle.recovery.specs.declared.reader.Reader.{Reader}
 use Rattle.recovery.specs.declared.refusals.BootRefusal.{BootRefusal}
@@ -35,7 +35,7 @@ pub record HasRead (d : Device) (words : Words) (r : Reader) (into : State) : Ty
   pub boots : 2 < r.count → into.boots ≡ words 2
   pub taken : HasTaken d.set (r.count - (layout_on d).head_reads) into
   pub index : (i : ℕ) → i < r.count - (layout_on d).head_reads
-      → word_of into i ≡ index_in (layout_on d) words i
+      → taken_word into i ≡ index_in (layout_on d) words i
 
 -- why the word that is read as number j was not taken: it tells that nothing is there, or is the first faulty one, or a call was lost
 abbrev pub IsRefusedAt : TaskSet → Words → (j : ℕ) → (old new : ℕ) → BootRefusal → Type 0

@@ -5,22 +5,22 @@ use Rattle.set_model.specs.Sets.{TaskSet, object_at}
 use Rattle.device_model.specs.Words.{Words}
 use Rattle.device_model.specs.IndexWords.{is_faulty, is_faulty_number, is_faulty_record}
 use Rattle.shadow_index.specs.declared.state.State.{State}
-use Rattle.shadow_index.specs.States.{word_of}
-use Rattle.shadow_index.specs.Forms.{is_faulty_task, number_word, record_word}
-use Rattle.shadow_index.proofs.ByKind.{word_number, word_record}
+use Rattle.shadow_index.specs.States.{taken_word}
+use Rattle.shadow_index.specs.Forms.{is_faulty_task, record_word, told_number}
+use Rattle.shadow_index.proofs.ByKind.{taken_later, taken_number, word_record}
 
 -- such a test rests on five words
 number_rests : (records : ℕ) (v w : Words) (i word : ℕ) → v 0 ≡ w 0 → v 1 ≡ w 1 → v 2 ≡ w 2 → v 3 ≡ w 3 → v 5 ≡ w 5 → is_faulty_number records v i word ≡ is_faulty_number records w i word
 number_rests records v w i word a b c d e = rw (a, b, c, d, e) refl
 
-pub fault_number : (set : TaskSet) (s : State) (i word : ℕ) → i < 9 → is_faulty_number set.records (number_word s) i word ≡ is_faulty set (word_of s) i word
+pub fault_number : (set : TaskSet) (s : State) (i word : ℕ) → i < 9 → is_faulty_number set.records (told_number s) i word ≡ is_faulty set (taken_word s) i word
 unfolding is_faulty
 fault_number set s i word l =
-    number_rests set.records (number_word s) (word_of s) i word (at 0 (omega arith)) (at 1 (omega arith)) (at 2 (omega arith)) (at 3 (omega arith)) (at 5 (omega arith))
-    ∙ sym (here (word_of s))
+    number_rests set.records (told_number s) (taken_word s) i word (at 0 (omega arith)) (at 1 (omega arith)) (at 2 (omega arith)) (at 3 (omega arith)) (at 5 (omega arith))
+    ∙ sym (here (taken_word s))
   where
-    at : (k : ℕ) → k < 9 → number_word s k ≡ word_of s k
-    at k m = sym (word_number s k m)
+    at : (k : ℕ) → k < 9 → told_number s k ≡ taken_word s k
+    at k m = sym (taken_number s k m)
 
     here : (w : Words) → is_faulty set w i word ≡ is_faulty_number set.records w i word
     here w = rw (lt-ltb i 9 l) refl
@@ -42,22 +42,22 @@ first_alone : (count next a b programs k word : ℕ) → k < 3 → is_faulty_rec
 first_alone count next a b programs k word l = rw (lt-leb 3 k l) refl
 
 pub fault_task : (set : TaskSet) (s : State) (i word : ℕ) → length s.slots.items ≡ length set.objects → 9 + length set.objects ≤ i → i < 9 + length set.objects + 3 * set.records
-    → is_faulty_task s.next.0 s.tasks.items (length set.programs) (i - (9 + length set.objects)) word ≡ is_faulty set (word_of s) i word
-fault_task set s i word e l m = sym (fault_record set (word_of s) i word l m ∙ counts ∙ ⊎_elim first later (cases_lt k 3))
+    → is_faulty_task s.told s.next.0 s.tasks.items (length set.programs) (i - (9 + length set.objects)) word ≡ is_faulty set (taken_word s) i word
+fault_task set s i word e l m = sym (fault_record set (taken_word s) i word l m ∙ counts ∙ ⊎_elim first later (cases_lt k 3))
   where
     k : ℕ
     k = i - (9 + length set.objects)
 
-    counts : is_faulty_record (word_of s 8) (word_of s 2) (word_of s (i - 3)) (length set.programs) k word ≡ is_faulty_record (length s.tasks.items) s.next.0 (word_of s (i - 3)) (length set.programs) k word
-    counts = let a : word_of s 8 ≡ length s.tasks.items = word_number s 8 (omega arith) in let b : word_of s 2 ≡ s.next.0 = word_number s 2 (omega arith) in rw (a, b) refl
+    counts : is_faulty_record (taken_word s 8) (taken_word s 2) (taken_word s (i - 3)) (length set.programs) k word ≡ is_faulty_record s.told s.next.0 (taken_word s (i - 3)) (length set.programs) k word
+    counts = let a : taken_word s 8 ≡ s.told = taken_number s 8 (omega arith) in let b : taken_word s 2 ≡ s.next.0 = taken_number s 2 (omega arith) in rw (a, b) refl
 
-    first : k < 3 → is_faulty_record (length s.tasks.items) s.next.0 (word_of s (i - 3)) (length set.programs) k word ≡ is_faulty_task s.next.0 s.tasks.items (length set.programs) k word
-    first h = first_alone (length s.tasks.items) s.next.0 (word_of s (i - 3)) (record_word s.tasks.items (k - 3)) (length set.programs) k word h
+    first : k < 3 → is_faulty_record s.told s.next.0 (taken_word s (i - 3)) (length set.programs) k word ≡ is_faulty_task s.told s.next.0 s.tasks.items (length set.programs) k word
+    first h = first_alone s.told s.next.0 (taken_word s (i - 3)) (record_word s.tasks.items (k - 3)) (length set.programs) k word h
 
-    later : 3 ≤ k → is_faulty_record (length s.tasks.items) s.next.0 (word_of s (i - 3)) (length set.programs) k word ≡ is_faulty_task s.next.0 s.tasks.items (length set.programs) k word
+    later : 3 ≤ k → is_faulty_record s.told s.next.0 (taken_word s (i - 3)) (length set.programs) k word ≡ is_faulty_task s.told s.next.0 s.tasks.items (length set.programs) k word
     later h =
         let f : i - 3 - (9 + length set.objects) ≡ k - 3 = omega arith in
-        let r : word_of s (i - 3) ≡ record_word s.tasks.items (k - 3) = word_record s (length set.objects) (i - 3) e (omega arith) ∙ ap (record_word s.tasks.items) f in
+        let r : taken_word s (i - 3) ≡ record_word s.tasks.items (k - 3) = taken_later s (i - 3) (omega arith) ∙ word_record s (length set.objects) (i - 3) e (omega arith) ∙ ap (record_word s.tasks.items) f in
         rw r refl
 
 pub not-not : (b : Bool) → not (not b) ≡ b

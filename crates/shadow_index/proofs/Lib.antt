@@ -1,4 +1,5 @@
 pub mod Filling
+pub mod CodeLooks
 pub mod Told
 pub mod ByKind
 pub mod Faults

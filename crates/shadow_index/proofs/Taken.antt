@@ -1,6 +1,6 @@
 -- The words that a state has taken tell its index.
-use Rattle.std.proofs.Common.{◌≡◌, ◌≢◌, ℕ, ◌<◌, ◌≤◌, length, Option, Some, None, arith, refl, ap, sym, ◌∙◌}
-use Rattle.std.proofs.lemmas.Bool.{eq-eqb, ne_eqb}
+use Rattle.std.proofs.Common.{◌≡◌, ◌≢◌, ℕ, ◌<◌, ◌≤◌, ⊎_elim, length, Option, Some, None, arith, refl, ap, sym, ◌∙◌}
+use Rattle.std.proofs.lemmas.Bool.{cases_eq, eq-eqb, ne_eqb}
 use Rattle.std.proofs.lemmas.List.{length-map}
 use Rattle.kernel_model.specs.Effects as model
 use Rattle.kernel_model.specs.Items as items
@@ -16,7 +16,7 @@ use Rattle.device_model.specs.Words.{Words}
 use Rattle.device_model.specs.IndexWords.{exit_word, outcome_of, read_index, read_last, trap_word}
 use Rattle.device_model.proofs.ForCallers.{five, words_tell}
 use Rattle.shadow_index.specs.declared.state.State.{State}
-use Rattle.shadow_index.specs.States.{HasTaken, IsNumbered, index_of, word_of}
+use Rattle.shadow_index.specs.States.{HasOpened, HasTaken, IsNumbered, index_of, records_begun, taken_word, word_of}
 use Rattle.shadow_index.specs.Forms.{last_words, number_word}
 use Rattle.shadow_index.proofs.ByKind.{word_number}
 
@@ -55,14 +55,24 @@ last_told number (Some x) w h e f =
     let o : outcome_of (w 5) (w 6) ≡ views.outcome_of x.outcome = rw (trap, exit) (outcome_back x.outcome) in
     rw (ne_eqb (w 1) 0 positive) (ap Some (entry_is (views.entry_of x) (w 1) (w 3) (w 4) (w 7) (outcome_of (w 5) (w 6)) (e ∙ sym h.1) (f 3 (omega arith) (omega arith)) (f 4 (omega arith) (omega arith)) (f 7 (omega arith) (omega arith)) o))
 
-pub taken_are_index : (set : TaskSet) (s : State) (w : Words) (m : ℕ) → index_words set ≤ m → HasTaken set m s → ((k : ℕ) → k < m → word_of s k ≡ w k) → index_of s ≡ read_index (length set.objects) w
-taken_are_index set s w m l h f = sym (words_tell set (index_of s) w h.room.slots tasks last (λ i a. sym (f i (omega (arith, a, l)))))
+pub taken_are_index : (set : TaskSet) (s : State) (w : Words) (m : ℕ) → index_words set ≤ m → HasTaken set m s → ((k : ℕ) → k < m → taken_word s k ≡ w k) → index_of s ≡ read_index (length set.objects) w
+taken_are_index set s w m l h f = sym (words_tell set (index_of s) w h.room.slots tasks last (λ i a. sym (same i ∙ f i (omega (arith, a, l)))))
   where
+    opened : HasOpened set.records (records_begun (length set.objects) m) s
+    opened = h.tasks (omega (arith, l))
+
+    -- all records have begun
+    whole : length s.tasks.items ≡ s.told
+    whole = let few = opened.few in let e = opened.tasks in omega (arith, few, e, l)
+
+    same : (i : ℕ) → word_of s i ≡ taken_word s i
+    same i = ⊎_elim (λ (e : i ≡ 8). rw e (word_number s 8 (omega arith) ∙ whole)) (λ n. rw (ne_eqb i 8 n) refl) (cases_eq i 8)
+
     tasks : length (index_of s).tasks ≤ set.records
-    tasks = let t = h.tasks (omega (arith, l)) in omega (arith, t, length-map s.tasks.items views.task_of)
+    tasks = let few = opened.few in omega (arith, whole, few, length-map s.tasks.items views.task_of)
 
     word : (i : ℕ) → i < 9 → w i ≡ number_word s i
-    word i a = sym (f i (omega (arith, a, l))) ∙ word_number s i a
+    word i a = sym (f i (omega (arith, a, l))) ∙ sym (same i) ∙ word_number s i a
 
     at : (i : ℕ) → 3 ≤ i → i < 8 → number_word s i ≡ last_words s.last i
     at = five (λ i. number_word s i ≡ last_words s.last i) refl refl refl refl refl

@@ -29,6 +29,10 @@ number_word s i =
     else if i == 8 then length s.tasks.items
     else last_words s.last i
 
+-- the same of the words that a state has taken
+abbrev pub told_number : State → ℕ → ℕ
+told_number s i = if i == 8 then s.told else number_word s i
+
 -- no task at all
 abbrev pub no_task : TaskRec
 no_task = record { id = record { 0 = 0 }; program = record { 0 = 0 }; arg = 0 }
@@ -42,7 +46,7 @@ task_word t field =
 abbrev pub record_word : List TaskRec → ℕ → ℕ
 record_word tasks k = task_word (get_or tasks (k / 3) no_task) (k % 3)
 
--- whether word k of the records is faulty, by the records so far
-abbrev pub is_faulty_task : ℕ → List TaskRec → ℕ → ℕ → ℕ → Bool
-is_faulty_task next tasks programs k word =
-    is_faulty_record (length tasks) next (record_word tasks (k - 3)) programs k word
+-- whether word k of the records is faulty, by how many were told and the records so far
+abbrev pub is_faulty_task : (told next : ℕ) → List TaskRec → ℕ → ℕ → ℕ → Bool
+is_faulty_task told next tasks programs k word =
+    is_faulty_record told next (record_word tasks (k - 3)) programs k word

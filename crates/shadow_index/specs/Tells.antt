@@ -1,5 +1,5 @@
 -- A layout tells the places of a device. This project's own.
-use Rattle.std.specs.Prelude.{◌≡◌, ◌⊎◌, ℕ, ◌-◌, ◌<◌, ◌==◌, length, slice_index, if◌then◌else◌}
+use Rattle.std.specs.Prelude.{◌≡◌, ◌⊎◌, ℕ, List, ◌-◌, ◌<◌, ◌==◌, length, slice_index, if◌then◌else◌}
 use Rattle.set_model.specs.Sets.{TaskSet, object_at}
 use Rattle.set_model.specs.Numbers.{first_index, index_words, words_needed}
 use Rattle.device_model.specs.Layouts.{Kind, Plain, Paged, Migrated, code_place, copy_place, index_reads, slot_place}
@@ -26,6 +26,11 @@ abbrev pub IsShift : TaskSet → ℕ → Type 0
 IsShift set shift =
     (shift ≡ 0) ⊎ ((set.format ≡ 2) × (shift ≡ words_needed set - first_index set))
 
+-- a table has the place of each program's code
+abbrev pub AreCodePlaces : TaskSet → List ℕ → Type 0
+AreCodePlaces set places =
+    (p : ℕ) → p < length set.programs → slice_index places p ≡ code_place set p
+
 -- its numbers and its tables are those of a device
 pub record IsLayoutOf (d : Device) (l : Layout) : Type 0 where
   pub kind : kind_of l.kind ≡ d.kind
@@ -41,5 +46,4 @@ pub record IsLayoutOf (d : Device) (l : Layout) : Type 0 where
       → looked l.page_places page copy ≡ copy_place (layout_on d) page copy 0
   pub slot_places : (o slot : ℕ) → o < length d.set.objects → slot < (object_at d.set o).slots
       → looked l.slot_places o slot ≡ slot_place (layout_on d) d.set o slot
-  pub code_places : (p : ℕ) → p < length d.set.programs
-      → slice_index l.code_places p ≡ code_place d.set p
+  pub code_places : AreCodePlaces d.set l.code_places

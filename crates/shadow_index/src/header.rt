@@ -6,9 +6,10 @@ ghost use Rattle.set_model.specs.Numbers.{first_index};
 ghost use Rattle.device_model.specs.Layouts.{header, header_word, object_word};
 ghost use Rattle.device_model.specs.Formats.{format_word};
 ghost use Rattle.device_model.specs.Devices.{Device, layout_on};
-ghost use Rattle.shadow_index.specs.Tells.{IsLayoutOf};
+ghost use Rattle.shadow_index.specs.Tells.{AreCodePlaces, IsLayoutOf};
 
 use crate::layout::Layout;
+use crate::tables::CodePlaces;
 use nv_base::limits::MAX_PROGRAMS;
 use nv_base::{ObjId, ProgId};
 use task_set::TaskSet;
@@ -25,14 +26,14 @@ impl Layout {
         if at == self.root {
             self.first_root()
         } else {
-            word_at(set, self.kind.magic(), at)
+            word_at(set, &self.code_places, self.kind.magic(), at)
         }
     }
 }
 
 /// Word `at` of the header: 0 behind it.
-fn word_at(set: &TaskSet, magic: u32, at: u32) -> u32
-    ensures { result ≡ slice_index (header magic set.now) at }
+fn word_at(set: &TaskSet, places: &CodePlaces, magic: u32, at: u32) -> u32
+    ensures { AreCodePlaces set.now places.now → result ≡ slice_index (header magic set.now) at }
 {
     let n = u32::from(set.objects());
     let p = u32::from(set.programs());
@@ -45,7 +46,7 @@ fn word_at(set: &TaskSet, magic: u32, at: u32) -> u32
     if at < 7 + n + 2 * p {
         return program_at(set, at - (7 + n));
     }
-    code_at(set, at - (7 + n + 2 * p))
+    code_at(set, places, at)
 }
 
 /// One of the first seven words.
@@ -86,18 +87,46 @@ fn program_at(set: &TaskSet, i: u32) -> u32
     }
 }
 
-/// Word i of the code of all programs, 0 behind it.
-fn code_at(set: &TaskSet, i: u32) -> u32
-    ensures { (magic : ℕ) → result ≡ slice_index (header magic set.now)
-        (7 + length set.now.objects + 2 * length set.now.programs + i) }
+/// The word at a place behind the directory: one of the code, or 0 behind all code.
+fn code_at(set: &TaskSet, places: &CodePlaces, at: u32) -> u32
+    requires { 7 + length set.now.objects + 2 * length set.now.programs ≤ at }
+    ensures { (magic : ℕ) → AreCodePlaces set.now places.now
+        → result ≡ slice_index (header magic set.now) at }
 {
-    let mut rest = i as usize;
-    for p in 0..set.programs() {
-        let code = set.code(ProgId(p));
-        if rest < code.len() {
-            return code[rest];
-        }
-        rest -= code.len();
+    let p = last_up_to(places, usize::from(set.programs()), at);
+    let code = set.code(ProgId(p as u8));
+    let i = at.saturating_sub(places[p]) as usize;
+    if i < code.len() { code[i] } else { 0 }
+}
+
+/// The last of the first places that is not behind a place, by halves: of 16 places four are looked at.
+fn last_up_to(places: &CodePlaces, count: usize, at: u32) -> usize
+    requires some { 0 < count }
+    requires few { count ≤ MAX_PROGRAMS }
+    ensures inside { result < count }
+    ensures up_to { slice_index places.now 0 ≤ at → slice_index places.now result ≤ at }
+    ensures last { result + 1 < count → at < slice_index places.now (result + 1) }
+{
+    let of_eight = step_up(places, count, at, 0, 8);
+    let of_four = step_up(places, count, at, of_eight, 4);
+    let of_two = step_up(places, count, at, of_four, 2);
+    step_up(places, count, at, of_two, 1)
+}
+
+/// Where the half begins that has the last one, of twice so many places: the later half, where its first is not behind `at`.
+fn step_up(places: &CodePlaces, count: usize, at: u32, from: usize, by: usize) -> usize
+    requires few { count ≤ MAX_PROGRAMS }
+    requires inside { from < count }
+    requires short { by ≤ 8 }
+    requires half { from + 2 * by < count → at < slice_index places.now (from + 2 * by) }
+    ensures inside { result < count }
+    ensures up_to { slice_index places.now from ≤ at → slice_index places.now result ≤ at }
+    ensures half { result + by < count → at < slice_index places.now (result + by) }
+{
+    let next = from + by;
+    if next < count && places[next] <= at {
+        next
+    } else {
+        from
     }
-    0
 }

@@ -23,6 +23,8 @@ pub struct State {
     pub slots: Vec<u8>,
     /// The open tasks, by id.
     pub tasks: Vec<TaskRec>,
+    /// How many open tasks index word 8 told, while words are taken: the tasks are added record by record up to this.
+    pub told: u32,
     /// How often the device was booted.
     pub boots: u32,
     /// The root.
@@ -48,6 +50,7 @@ impl State {
             last: None,
             slots,
             tasks: Vec::with_capacity(alloc, usize::from(set.records()))?,
+            told: 0,
             boots: 0,
             root: 0,
             shift: 0,

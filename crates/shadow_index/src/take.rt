@@ -1,31 +1,25 @@
 //! A state is taken from index words, one by one, up to the first faulty one.
 
-ghost use Rattle.std.specs.Prelude.{ℕ, ◌≡◌, ◌+◌, ◌-◌, ◌<◌, ◌≤◌, ◌==◌, ◌&&◌, IsTrue, length, nat_le, not, set, vec_capacity};
+ghost use Rattle.std.specs.Prelude.{ℕ, ◌≡◌, ◌+◌, ◌-◌, ◌/◌, ◌<◌, ◌≤◌, ◌==◌, ◌&&◌, IsTrue, length, min, nat_le, not, set, vec_capacity};
 ghost use Rattle.set_model.specs.Views.{outcome_of};
 ghost use Rattle.device_model.specs.IndexWords.{exit_word, is_faulty, is_faulty_last, is_faulty_number, trap_word};
-ghost use Rattle.shadow_index.specs.States.{HasRoom, HasTaken, IsNumbered, KeepsRest, word_of};
-ghost use Rattle.shadow_index.specs.Forms.{is_faulty_task, last_word, number_word, record_word};
+ghost use Rattle.shadow_index.specs.States.{HasOpened, HasRoom, HasTaken, IsNumbered, KeepsRest, taken_word};
+ghost use Rattle.shadow_index.specs.Forms.{is_faulty_task, last_word, no_task, record_word, told_number};
 
 use crate::state::State;
 use nv_base::{Entry, ObjId, Outcome, Point, ProgId, Seq, TaskId, TaskRec, TrapCause};
 use task_set::TaskSet;
-
-const NO_TASK: TaskRec = TaskRec {
-    id: TaskId(0),
-    program: ProgId(0),
-    arg: 0,
-};
 
 impl State {
     /// Takes word i of the index, after those before it: false exactly where it is faulty. A state that refused a word
     /// has room yet, and nothing else is told of its index.
     pub fn take(&mut self, set: &TaskSet, i: u32, word: u32) -> bool
         requires { HasTaken set.now i self.old }
-        ensures fault { result ≡ not (is_faulty set.now (word_of self.old) i word) }
+        ensures fault { result ≡ not (is_faulty set.now (taken_word self.old) i word) }
         ensures taken { IsTrue result → HasTaken set.now (i + 1) self.new }
-        ensures word { IsTrue result → word_of self.new i ≡ word }
+        ensures word { IsTrue result → taken_word self.new i ≡ word }
         ensures before { IsTrue result → (k : ℕ) → k < i
-            → word_of self.new k ≡ word_of self.old k }
+            → taken_word self.new k ≡ taken_word self.old k }
         ensures room { HasRoom set.now self.new }
         ensures rest { KeepsRest self.old self.new }
     {
@@ -46,15 +40,14 @@ impl State {
     // One of the first nine words.
     fn take_number(&mut self, records: u32, i: u32, word: u32) -> bool
         requires index { i < 9 }
-        requires room { records ≤ vec_capacity self.old.tasks }
         requires last { 1 < i → IsNumbered self.old.number.0 self.old.last }
-        ensures fault { result ≡ not (is_faulty_number records (number_word self.old) i word) }
+        ensures fault { result ≡ not (is_faulty_number records (told_number self.old) i word) }
         ensures room { vec_capacity self.new.tasks ≡ vec_capacity self.old.tasks }
         ensures last { IsTrue result → 0 < i → IsNumbered self.new.number.0 self.new.last }
-        ensures tasks { IsTrue result → 7 < i → length self.new.tasks.items ≤ records }
-        ensures word { IsTrue result → number_word self.new i ≡ word }
+        ensures tasks { IsTrue result → 7 < i → HasOpened records 0 self.new }
+        ensures word { IsTrue result → told_number self.new i ≡ word }
         ensures before { IsTrue result → (k : ℕ) → k < i
-            → number_word self.new k ≡ number_word self.old k }
+            → told_number self.new k ≡ told_number self.old k }
         ensures slots { self.new.slots ≡ self.old.slots }
         ensures rest { KeepsRest self.old self.new }
     {
@@ -77,12 +70,12 @@ impl State {
         }
     }
 
-    // So many records.
+    // So many records are told, and none has begun.
     fn open(&mut self, records: u32, count: u32) -> bool
-        requires { records ≤ vec_capacity self.old.tasks }
         ensures fault { result ≡ nat_le count records }
         ensures room { vec_capacity self.new.tasks ≡ vec_capacity self.old.tasks }
-        ensures tasks { IsTrue result → length self.new.tasks.items ≡ count }
+        ensures told { IsTrue result → self.new.told ≡ count }
+        ensures tasks { IsTrue result → HasOpened records 0 self.new }
         ensures clock { self.new.clock ≡ self.old.clock }
         ensures number { self.new.number ≡ self.old.number }
         ensures next { self.new.next ≡ self.old.next }
@@ -93,7 +86,8 @@ impl State {
         if count > records {
             return false;
         }
-        blank(&mut self.tasks, count);
+        self.told = count;
+        self.tasks.clear();
         true
     }
 
@@ -102,12 +96,13 @@ impl State {
         requires low { 3 ≤ i }
         requires high { i < 8 }
         requires last { IsNumbered self.old.number.0 self.old.last }
-        ensures fault { result ≡ not (is_faulty_number 0 (number_word self.old) i word) }
+        ensures fault { result ≡ not (is_faulty_number 0 (told_number self.old) i word) }
         ensures last { IsNumbered self.new.number.0 self.new.last }
-        ensures word { IsTrue result → number_word self.new i ≡ word }
+        ensures word { IsTrue result → told_number self.new i ≡ word }
         ensures before { IsTrue result → (k : ℕ) → k < i
-            → number_word self.new k ≡ number_word self.old k }
+            → told_number self.new k ≡ told_number self.old k }
         ensures tasks { self.new.tasks ≡ self.old.tasks }
+        ensures told { self.new.told ≡ self.old.told }
         ensures slots { self.new.slots ≡ self.old.slots }
         ensures rest { KeepsRest self.old self.new }
     {
@@ -128,6 +123,7 @@ impl State {
         ensures slots { IsTrue result → self.new.slots.items ≡ set self.old.slots.items o word }
         ensures count { length self.new.slots.items ≡ length self.old.slots.items }
         ensures tasks { self.new.tasks ≡ self.old.tasks }
+        ensures told { self.new.told ≡ self.old.told }
         ensures clock { self.new.clock ≡ self.old.clock }
         ensures number { self.new.number ≡ self.old.number }
         ensures next { self.new.next ≡ self.old.next }
@@ -141,15 +137,20 @@ impl State {
         true
     }
 
-    // Word k of the records.
+    // Word k of the records: the first word of one begins it.
     fn take_record(&mut self, programs: u8, k: u32, word: u32) -> bool
+        requires room { self.old.told ≤ vec_capacity self.old.tasks }
+        requires begun { length self.old.tasks.items ≡ min self.old.told ((k + 2) / 3) }
         ensures fault { result
-            ≡ not (is_faulty_task self.old.next.0 self.old.tasks.items programs k word) }
+            ≡ not (is_faulty_task self.old.told self.old.next.0 self.old.tasks.items
+            programs k word) }
         ensures room { vec_capacity self.new.tasks ≡ vec_capacity self.old.tasks }
         ensures word { IsTrue result → record_word self.new.tasks.items k ≡ word }
         ensures before { IsTrue result → (j : ℕ) → j < k
             → record_word self.new.tasks.items j ≡ record_word self.old.tasks.items j }
-        ensures count { length self.new.tasks.items ≡ length self.old.tasks.items }
+        ensures begun { IsTrue result
+            → length self.new.tasks.items ≡ min self.new.told ((k + 3) / 3) }
+        ensures told { self.new.told ≡ self.old.told }
         ensures clock { self.new.clock ≡ self.old.clock }
         ensures number { self.new.number ≡ self.old.number }
         ensures next { self.new.next ≡ self.old.next }
@@ -157,10 +158,10 @@ impl State {
         ensures slots { self.new.slots ≡ self.old.slots }
         ensures rest { KeepsRest self.old self.new }
     {
-        let r = (k / 3) as usize;
-        if r >= self.tasks.len() {
+        if k / 3 >= self.told {
             return word == 0;
         }
+        let r = (k / 3) as usize;
         match k % 3 {
             0 => {
                 if word == 0 || word >= self.next.0 {
@@ -169,7 +170,7 @@ impl State {
                 if k >= 3 && word <= self.tasks[r - 1].id.0 {
                     return false;
                 }
-                self.tasks[r].id = TaskId(word);
+                self.tasks.push_reserved(begun(TaskId(word)));
                 true
             }
             1 => {
@@ -184,6 +185,17 @@ impl State {
                 true
             }
         }
+    }
+}
+
+// A record of which its id alone is known.
+fn begun(id: TaskId) -> TaskRec
+    ensures { result ≡ record no_task { id = id } }
+{
+    TaskRec {
+        id,
+        program: ProgId(0),
+        arg: 0,
     }
 }
 
@@ -263,17 +275,5 @@ fn take_exit(outcome: &mut Outcome, word: u32) -> bool
             true
         }
         Outcome::Trap(_) => word == 0,
-    }
-}
-
-// Makes a list one of so many blank records.
-fn blank(tasks: &mut Vec<TaskRec>, count: u32)
-    requires { count ≤ vec_capacity tasks.old }
-    ensures room { vec_capacity tasks.new ≡ vec_capacity tasks.old }
-    ensures count { length tasks.new.items ≡ count }
-{
-    tasks.clear();
-    for _ in 0..count {
-        tasks.push_reserved(NO_TASK);
     }
 }

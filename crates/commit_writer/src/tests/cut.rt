@@ -94,6 +94,7 @@ fn first_state(rt: &HostRuntime, set: &TaskSet) -> Result<State, NoMemory>
         last: None,
         slots: vec![in rt.alloc(); 0u8; usize::from(set.objects())]?,
         tasks,
+        told: 0,
         boots: 0,
         root: Layout::of(set, 0).first_root(),
         shift: 0,

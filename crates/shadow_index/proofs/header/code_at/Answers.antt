@@ -1,37 +1,31 @@
-use Rattle.std.proofs.Common.{◌≡◌, ℕ, ◌+◌, ◌*◌, ◌<◌, List, [], length, slice_index, arith, ap, sym, ◌∙◌}
-use Rattle.std.proofs.lemmas.List.{get_or_past}
-use Rattle.set_model.specs.Sets.{ProgPart, program_at}
-use Rattle.device_model.specs.Layouts.{code_before, code_place, header}
-use Rattle.device_model.proofs.ForCallers.{header-code, length-header}
-use Rattle.shadow_index.proofs.Filling.{code_all, code_more, code_none}
+use Rattle.std.proofs.Common.{◌≡◌, ℕ, List, ◌+◌, ◌-◌, ◌<◌, ◌≤◌, length, slice_index, arith, ap, ◌∙◌}
+use Rattle.set_model.specs.Sets.{program_at}
+use Rattle.device_model.specs.Layouts.{code_place}
+use Rattle.shadow_index.proofs.CodeLooks.{code_behind, code_inside, first_code}
 use Rattle.shadow_index.proofs.header.code_at.Goals as goal
 
-pub loop-p-init : goal.loop-p-init
-loop-p-init c = omega (arith, code_none c.args.set.now.programs)
-
-pub returns-then-rest-code : goal.returns-then-rest-code
-returns-then-rest-code c = λ magic.
+pub returns-then-i-code : goal.returns-then-i-code
+returns-then-i-code c = λ magic t.
     let set = c.args.set.now in
-    let p = c.loop-p.p in
+    let p : ℕ = c.last_up_to-p.result in
+    let l : p < length set.programs = omega (arith, c.programs.ensures.exact, c.from.ensures, c.last_up_to-p.ensures.inside) in
+    let place : slice_index c.args.places.now p ≡ code_place set p = t p l in
+    let first : slice_index c.args.places.now 0 ≤ c.args.at = omega (arith, t 0 (omega (arith, l)), first_code set, c.requires) in
+    let up : code_place set p ≤ c.args.at = omega (arith, c.last_up_to-p.ensures.up_to first, t p l) in
     let code : c.code-code.result.now ≡ (program_at set p).code = c.code-code.ensures.exact in
-    let inside : c.loop-p.rest < length (program_at set p).code = omega (arith, ap (length {A = ℕ}) code) in
-    let at : 7 + length set.objects + 2 * length set.programs + c.args.i ≡ code_place set p + c.loop-p.rest = omega (arith, c.loop-p.invariant) in
-    ap (λ (xs : List ℕ). slice_index xs c.loop-p.rest) code
-    ∙ sym (ap (slice_index (header magic set)) at ∙ (header-code magic set p c.loop-p.rest (omega (arith, c.programs-p-end.ensures.exact)) inside).0)
+    let i : c.saturating_sub-i.result ≡ c.args.at - code_place set p = c.saturating_sub-i.ensures ∙ ap (λ (n : ℕ). c.args.at - n) place in
+    ap (λ (xs : List ℕ). slice_index xs c.saturating_sub-i.result) code
+    ∙ ap (slice_index (program_at set p).code) i
+    ∙ code_inside magic set p c.args.at l up (omega (arith, i, ap (length {A = ℕ}) code, c.if-i-code.true))
 
-pub loop-p-preserved : goal.loop-p-preserved
-loop-p-preserved c =
+pub returns-else-i-code : goal.returns-else-i-code
+returns-else-i-code c = λ magic t.
     let set = c.args.set.now in
-    let p = c.loop-p.p in
-    let none : ProgPart = record { name = []; fuel = 0; code = [] } in
-    let more : code_before set.programs (p + 1) ≡ code_before set.programs p + length (program_at set p).code = code_more set.programs none p (omega (arith, c.programs-p-end.ensures.exact)) in
-    let words : length c.code-code.result.now ≡ length (program_at set p).code = ap (length {A = ℕ}) c.code-code.ensures.exact in
-    omega (arith, c.loop-p.invariant, more, words)
-
-pub returns : goal.returns
-returns c = λ magic.
-    let set = c.args.set.now in
-    let all = code_all set.programs in
-    let end : c.loop-p.p ≡ length set.programs = omega (arith, c.programs-p-end.ensures.exact) in
-    let e : code_before set.programs c.loop-p.p ≡ code_before set.programs (length set.programs) = ap (code_before set.programs) end in
-    sym (get_or_past (header magic set) (7 + length set.objects + 2 * length set.programs + c.args.i) 0 (omega (arith, length-header magic set, all, e, c.loop-p.invariant)))
+    let p : ℕ = c.last_up_to-p.result in
+    let l : p < length set.programs = omega (arith, c.programs.ensures.exact, c.from.ensures, c.last_up_to-p.ensures.inside) in
+    let place : slice_index c.args.places.now p ≡ code_place set p = t p l in
+    let first : slice_index c.args.places.now 0 ≤ c.args.at = omega (arith, t 0 (omega (arith, l)), first_code set, c.requires) in
+    let up : code_place set p ≤ c.args.at = omega (arith, c.last_up_to-p.ensures.up_to first, t p l) in
+    let i : c.saturating_sub-i.result ≡ c.args.at - code_place set p = c.saturating_sub-i.ensures ∙ ap (λ (n : ℕ). c.args.at - n) place in
+    let words = ap (length {A = ℕ}) c.code-code.ensures.exact in
+    code_behind magic set p c.args.at l up (omega (arith, i, words, c.if-i-code.false)) (λ a. let b = c.last_up_to-p.ensures.last (omega (arith, a, c.programs.ensures.exact, c.from.ensures)) in omega (arith, b, t (p + 1) a))

@@ -1,4 +1,4 @@
-use Rattle.std.proofs.Common.{◌<◌, arith}
+use Rattle.std.proofs.Common.{arith}
 use Rattle.shadow_index.specs.Tells.{device_by}
 use Rattle.shadow_index.proofs.tests.index_at.Goals as goal
 
