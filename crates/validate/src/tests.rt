@@ -3,6 +3,13 @@
 ghost use Rattle.std.specs.Prelude.{◌≡◌, IfOk, IfSome, None, Some, [], ◌∷◌, length};
 ghost use Rattle.ver_table.specs.Chains.{Chain, chain_at};
 
+mod beside_plain;
+mod histories;
+mod plain;
+mod rows;
+mod small_tasks;
+mod standing;
+
 use super::*;
 use crate::beside::Beside;
 use crate::slots::{free_slots, raised};
