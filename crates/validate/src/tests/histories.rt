@@ -110,7 +110,7 @@ fn history(alloc: Global, numbers: &mut Numbers, counts: &mut Counts) -> Result<
             return Ok(false);
         };
         counts.count(told, plain.clock());
-        if !agree(&table, &kernel, &plain) {
+        if matches!(told, Told::Asked(_)) && !agree(&table, &kernel, &plain) {
             return Ok(false);
         }
     }
@@ -121,7 +121,6 @@ fn history(alloc: Global, numbers: &mut Numbers, counts: &mut Counts) -> Result<
 fn came(counts: Counts, least: u32) -> bool {
     counts.reads >= least
         && counts.older >= least
-        && counts.stale >= least
         && counts.granted >= least
         && counts.behind >= least
         && counts.empty >= least
@@ -136,6 +135,7 @@ fn answers_are_those_of_a_plain_program(rt: HostRuntime) -> Result<(), Fail> {
     for _ in 0..3000 {
         assert!(rt; history(rt.alloc(), &mut numbers, &mut counts)?);
     }
-    assert!(rt; came(counts, 300));
+    assert!(rt; came(counts, 1000));
+    assert!(rt; counts.stale > 10);
     Ok(())
 }

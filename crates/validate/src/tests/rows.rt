@@ -171,8 +171,35 @@ fn an_older_version_is_read(rt: HostRuntime) -> Result<(), Fail> {
 }
 
 #[test]
+fn a_finish_in_the_past_leaves_no_point_to_those_that_read_what_it_writes(
+    rt: HostRuntime,
+) -> Result<(), Fail> {
+    let tasks = [does(X, Y, 0), does(0, X, 0), does(Y | Z, 0, 0)];
+    let steps = [
+        begins(0, 2),
+        reads(0, 0, 0),
+        copied(0),
+        begins(1, 3),
+        grants(1, 1, 1, 5, [1, NO, NO]),
+        begins(1, 4),
+        reads(1, 0, 0),
+        copied(1),
+        grants(0, 0, 2, 5, [NO, 1, NO]),
+        (1, Told::Stale { lo: 1, hi: 0 }),
+        begins(1, 4),
+        reads(1, 1, 0),
+        copied(1),
+        reads(1, 0, 0),
+        copied(1),
+        grants(1, 1, 3, 5, [NO, NO, NO]),
+    ];
+    assert!(rt; makes(rt.alloc(), 8, &tasks, &steps)?);
+    Ok(())
+}
+
+#[test]
 fn none_is_empty_because_another_finish_came(rt: HostRuntime) -> Result<(), Fail> {
-    let tasks = [does(X, Y, 0), does(X, Z, 0), does(0, Z, 0)];
+    let tasks = [does(X, Y, 0), does(X, Z, 0), does(0, Y, 0)];
     let steps = [
         begins(0, 2),
         reads(0, 0, 0),
@@ -182,8 +209,8 @@ fn none_is_empty_because_another_finish_came(rt: HostRuntime) -> Result<(), Fail
         copied(1),
         begins(2, 4),
         grants(1, 1, 1, 5, [NO, NO, 1]),
-        grants(2, 2, 2, 5, [NO, NO, 0]),
-        grants(0, 3, 3, 5, [NO, 1, NO]),
+        grants(2, 2, 2, 5, [NO, 1, NO]),
+        grants(0, 3, 3, 5, [NO, 0, NO]),
     ];
     assert!(rt; makes(rt.alloc(), 8, &tasks, &steps)?);
     Ok(())
