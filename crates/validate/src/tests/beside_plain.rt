@@ -46,11 +46,7 @@ pub(crate) enum Told {
     /// It began this task.
     Began(u32),
     /// It reads the version in a slot, with this begin, which is the newest or an older one.
-    Reads {
-        slot: u8,
-        begin: u32,
-        newest: bool,
-    },
+    Reads { slot: u8, begin: u32, newest: bool },
     /// It has copied what it read.
     Copied,
     /// It was stale, and has nothing more.
@@ -170,7 +166,12 @@ fn queue_of(alloc: Global, set: &TaskSet, args: &[u32]) -> Result<Option<Queue>,
 }
 
 /// The kernel of these tasks, at this clock.
-pub(crate) fn kernel_of(alloc: Global, set: &TaskSet, args: &[u32], clock: u32) -> Result<Option<Kernel>, NoMemory> {
+pub(crate) fn kernel_of(
+    alloc: Global,
+    set: &TaskSet,
+    args: &[u32],
+    clock: u32,
+) -> Result<Option<Kernel>, NoMemory> {
     let Some(queue) = queue_of(alloc, set, args)? else {
         return Ok(None);
     };
@@ -200,7 +201,11 @@ fn begin(
     let tasks = kernel.tasks(alloc)?;
     let ready = plain.ready();
     let Some(task) = kernel.queue.next_ready(tasks.as_slice()) else {
-        return Ok(if ready.is_none() { Some(Told::Nothing) } else { None });
+        return Ok(if ready.is_none() {
+            Some(Told::Nothing)
+        } else {
+            None
+        });
     };
     if ready != Some(task.id.0) || plain.clock() != kernel.clock.0 {
         return Ok(None);
@@ -239,7 +244,11 @@ fn fetch(
                 lo: stale.lo.0,
                 hi: stale.hi.0,
             };
-            Ok(if interval.is_empty() && told == same { Some(told) } else { None })
+            Ok(if interval.is_empty() && told == same {
+                Some(told)
+            } else {
+                None
+            })
         }
         Some(Ok((version, left))) if !interval.is_empty() => {
             opens(kernel, plain, held, object, version, left)
@@ -403,7 +412,14 @@ fn ask(
     } = expected
     {
         let granted = (point, first, slots);
-        if !joins(table, kernel, held, attempt.spawns(), others.as_slice(), granted)? {
+        if !joins(
+            table,
+            kernel,
+            held,
+            attempt.spawns(),
+            others.as_slice(),
+            granted,
+        )? {
             return Ok(None);
         }
         kernel.cut(alloc, run.writes, Point(point))?;

@@ -26,6 +26,11 @@ impl Numbers {
     }
 }
 
+// A number of 8 bits, or the greatest one.
+fn byte(n: u32) -> u8 {
+    u8::try_from(n).unwrap_or(u8::MAX)
+}
+
 // How often each answer came.
 #[derive(Clone, Copy, PartialEq, Eq, Debug)]
 struct Counts {
@@ -72,9 +77,9 @@ impl Counts {
 fn history(alloc: Global, numbers: &mut Numbers, counts: &mut Counts) -> Result<bool, NoMemory> {
     let most = if numbers.below(3) == 0 { 7 } else { 2 };
     let slots = [
-        2u32.saturating_add(numbers.below(most)) as u8,
-        2u32.saturating_add(numbers.below(most)) as u8,
-        2u32.saturating_add(numbers.below(most)) as u8,
+        byte(numbers.below(most).saturating_add(2)),
+        byte(numbers.below(most).saturating_add(2)),
+        byte(numbers.below(most).saturating_add(2)),
     ];
     let tasks = numbers.below(8).saturating_add(1);
     let records = tasks.saturating_add(numbers.below(4));
@@ -84,7 +89,7 @@ fn history(alloc: Global, numbers: &mut Numbers, counts: &mut Counts) -> Result<
     }
     let cores = numbers.below(8).saturating_add(1);
     let clock = numbers.below(3);
-    let Some(set) = small_set(alloc, slots, records as u16)? else {
+    let Some(set) = small_set(alloc, slots, u16::from(byte(records)))? else {
         return Ok(false);
     };
     let Some(mut table) = Table::opened(alloc, &set, Point(clock))? else {
@@ -96,7 +101,7 @@ fn history(alloc: Global, numbers: &mut Numbers, counts: &mut Counts) -> Result<
     let mut attempt = Attempt::new(alloc, &set)?;
     let mut plain = Plain::opened(alloc, slots, records, tasks, clock)?;
     for _ in 0..150 {
-        let core = numbers.below(cores) as u8;
+        let core = byte(numbers.below(cores));
         let told = step(
             &set,
             alloc,

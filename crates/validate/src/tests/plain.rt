@@ -299,10 +299,7 @@ impl Plain {
         };
         for mark in &self.marks {
             if mark.core == core {
-                span = span.within(
-                    self.point(mark.writer),
-                    self.end(mark.object, mark.writer),
-                );
+                span = span.within(self.point(mark.writer), self.end(mark.object, mark.writer));
             }
         }
         span

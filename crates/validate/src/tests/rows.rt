@@ -91,14 +91,8 @@ fn makes(
         return Ok(false);
     };
     let mut attempt = Attempt::new(alloc, &set)?;
-    let tasks = args.len() as u8;
-    let mut plain = Plain::opened(
-        alloc,
-        [2, 2, 2],
-        u32::from(records),
-        u32::from(tasks),
-        0,
-    )?;
+    let tasks = u32::try_from(args.len()).unwrap_or(u32::MAX);
+    let mut plain = Plain::opened(alloc, [2, 2, 2], u32::from(records), tasks, 0)?;
     for (core, expected) in steps {
         let told = step(
             &set,

@@ -6,12 +6,12 @@ ghost use Rattle.vol_copy.specs.declared.attempt.Stage.TheVariants.{Running};
 ghost use Rattle.vol_copy.specs.Tries.{IsFor};
 
 use super::plain::{OBJECTS, Run, has};
+use interval::Version;
 use nv_base::{NoMemory, ObjId, Outcome, Point, ProgId, TaskRec, TrapCause};
 use std::alloc::Global;
 use task_set::{
     Name, ObjPart, ObjectParts, ProgPart, ProgramParts, SetParts, TaskSet, Tasks, Words,
 };
-use interval::Version;
 use vol_copy::{Attempt, Need};
 
 // Reads the objects of bits 16 to 18 of the argument, writes those of bits 19 to 21, spawns as many tasks as bits 22 and
@@ -85,7 +85,11 @@ fn turn(set: &TaskSet, attempt: &mut Attempt) -> Option<bool>
                 slot: 0,
                 begin: Point(0),
             });
-            if attempt.copy_word(7) { Some(false) } else { None }
+            if attempt.copy_word(7) {
+                Some(false)
+            } else {
+                None
+            }
         }
     }
 }

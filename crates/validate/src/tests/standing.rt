@@ -132,7 +132,11 @@ impl Table {
 
     /// An outside read of an object: the version and the interval after it, or that the attempt is stale. None where no
     /// version begins before the end of an interval with a point.
-    pub(crate) fn read(&self, o: u8, reads: Interval) -> Option<Result<(Version, Interval), Stale>> {
+    pub(crate) fn read(
+        &self,
+        o: u8,
+        reads: Interval,
+    ) -> Option<Result<(Version, Interval), Stale>> {
         if o >= self.versions.objects() {
             return None;
         }

@@ -34,10 +34,16 @@ invariant_of-result c =
     let long = length-map c.args.set.now.objects (λ (p : ObjPart). p.slots) in
     let three : length sizes ≡ 3 = omega (arith, long, c.objects.ensures.exact, c.if-objects-ne3.false) in
     let first = first_stands sizes c.args.clock chains c.in_ok-versions.ensures in
-    subst (λ (vs : List Version). AllByRecursion (Stands chains) vs) (sym c.in_ok-stands.ensures.items)
-    (first c.first.result 0 (omega (arith, three)) refl c.first.ensures, (
-     first c.first-2.result 1 (omega (arith, three)) refl c.first-2.ensures, (
-     first c.first-3.result 2 (omega (arith, three)) refl c.first-3.ensures, tt)))
+    subst (λ (vs : List Version). AllByRecursion (Stands chains) vs) (sym c.in_ok-stands.ensures.items) (
+      first c.first.result 0 (omega (arith, three)) refl c.first.ensures,
+      (
+        first c.first-2.result 1 (omega (arith, three)) refl c.first-2.ensures,
+        (
+          first c.first-3.result 2 (omega (arith, three)) refl c.first-3.ensures,
+          tt,
+        ),
+      ),
+    )
 
 pub returns : goal.returns
 returns c = c.slots_stay.ensures.opened _ _ _ _ c.in_ok-versions.ensures
