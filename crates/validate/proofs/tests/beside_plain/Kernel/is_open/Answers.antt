@@ -1,0 +1,10 @@
+use Rattle.std.proofs.Common.{◌≡◌, ◌==◌, List, true, None, ap, sym, ◌∙◌, subst, IsTrue}
+use Rattle.std.specs.List.{list_any}
+use Rattle.nv_base.specs.declared.lines.TaskRec as base
+use Rattle.kernel_model.specs.Replay.{TaskRec, task_under}
+use Rattle.validate.proofs.tests.Stands.{told_is_open}
+use Rattle.validate.proofs.tests.beside_plain.Kernel.is_open.Goals as goal
+
+pub returns : goal.returns
+returns c t f =
+    told_is_open c.open_tasks.result.now c.args.task.0 (sym c.is_under.ensures ∙ t) (ap (λ (ts : List TaskRec). task_under ts c.args.task.0) c.open_tasks.ensures ∙ f)
