@@ -1,5 +1,7 @@
 //! A format by hand: whole, too large, and cut at each write.
 
+ghost use Rattle.std.specs.Prelude.{◌≤◌, length};
+
 use super::*;
 use fram_dev::MemFram;
 use nv_base::{NoMemory, ProgId, Spawn};
@@ -77,15 +79,28 @@ fn a_format_is_cut_at_each_write(rt: HostRuntime) -> Result<(), Fail> {
     Ok(())
 }
 
+// whether a device of so many words is refused, with this need, and left as it was
+fn is_refused(rt: &HostRuntime, number: u8, need: u32, words: &[u32]) -> Result<bool, NoMemory>
+    requires { length words.now ≤ 65536 }
+{
+    let Some(set) = small_set(rt, number)? else {
+        return Ok(false);
+    };
+    let mut dev = MemFram::new(rt.alloc(), words, 200)?;
+    let small = FormatRefusal::Small {
+        need,
+        len: words.len() as u32,
+    };
+    Ok(format(&mut dev, &set) == Err(small) && dev.words() == words)
+}
+
 #[test]
 fn a_small_device_is_left_as_it_is(rt: HostRuntime) -> Result<(), Fail> {
+    assert!(rt; is_refused(&rt, 1, 50, &[9; 49])?);
+    assert!(rt; is_refused(&rt, 2, 89, &[9; 88])?);
     let Some(set) = small_set(&rt, 2)? else {
         return Err(Fail::new("the set is within its limits"));
     };
-    let mut dev = MemFram::new(rt.alloc(), &BEFORE, 90)?;
-    let small = FormatRefusal::Small { need: 89, len: 50 };
-    assert!(rt; format(&mut dev, &set) == Err(small));
-    assert!(rt; dev.words() == BEFORE.as_slice());
     let mut large = MemFram::new(rt.alloc(), &[9; 89], 90)?;
     assert!(rt; format(&mut large, &set).is_ok());
     assert!(rt; large.words().first() == Some(&0x324B_564E));
