@@ -1,1 +1,2 @@
+-- What a table that stands keeps in the tests.
 pub mod Stands
