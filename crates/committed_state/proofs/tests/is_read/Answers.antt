@@ -3,7 +3,7 @@ use Rattle.std.specs.Prelude.{slice_index}
 use Rattle.set_model.specs.Numbers.{index_words}
 use Rattle.device_model.proofs.ForCallers.{fault-same}
 use Rattle.device_model.specs.IndexWords.{IsIndex, is_faulty}
-use Rattle.shadow_index.specs.States.{word_of}
+use Rattle.shadow_index.specs.States.{taken_word}
 use Rattle.committed_state.proofs.tests.is_read.Goals as goal
 
 not-true : (b : Bool) → true ≡ not b → b ≡ false
@@ -20,9 +20,9 @@ loop-i-preserved c =
     let h = c.loop-i.invariant in
     record {
       taken = c.if-not-take.ensures.taken refl;
-      words = below_more (λ k. word_of new k ≡ words k) i (λ k l. c.if-not-take.ensures.before refl k l ∙ h.words k l) (c.if-not-take.ensures.word refl);
+      words = below_more (λ k. taken_word new k ≡ words k) i (λ k l. c.if-not-take.ensures.before refl k l ∙ h.words k l) (c.if-not-take.ensures.word refl);
       faultless = below_more (λ k. is_faulty set words k (words k) ≡ false) i h.faultless
-          (sym (fault-same set (word_of old) words i (words i) h.words) ∙ not-true (is_faulty set (word_of old) i (words i)) c.if-not-take.ensures.fault);
+          (sym (fault-same set (taken_word old) words i (words i) h.words) ∙ not-true (is_faulty set (taken_word old) i (words i)) c.if-not-take.ensures.fault);
     }
 
 pub returns-clause-index : goal.returns-clause-index
