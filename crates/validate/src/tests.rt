@@ -5,13 +5,6 @@ ghost use Rattle.ver_table.specs.Chains.{Chain, chain_at};
 ghost use Rattle.vol_copy.specs.Stages.{is_waiting};
 ghost use Rattle.vol_copy.specs.Tries.{IsFor};
 
-mod beside_plain;
-mod histories;
-mod plain;
-mod rows;
-mod small_tasks;
-mod standing;
-
 use super::*;
 use crate::beside::Beside;
 use crate::slots::{free_slots, raised};
