@@ -1,2 +1,0 @@
--- What a table that stands keeps in the tests.
-pub mod Stands
