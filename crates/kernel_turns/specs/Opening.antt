@@ -1,16 +1,22 @@
 -- What a kernel has before it begins on a device. This project's own.
-use Rattle.std.specs.Prelude.{◌≡◌, ℕ, ◌≤◌, List, [], length, vec_capacity, false, None}
+use Rattle.std.specs.Prelude.{◌≡◌, ℕ, ◌≤◌, List, [], length, vec_capacity, true, false, None}
 use Rattle.std.specs.List.{AllByRecursion}
-use Rattle.kernel_model.specs.Events.{On}
+use Rattle.rv_core.specs.State.{MachineState}
+use Rattle.nv_base.specs.Streams.{FaultCounted}
+use Rattle.kernel_model.specs.Events.{On, Boot}
 use Rattle.set_model.specs.Sets.{TaskSet}
 use Rattle.set_model.specs.Limits.{IsTaskSet}
 use Rattle.device_model.specs.Words.{Words}
 use Rattle.device_model.specs.IndexWords.{Index}
-use Rattle.device_model.specs.Decoding.{Held}
+use Rattle.device_model.specs.Layouts.{boot_turns_of}
+use Rattle.device_model.specs.Decoding.{Held, decode, durable_of, is_worn}
+use Rattle.device_model.specs.Decoding as stored
+use Rattle.device_model.specs.Devices.{HoldsOn, held_on, layout_on}
 use Rattle.shadow_index.specs.States.{HasTaken}
 use Rattle.shadow_index.specs.Tells.{IsLayoutOf, device_of}
-use Rattle.table_machine.specs.Tables.{Vacant}
+use Rattle.table_machine.specs.Tables.{Tables, Vacant}
 use Rattle.table_machine.specs.Simulates.{opened_tables}
+use Rattle.recovery.specs.Images.{device_at}
 use Rattle.commit_writer.specs.Rooms.{IsFor as HasTables}
 use Rattle.vol_copy.specs.Tries.{IsFor}
 use Rattle.committed_state.specs.Committed.{HasRooms}
@@ -20,6 +26,8 @@ use Rattle.kernel_turns.specs.Commits.{setting_on}
 use Rattle.kernel_turns.specs.Keeping.{IsLawful, Keeps}
 use Rattle.kernel_turns.specs.declared.kernel.Kernel.{Kernel}
 use Rattle.kernel_turns.specs.declared.kernel.Power.TheVariants as power
+use Rattle.kernel_turns.specs.declared.open.OpenRefusal.{OpenRefusal}
+use Rattle.kernel_turns.specs.declared.open.OpenRefusal.TheVariants.{Small, NoMemory, Lost, Blank, Damaged, Worn}
 
 -- a core without a task, with room for all of a set
 pub record IsIdle (set : TaskSet) (s : Seat) : Type 0 where
@@ -51,3 +59,29 @@ pub record HasRoomFor (set : TaskSet) (room : ℕ) (k : Kernel) : Type 0 where
 pub record IsOpenedOn (k : Kernel) (words : Words) (h : Held) : Type 0 where
   pub keeps : Keeps k words (opened_tables (setting_on k.set words) h k.set.cores On)
   pub lawful : IsLawful k words (opened_tables (setting_on k.set words) h k.set.cores On)
+
+-- the tables of what a device holds, before the first turn of a boot
+abbrev pub booting_tables : Kernel → Words → Tables MachineState
+booting_tables k words =
+    let d = device_at k.set words in
+    opened_tables (setting_on k.set words) (held_on d words) k.set.cores (Boot (boot_turns_of (layout_on d)))
+
+-- its words hold a state, and it is not worn
+pub record HoldsFresh (set : TaskSet) (words : Words) : Type 0 where
+  pub holds : HoldsOn (device_at set words) (held_on (device_at set words) words) words
+  pub fresh : is_worn (durable_of (held_on (device_at set words) words)) ≡ false
+
+-- in a boot the kernel stands for the tables of what its device holds, with no turn of it taken
+pub record IsBootOn (k : Kernel) (words : Words) : Type 0 where
+  pub held : HoldsFresh k.set words
+  pub keeps : Keeps k words (booting_tables k words)
+  pub lawful : IsLawful k words (booting_tables k words)
+
+-- why a kernel does not begin on what a device holds
+abbrev pub IsNotBooted : TaskSet → Words → (old new : ℕ) → OpenRefusal → Type 0
+IsNotBooted set words old new (Small need len) = ⊥
+IsNotBooted set words old new NoMemory = ⊥
+IsNotBooted set words old new Lost = FaultCounted old new
+IsNotBooted set words old new Blank = decode set words ≡ stored.Blank
+IsNotBooted set words old new (Damaged place) = decode set words ≡ stored.Damaged place
+IsNotBooted set words old new Worn = HoldsOn (device_at set words) (held_on (device_at set words) words) words × (is_worn (durable_of (held_on (device_at set words) words)) ≡ true)

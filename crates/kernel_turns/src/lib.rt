@@ -2,6 +2,7 @@
 #![tactic(auto)]
 
 mod commit;
+mod again;
 mod copying;
 mod kernel;
 mod open;

@@ -44,6 +44,12 @@ pub enum OpenRefusal {
     NoMemory,
     /// The device lost a call.
     Lost,
+    /// Word 0 of the device is 0: no state was ever whole there. Nothing was written.
+    Blank,
+    /// The place of the first faulty word. Nothing was written.
+    Damaged(u32),
+    /// So much has happened on the device that numbers could run out. Nothing was written.
+    Worn,
 }
 
 impl Kernel {

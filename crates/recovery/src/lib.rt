@@ -12,7 +12,7 @@ mod words;
 
 pub use boot::Boot;
 pub use device_format::{FormatRefusal, format};
-pub use migration::migrate;
+pub use migration::{is_worn, migrate};
 pub use reader::Reader;
 pub use reading::{read_object, read_state};
 pub use refusals::{BootRefusal, BootTurn, MigrateRefusal};

@@ -128,8 +128,8 @@ fn told(refusal: BootRefusal) -> MigrateRefusal
     }
 }
 
-// Whether numbers could run out.
-fn is_worn(state: &State) -> bool
+/// Whether so much has happened on a device that numbers could run out.
+pub fn is_worn(state: &State) -> bool
     ensures { (h : Held) → index_of state.now ≡ h.index → state.now.boots ≡ h.boots
         → result ≡ is_worn (durable_of h) }
 {
