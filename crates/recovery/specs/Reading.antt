@@ -7,7 +7,7 @@ use Rattle.device_model.specs.Words.{Words}
 use Rattle.device_model.specs.Layouts.{kind_named, reads}
 use Rattle.device_model.specs.Decoding as stored
 use Rattle.device_model.specs.Decoding.{decode, index_in}
-use Rattle.device_model.specs.Devices.{Device, HoldsOn, held_on, is_faulty_on, layout_on, read_on}
+use Rattle.device_model.specs.Devices.{Device, HoldsOn, held_on, is_faulty_on, layout_on, migrated, read_on}
 use Rattle.shadow_index.specs.declared.state.State.{State}
 use Rattle.shadow_index.specs.States.{HasTaken, taken_word}
 use Rattle.shadow_index.specs.Tells.{IsLayoutOf, IsShift, device_of}
@@ -20,6 +20,7 @@ use Rattle.recovery.specs.Images.{IsStateOn, device_at, shift_on}
 pub record IsFresh (set : TaskSet) (r : Reader) : Type 0 where
   pub none : r.count ≡ 0
   pub layout : IsLayoutOf (device_of set 0) r.layout
+  pub moved : IsLayoutOf (migrated set) r.migrated
 
 -- the words before number count were read, none of them is faulty, and a state has taken what they tell
 pub record HasRead (d : Device) (words : Words) (r : Reader) (into : State) : Type 0 where

@@ -3,7 +3,7 @@
 ghost use Rattle.std.specs.Prelude.{◌≡◌, ◌+◌, ◌-◌, ◌<◌, ◌≤◌, ◌==◌, IfErr, OnOk, length};
 ghost use Rattle.device_model.specs.Words.{Words};
 ghost use Rattle.device_model.specs.Layouts.{Plain, kind_named, magic_of, reads};
-ghost use Rattle.device_model.specs.Devices.{Device, layout_on, need_on, plain};
+ghost use Rattle.device_model.specs.Devices.{Device, layout_on, migrated, need_on, plain};
 ghost use Rattle.shadow_index.specs.States.{HasRoom, HasTaken};
 ghost use Rattle.shadow_index.specs.Tells.{IsLayoutOf, device_by, device_of};
 ghost use Rattle.recovery.specs.Images.{device_at, words_of};
@@ -13,6 +13,7 @@ use crate::kinds::{kind_named, shift_of};
 use crate::refusals::BootRefusal;
 use fram_dev::Fram;
 use shadow_index::{DeviceKind, Layout, State};
+use std::mem::swap;
 use task_set::TaskSet;
 
 /// Reads the words of a device in their order, and takes what they tell.
@@ -20,6 +21,8 @@ use task_set::TaskSet;
 pub struct Reader {
     /// Where the words stand: of the kind that word 0 names, once it is read.
     pub layout: Layout,
+    /// Where they stand behind a migration: made at the begin, so that the turn that reads word 0 makes none.
+    pub migrated: Layout,
     /// How many words were read.
     pub count: u32,
 }
@@ -31,6 +34,7 @@ impl Reader {
     {
         Reader {
             layout: Layout::of(set, 0),
+            migrated: Layout::of_kind(set, DeviceKind::Migrated),
             count: 0,
         }
     }
@@ -47,6 +51,7 @@ impl Reader {
         into.shift = 0;
         Reader {
             layout: Layout::of_kind(set, DeviceKind::Plain),
+            migrated: Layout::of_kind(set, DeviceKind::Migrated),
             count: 1,
         }
     }
@@ -90,14 +95,17 @@ impl Reader {
         }
     }
 
-    // Makes the layout of a kind, where it is another one than the set's first.
+    // Takes the layout of a kind. It makes one only where the words are of format 1 for a set of format 2: these a caller
+    // migrates first.
     fn layout_for(&mut self, set: &TaskSet, kind: DeviceKind)
-        requires { IsLayoutOf (device_of set.now 0) self.old.layout }
+        requires first { IsLayoutOf (device_of set.now 0) self.old.layout }
+        requires moved { IsLayoutOf (migrated set.now) self.old.migrated }
         ensures { IsLayoutOf (device_by set.now kind) self.new.layout }
     {
         match (self.layout.kind(), kind) {
             (DeviceKind::Plain, DeviceKind::Plain) => {}
             (DeviceKind::Paged, DeviceKind::Paged) => {}
+            (_, DeviceKind::Migrated) => swap(&mut self.layout, &mut self.migrated),
             _ => self.layout = Layout::of_kind(set, kind),
         }
     }

@@ -35,7 +35,7 @@ returns-in-Some-clause-read g c =
     let written : words 0 ≢ 0 = λ z. c.if-word-eq0.false (c.in-Ok.ensures.word ∙ z) in
     let named : kind_named set.format (words 0) ≡ Some (kind_of c.in-Some.kind) = ap₂ kind_named (sym c.format.ensures.exact) (sym c.in-Ok.ensures.word) ∙ sym c.in-Some.ensures in
     let same : d ≡ device_at set words = sym (named_device set words (kind_of c.in-Some.kind) named) in
-    let new : Reader = record { layout = c.layout_for.new.self.layout; count = 1 } in
+    let new : Reader = record { layout = c.layout_for.new.self.layout; migrated = c.layout_for.new.self.migrated; count = 1 } in
     let after : State = record c.args.into.now { shift = c.shift_of-into.result } in
     subst (λ (x : Device). HasRead x words new after) same
     (first_read d words new c.args.into.now after c.format.ensures.limits written named c.layout_for.ensures refl c.requires.state refl refl (c.shift_of-into.ensures d c.layout_for.ensures))
