@@ -21,3 +21,4 @@ pub mod Writing
 pub mod MayJoin
 pub mod Joined
 pub mod Stepping
+pub mod BegunAgain

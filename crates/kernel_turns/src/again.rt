@@ -1,6 +1,6 @@
 //! A kernel begins in a boot of a device that holds a state.
 
-ghost use Rattle.std.specs.Prelude.{◌≡◌, ℕ, ◌≤◌, IfErr, OnOk, length};
+ghost use Rattle.std.specs.Prelude.{◌≡◌, ◌≢◌, ℕ, ◌≤◌, IfErr, IfOk, OnOk, false, length};
 ghost use Rattle.device_model.specs.Devices.{need_on};
 ghost use Rattle.recovery.specs.Images.{IsOwn, device_at, words_of};
 ghost use Rattle.kernel_turns.specs.Opening.{HasRoomFor, IsBootOn, IsNotBooted};
@@ -13,10 +13,42 @@ use nv_base::limits::MAX_EVENTS;
 use recovery::{Boot, BootRefusal, is_worn, read_state};
 use rv_core::Machine;
 use shadow_index::Layout;
+use std::alloc::Global;
 use table_machine::events::{device_is_setting, opened_tables_represent};
 use task_model::laws::tasks_are_a_machine;
+use task_set::TaskSet;
 
 impl Kernel {
+    /// Begins in a boot of a device that holds a state, with room for so many finishes. All memory is taken here; `NoMemory`
+    /// where there is not enough. `Blank` where word 0 is 0, `Damaged` at the place of the first faulty word, `Worn` where
+    /// numbers could run out, `Lost` where the device lost a call. Nothing is written.
+    pub fn open_again<F: Fram>(
+        alloc: Global,
+        dev: &mut F,
+        set: TaskSet,
+        room: u32,
+    ) -> Result<Kernel, OpenRefusal>
+        requires room { room ≤ MAX_EVENTS }
+        requires own { IsOwn set (words_of (F.log dev.old) (F.start dev.old)) }
+        requires long { let words = words_of (F.log dev.old) (F.start dev.old) in
+            need_on (device_at set words) ≤ length (F.start dev.old) }
+        ensures booting { let words = words_of (F.log dev.new) (F.start dev.new) in
+            IfOk result (λ k. IsBootOn k words) }
+        ensures set { IfOk result (λ k. (k.set ≡ set) × (k.room ≡ room) × (k.lost ≡ false)) }
+        ensures refused { let words = words_of (F.log dev.old) (F.start dev.old) in
+            result ≢ Err OpenRefusal.NoMemory
+            → IfErr result (IsNotBooted set words (F.lost dev.old) (F.lost dev.new)) }
+        ensures log { F.log dev.new ≡ F.log dev.old }
+        ensures start { F.start dev.new ≡ F.start dev.old }
+        ensures never_falls { F.lost dev.old ≤ F.lost dev.new }
+    {
+        let Ok(mut kernel) = Kernel::with_room(alloc, set, room) else {
+            return Err(OpenRefusal::NoMemory);
+        };
+        kernel.begin_again(dev)?;
+        Ok(kernel)
+    }
+
     /// Looks at what the device holds, and begins in a boot of it. `Blank` where word 0 is 0, `Damaged` at the place of the
     /// first faulty word, `Worn` where numbers could run out, `Lost` where the device lost a call. Nothing is written.
     pub(crate) fn begin_again<F: Fram>(&mut self, dev: &mut F) -> Result<(), OpenRefusal>

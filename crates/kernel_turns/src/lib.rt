@@ -1,8 +1,8 @@
 //! The kernel of one to eight cores over a device: each turn is one event.
 #![tactic(auto)]
 
-mod commit;
 mod again;
+mod commit;
 mod copying;
 mod kernel;
 mod open;
