@@ -10,8 +10,6 @@
 typedef uint32_t u32;
 typedef uint8_t u8;
 
-#define APART __attribute__((noinline))
-
 enum { MAX_OBJECTS = 128, MAX_SLOTS = 8, MAX_OTHERS = 7, MEMORY = 1024, FUEL = 1000000, SIZE = 16, MAX_RECORDS = 16 };
 
 /* The machine of one task. */
@@ -194,7 +192,7 @@ static void serve(struct attempt *a) {
     }
 }
 
-static APART void advance(struct attempt *a) {
+static void advance(struct attempt *a) {
     enum step went = step(&a->machine);
     if (went == CALL) serve(a);
     if (went == TRAP) end(a, true, 0);
@@ -239,7 +237,7 @@ struct view { struct interval interval; bool copies; struct pin pin; };
 
 /* An outside read: the version, and what is left of the interval. */
 
-static APART bool admit(const struct table *t, const struct interval *reads, u32 object, struct version *v) {
+static bool admit(const struct table *t, const struct interval *reads, u32 object, struct version *v) {
     if (is_empty(reads)) return false;
     const struct chain *c = &t->chain[object];
     for (u32 i = 0; i < c->length; i++)
@@ -250,7 +248,7 @@ static APART bool admit(const struct table *t, const struct interval *reads, u32
     return false;
 }
 
-static APART void opened(const struct table *t, struct interval *reads, const struct version *v) {
+static void opened(const struct table *t, struct interval *reads, const struct version *v) {
     struct end end = t->chain[v->object].ends[v->slot];
     raise_to(reads, v->begin);
     if (end.some && is_before(end.point, reads->hi)) reads->hi = end;
@@ -275,32 +273,49 @@ static bool is_met(const struct interval *i, u32 begin, struct end end) {
     return is_before(lo, end) && is_before(lo, i->hi);
 }
 
-static bool is_taken(const struct chain *c, u32 o, u32 slot, const struct view *views, u32 count) {
-    bool stands = false;
+/* What the others may read and do copy. */
+struct beside { struct interval intervals[MAX_OTHERS]; struct pin pins[MAX_OTHERS]; u32 attempts, copies; };
+
+static void gather(struct beside *b, const struct view *views, u32 count) {
+    b->attempts = count, b->copies = 0;
+    for (u32 k = 0; k < count; k++) {
+        b->intervals[k] = views[k].interval;
+        if (views[k].copies) b->pins[b->copies++] = views[k].pin;
+    }
+}
+
+static bool holds(const struct chain *c, u32 slot) {
+    for (u32 i = 0; i < c->length; i++)
+        if (c->order[i] == slot) return true;
+    return false;
+}
+
+static bool is_taken(const struct chain *c, u32 o, u32 slot, const struct beside *b) {
     if (c->order[0] == slot) return true;
-    for (u32 i = 0; i < c->length; i++) stands |= c->order[i] == slot;
-    if (!stands) return false;
-    for (u32 k = 0; k < count; k++)
-        if (views[k].copies && views[k].pin.object == o && views[k].pin.slot == slot) return true;
-    for (u32 k = 0; k < count; k++)
-        if (is_met(&views[k].interval, c->begins[slot], c->ends[slot])) return true;
+    if (!holds(c, slot)) return false;
+    for (u32 k = 0; k < b->copies; k++)
+        if (b->pins[k].object == o && b->pins[k].slot == slot) return true;
+    for (u32 k = 0; k < b->attempts; k++)
+        if (is_met(&b->intervals[k], c->begins[slot], c->ends[slot])) return true;
     return false;
 }
 
 static bool free_slots(const struct table *t, objects written, const struct view *views, u32 count, struct verdict *v) {
+    struct beside b;
+    gather(&b, views, count);
     memset(v->slots, 0, sizeof v->slots);
     for (u32 o = 0; o < t->count; o++) {
         if (!(written >> o & 1)) continue;
         u32 slot = 0;
-        while (slot < t->chain[o].slots && is_taken(&t->chain[o], o, slot, views, count)) slot++;
+        while (slot < t->chain[o].slots && is_taken(&t->chain[o], o, slot, &b)) slot++;
         if (slot == t->chain[o].slots) { v->is = SLOTS, v->lo = o; return false; }
         v->slots[o] = slot;
     }
     return true;
 }
 
-static APART void validate(const struct table *t, const struct queue *q, const struct attempt *a, struct interval reads,
-                           const struct view *views, u32 count, u32 clock, u32 number, struct verdict *v) {
+static void validate(const struct table *t, const struct queue *q, const struct attempt *a, struct interval reads,
+                     const struct view *views, u32 count, u32 clock, u32 number, struct verdict *v) {
     for (u32 o = 0; o < t->count; o++)
         if (a->written >> o & 1) raise_to(&reads, t->chain[o].bound);
     if (is_empty(&reads)) { v->is = EMPTY, v->lo = reads.lo, v->hi = reads.hi.point; return; }
