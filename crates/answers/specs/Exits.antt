@@ -3,7 +3,7 @@ use Rattle.std.specs.Prelude.{ℕ, List, [], ◌++◌, codes}
 use Rattle.std.specs.Fmt.{decimal}
 use Rattle.script.specs.CauseWords.{cause_word}
 use Rattle.answers.specs.declared.status.Status.{Status}
-use Rattle.answers.specs.declared.status.Status.TheVariants.{Done, Usage, Script, Packed, ReadFault, WriteFault, NoMemory, NotBuilt}
+use Rattle.answers.specs.declared.status.Status.TheVariants.{Done, Usage, Script, Packed, ReadFault, WriteFault, NoMemory, DeviceLost, Small}
 
 abbrev pub exit_of : Status → ℕ
 exit_of Done = 0
@@ -13,7 +13,8 @@ exit_of (Packed place) = 3
 exit_of ReadFault = 4
 exit_of WriteFault = 5
 exit_of NoMemory = 6
-exit_of NotBuilt = 11
+exit_of DeviceLost = 7
+exit_of (Small need len) = 9
 
 -- with its line feed
 abbrev pub line_for : Status → List ℕ
@@ -24,4 +25,5 @@ line_for (Script e) = codes "error script " ++ decimal e.line ++ codes " " ++ ca
 line_for (Packed place) = codes "error packed " ++ decimal place ++ codes "\n"
 line_for ReadFault = codes "error read\n"
 line_for NoMemory = codes "error memory\n"
-line_for NotBuilt = codes "error notbuilt\n"
+line_for DeviceLost = codes "error device\n"
+line_for (Small need len) = codes "error small " ++ decimal need ++ codes " " ++ decimal len ++ codes "\n"

@@ -55,7 +55,14 @@ fn line_for(status: Status) -> ArrayString<ROOM>
         }
         Status::ReadFault => push(&mut line, "error read\n"),
         Status::NoMemory => push(&mut line, "error memory\n"),
-        Status::NotBuilt => push(&mut line, "error notbuilt\n"),
+        Status::DeviceLost => push(&mut line, "error device\n"),
+        Status::Small { need, len } => {
+            push(&mut line, "error small ");
+            push_number(&mut line, need);
+            push(&mut line, " ");
+            push_number(&mut line, len);
+            push(&mut line, "\n");
+        }
     }
     line
 }

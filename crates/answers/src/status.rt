@@ -22,12 +22,19 @@ pub enum Status {
     WriteFault,
     /// 6, `error memory`: memory ran out, before anything was put.
     NoMemory,
-    /// 11, `error notbuilt`: the input is accepted, and asks for what is not built yet.
-    NotBuilt,
+    /// 7, `error device`: the device lost a call.
+    DeviceLost,
+    /// 9, `error small NEED LEN`: the device has fewer words than the set needs. Nothing was written.
+    Small {
+        /// How many words the set needs.
+        need: u32,
+        /// How many words the device has.
+        len: u32,
+    },
 }
 
-/// Why the words of a device hold no state to go on from. No command reads a device yet: the answer that holds this
-/// comes with the first that does.
+/// Why the words of a device hold no state to go on from. No command goes on from a device yet: the answer that holds
+/// this comes with the first that does.
 #[derive(Clone, Copy, PartialEq, Eq, Debug)]
 pub enum ImageFault {
     /// Nothing was formatted.
@@ -50,7 +57,8 @@ impl Status {
             Status::ReadFault => 4,
             Status::WriteFault => 5,
             Status::NoMemory => 6,
-            Status::NotBuilt => 11,
+            Status::DeviceLost => 7,
+            Status::Small { .. } => 9,
         }
     }
 }

@@ -33,7 +33,15 @@ fn each_answer_has_its_exit_and_its_line(rt: HostRuntime) -> Result<(), Fail> {
         (Status::ReadFault, 4, "error read\n"),
         (Status::WriteFault, 5, ""),
         (Status::NoMemory, 6, "error memory\n"),
-        (Status::NotBuilt, 11, "error notbuilt\n"),
+        (Status::DeviceLost, 7, "error device\n"),
+        (
+            Status::Small {
+                need: 4_294_967_295,
+                len: 65_536,
+            },
+            9,
+            "error small 4294967295 65536\n",
+        ),
     ];
     for (status, code, line) in table {
         let mut out = MemSink::new(rt.alloc(), 64, &[])?;

@@ -1,2 +1,4 @@
+pub mod Runs
 pub mod Report
 pub mod Headline
+pub mod Images

@@ -1,7 +1,8 @@
 -- A kernel that begins in a boot of a device whose words hold a state.
 use Rattle.std.proofs.Common.{◌≡◌, ℕ, ◌≤◌, ◌||◌, Bool, true, false, map, replicate, nat_lt, Some, refl, sym, ap, subst, arith}
 use Rattle.std.proofs.lemmas.Bool.{ltb-false}
-use Rattle.kernel_model.specs.Events.{Boot, opened}
+use Rattle.rv_core.specs.State.{MachineState}
+use Rattle.kernel_model.specs.Events.{Boot}
 use Rattle.kernel_model.specs.Fit.{IsMachine}
 use Rattle.set_model.specs.Sets.{TaskSet}
 use Rattle.set_model.specs.Numbers.{sizes_of}
@@ -21,13 +22,15 @@ use Rattle.recovery.specs.Reading.{IsRead}
 use Rattle.recovery.specs.declared.boot.Boot as own
 use Rattle.recovery.proofs.KindLaws.{named_magic}
 use Rattle.recovery.proofs.ShiftLaws.{held_named}
-use Rattle.table_machine.specs.Tables.{Vacant}
-use Rattle.table_machine.specs.Simulates.{IsSetting}
+use Rattle.headline.specs.Runs.{booting_origin, first_state}
+use Rattle.table_machine.specs.Tables.{Tables, Vacant}
+use Rattle.table_machine.specs.Simulates.{IsSetting, opened_tables}
 use Rattle.task_model.specs.TaskSteps.{task_steps}
 use Rattle.core_seats.specs.Holding.{AreSeats}
 use Rattle.kernel_turns.specs.Commits.{setting_on}
-use Rattle.kernel_turns.specs.Keeping.{IsInBoot, IsLawful, Keeps}
-use Rattle.kernel_turns.specs.Opening.{HasRoomFor, IsBootOn, booting_tables}
+use Rattle.kernel_turns.specs.Keeping.{IsInBoot, Keeps}
+use Rattle.kernel_turns.specs.Events.{IsAt}
+use Rattle.kernel_turns.specs.Opening.{HasRoomFor, IsBootOn}
 use Rattle.kernel_turns.specs.declared.kernel.Kernel.{Kernel}
 use Rattle.kernel_turns.specs.declared.kernel.Power.TheVariants as power
 use Rattle.kernel_turns.proofs.Idle.{idle_kept, vacant_seats}
@@ -62,6 +65,12 @@ none_taken set s room = record { room = room; last = λ l. absurd (omega (arith,
 -- once the state was read, and the boot stands before its first turn
 abbrev pub again : Kernel → State → Layout → own.Boot → Kernel
 again k into layout b = record k { committed = record k.committed { after = into }; layout = layout; power = power.Boot b }
+
+-- the tables of what a device holds, before the first turn of a boot
+abbrev pub booting_tables : Kernel → Words → Tables MachineState
+booting_tables k words =
+    let d = device_at k.set words in
+    opened_tables (setting_on k.set words) (held_on d words) k.set.cores (Boot (boot_turns_of (layout_on d)))
 
 -- what was found
 pub record HasSeen (k : Kernel) (words : Words) (room : ℕ) (into : State) (layout : Layout) (b : own.Boot) : Type 0 where
@@ -109,16 +118,17 @@ seen_keeps k words room into layout b s =
       powered = seen_boot k words room into layout b s;
     }
 
-seen_lawful : (k : Kernel) (words : Words) (room : ℕ) (into : State) (layout : Layout) (b : own.Boot) → OpenedLaw → IsSetting (setting_on k.set words) → IsMachine (task_steps k.set) (sizes_of k.set) → HasSeen k words room into layout b → IsLawful (again k into layout b) words (booting_tables k words)
-seen_lawful k words room into layout b law setting machine s =
+seen_at : (k : Kernel) (words : Words) (room : ℕ) (into : State) (layout : Layout) (b : own.Boot) → OpenedLaw → IsSetting (setting_on k.set words) → IsMachine (task_steps k.set) (sizes_of k.set) → HasSeen k words room into layout b
+    → (let o = booting_origin (device_at k.set words) (held_on (device_at k.set words) words) in IsAt o (again k into layout b) words (first_state o))
+seen_at k words room into layout b law setting machine s =
     let d = device_at k.set words in
     let h = held_on d words in
     let named = held_named k.set.format d.kind k.set h words s.read.held in
     let in_bound = within h s.fresh in
     record {
-      base = base_of h.index h.objects;
-      last = h.index.last;
-      state = opened k.set.cores (Boot (boot_turns_of (layout_on d))) h.boots;
+      device = refl;
+      tables = booting_tables k words;
+      keeps = seen_keeps k words room into layout b s;
       represented = law (setting_on k.set words) h words k.set.cores (Boot (boot_turns_of (layout_on d))) setting (machine_on k.set d machine) (kept_on d h words s.has_room.limits s.read.held) (let n = in_bound.next in omega (arith, n));
       kind = subst (λ (w : ℕ). kind_named k.set.format w ≡ Some d.kind) (named_magic k.set.format (words 0) d.kind named) named;
       ids = let n = in_bound.next in let r = s.has_room.room_is in let f = s.few in omega (arith, n, r, f);
@@ -129,6 +139,5 @@ seen_lawful k words room into layout b law setting machine s =
 pub begun_again : (k : Kernel) (words : Words) (room : ℕ) (into : State) (layout : Layout) (b : own.Boot) → OpenedLaw → IsSetting (setting_on k.set words) → IsMachine (task_steps k.set) (sizes_of k.set) → HasSeen k words room into layout b → IsBootOn (again k into layout b) words
 begun_again k words room into layout b law setting machine s = record {
   held = record { holds = s.read.held; fresh = s.fresh };
-  keeps = seen_keeps k words room into layout b s;
-  lawful = seen_lawful k words room into layout b law setting machine s;
+  at = seen_at k words room into layout b law setting machine s;
 }

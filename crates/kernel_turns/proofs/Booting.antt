@@ -197,10 +197,14 @@ last_image k words later n b first off last image = λ t h l.
     image ∙ ap (λ (boots : ℕ). made ((2, boots + 1) ∷ []) words) (sym i.boots) ∙ ap (λ (a : Answer MachineState). made a.writes words) (sym (last_answer k words t n b i first last))
 
 -- a call was lost in a turn
-pub lost_writes : (k : Kernel) (words : Words) (n : ℕ) (b : booting.Boot) (log grown : List Change) → n ≡ 0 → k.power ≡ power.Boot b → (grown ≡ log) ⊎ IsCounted k.set words b log grown → MayHaveWritten k n words log grown
-unfolding MayHaveWritten HasWritten
-lost_writes k words n b log grown first off either = λ t h l.
-    ⊎_elim inl (λ made. inr (last_writes k words n b log grown first off made.last made.written t h l)) either
+pub lost_writes : (k : Kernel) (words later : Words) (n : ℕ) (b : booting.Boot) (log grown : List Change) → n ≡ 0 → k.power ≡ power.Boot b
+    → (grown ≡ log ++ boot_writes (held_on (device_at k.set words) words) → later ≡ made (boot_writes (held_on (device_at k.set words) words)) words)
+    → (grown ≡ log) ⊎ IsCounted k.set words b log grown → MayHaveWritten k n words later log grown
+unfolding MayHaveWritten HasWritten HasImage
+lost_writes k words later n b log grown first off image either = λ t h l.
+    ⊎_elim inl
+    (λ counted. inr (record { logged = last_writes k words n b log grown first off counted.last counted.written t h l; words_are = last_image k words later n b first off counted.last (image counted.written) t h l }))
+    either
 
 -- the words tell the index of a state
 index_read : (k : Kernel) (words : Words) (t : Tables MachineState) → Keeps k words t → IsLawful k words t → IsIndex k.set (index_on (device_at k.set words) words)

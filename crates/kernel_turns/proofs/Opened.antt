@@ -38,7 +38,7 @@ use Rattle.task_model.specs.TaskSteps.{task_steps}
 use Rattle.committed_state.specs.Committed.{HasRooms, IsCommitted, chains_in}
 use Rattle.core_seats.specs.Holding.{AreSeats}
 use Rattle.kernel_turns.specs.Commits.{setting_on}
-use Rattle.kernel_turns.specs.Keeping.{IsLawful, IsOn, IsPowered, Keeps}
+use Rattle.kernel_turns.specs.Keeping.{IsOn, IsPowered, Keeps}
 use Rattle.kernel_turns.specs.Opening.{AreIdle, IsOpenedOn}
 use Rattle.kernel_turns.specs.declared.kernel.Kernel.{Kernel}
 use Rattle.kernel_turns.specs.declared.kernel.Power.TheVariants as power
@@ -131,20 +131,17 @@ abbrev pub OpenedLaw : Type 0
 OpenedLaw = (x : Setting MachineState) (h : Held) (words : Words) (cores : ℕ) (p : Power) → IsSetting x → IsMachine x.steps (sizes_in x) → KeepsIn x.set x.layout h words → h.index.next ≤ max_id
     → Represents x (base_of h.index h.objects) h.index.last (opened_tables x h cores p) words (opened cores p h.boots)
 
-pub begun_lawful : (k : Kernel) (words : Words) (h : Held) → OpenedLaw → IsSetting (setting_on k.set words) → IsMachine (task_steps k.set) (sizes_of k.set) → HasBegun k words h → IsLawful k words (begun_tables k words h)
-begun_lawful k words h law setting machine b = record {
-  base = base_of h.index h.objects;
-  last = h.index.last;
-  state = opened k.set.cores On h.boots;
+pub begun : (k : Kernel) (words : Words) (h : Held) → OpenedLaw → IsSetting (setting_on k.set words) → IsMachine (task_steps k.set) (sizes_of k.set) → HasBegun k words h → IsOpenedOn k words h
+begun k words h law setting machine b = record {
+  device = refl;
+  tables = begun_tables k words h;
+  keeps = begun_keeps k words h b;
   represented = law (setting_on k.set words) h words k.set.cores On setting (machine_on k.set (device_at k.set words) machine) (kept_on (device_at k.set words) h words b.limits b.holds) (omega (arith, b.next));
   kind = b.kind;
   ids = omega (arith, b.next, b.few);
   numbers = omega (arith, b.number, b.few);
   room = omega arith;
 }
-
-pub begun : (k : Kernel) (words : Words) (h : Held) → OpenedLaw → IsSetting (setting_on k.set words) → IsMachine (task_steps k.set) (sizes_of k.set) → HasBegun k words h → IsOpenedOn k words h
-begun k words h law setting machine b = record { keeps = begun_keeps k words h b; lawful = begun_lawful k words h law setting machine b }
 
 -- ---- after a format
 

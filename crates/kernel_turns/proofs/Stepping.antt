@@ -32,13 +32,13 @@ use Rattle.kernel_turns.specs.Commits.{setting_on}
 use Rattle.kernel_turns.specs.Keeping.{IsLawful, Keeps}
 use Rattle.kernel_turns.specs.Failures.{Fails}
 use Rattle.kernel_turns.specs.Steps.{HasImage, HasWritten, KeepsSet, MayHaveWritten, Steps, step_of}
-use Rattle.kernel_turns.specs.Turning.{IsCutTurn, Turns}
+use Rattle.kernel_turns.specs.Events.{CutsEvent, SimulatesEvent}
 use Rattle.kernel_turns.specs.Turns.{CoreTurns, CoreWrites, IsAnswered, IsAtStage, IsSavingAt, SeatTurns, TurnsOn, held_at, turn_at}
 use Rattle.kernel_turns.specs.declared.kernel.Kernel.{Kernel}
 use Rattle.kernel_turns.specs.declared.kernel.Power.{Power}
 use Rattle.kernel_turns.specs.declared.kernel.Power.TheVariants as power
 use Rattle.kernel_turns.proofs.AtStage.{on, stands_at}
-use Rattle.kernel_turns.proofs.Lawful.{lawful_after}
+use Rattle.kernel_turns.proofs.Lawful.{at_decodes, cut_at, event_at, lawful_at}
 use Rattle.kernel_turns.proofs.MayJoin.{whole_held}
 use Rattle.kernel_turns.proofs.Represented.{simulated, step_is}
 use Rattle.kernel_turns.proofs.Turned.{seat_at}
@@ -82,9 +82,9 @@ pub try_image : (old : Kernel) (words : Words) (n : ℕ) (P : Stage → Type 0) 
 unfolding HasImage
 try_image old words n P g = λ t h l. subst (λ (a : Answer MachineState). words ≡ made a.writes words) (sym (tried old words t n P h g)) refl
 
-pub try_cut : (old : Kernel) (words : Words) (n : ℕ) (log : List Change) → MayHaveWritten old n words log log
+pub try_cut : (old : Kernel) (words later : Words) (n : ℕ) (log : List Change) → MayHaveWritten old n words later log log
 unfolding MayHaveWritten
-try_cut old words n log = λ t h l. inl refl
+try_cut old words later n log = λ t h l. inl refl
 
 pub on_words : (old new : Kernel) (n : ℕ) (line : Line) → SeatTurns old n new line → (words : Words) → TurnsOn words old n new line
 unfolding SeatTurns TurnsOn
@@ -131,9 +131,12 @@ unfolding CoreWrites HasImage
 saving_image old words later n whole log grown g writes = λ t h l.
     subst (λ (a : Answer MachineState). later ≡ made a.writes words) (sym (step_is old words t n (on_saving old words t n whole h g).power)) (writes t h l).words_are
 
-pub saving_cut : (old : Kernel) (words later : Words) (n : ℕ) (whole : Bool) (log grown : List Change) → IsSavingAt old n whole → (grown ≡ log) ⊎ CoreWrites old n words later log grown → MayHaveWritten old n words log grown
-unfolding MayHaveWritten HasWritten
-saving_cut old words later n whole log grown g either = λ t h l. ⊎_elim inl (λ writes. inr (saving_writes old words later n whole log grown g writes t h l)) either
+pub saving_cut : (old : Kernel) (words later : Words) (n : ℕ) (whole : Bool) (log grown : List Change) → IsSavingAt old n whole → (grown ≡ log) ⊎ CoreWrites old n words later log grown → MayHaveWritten old n words later log grown
+unfolding MayHaveWritten HasWritten HasImage
+saving_cut old words later n whole log grown g either = λ t h l.
+    ⊎_elim inl
+    (λ writes. inr (record { logged = saving_writes old words later n whole log grown g writes t h l; words_are = saving_image old words later n whole log grown g writes t h l }))
+    either
 
 -- a finish that joins writes nothing
 join_silent : (k : Kernel) (words : Words) (t : Tables MachineState) (n : ℕ) → Keeps k words t → IsSavingAt k n true → (step_of k words t n).writes ≡ []
@@ -164,31 +167,30 @@ listed_more old new words later t n line h l a =
     omega (arith, m, o, few)
 
 pub core_turns : (old new : Kernel) (core : CoreId) (words later : Words) (log grown : List Change) (line : Line) → KeepsSet old new → length old.listing.items < old.room
-    → Steps old core.0 words new later line → HasWritten old core.0 words log grown → HasImage old core.0 words later → Turns old (event.Core core) words log new later grown line
-unfolding Steps HasWritten HasImage Turns
-core_turns old new core words later log grown line same few steps writes image = λ t h l.
-    let a = steps t h l in
-    let more = listed_more old new words later t core.0 line h l a in
+    → Steps old core.0 words new later line → HasWritten old core.0 words log grown → HasImage old core.0 words later → SimulatesEvent old (event.Core core) words log new later grown line
+unfolding Steps HasWritten HasImage SimulatesEvent
+core_turns old new core words later log grown line same few steps writes image = λ o s at.
+    let t = at.tables in
+    let l = lawful_at o old words s at in
+    let a = steps t at.keeps l in
+    let more = listed_more old new words later t core.0 line at.keeps l a in
     let room = same.room in
-    record {
-      turned = record { keeps = a.keeps; lawful = lawful_after old new words later t (CoreStep core.0) h l same (image t h l) a.keeps (omega (arith, more, few, room)); tells = a.tells };
-      written = writes t h l;
-      image = image t h l;
-    }
+    event_at o old new words later s (event.Core core) log grown line at same a.keeps (omega (arith, more, few, room)) a.tells (record { logged = writes t at.keeps l; words_are = image t at.keeps l })
 
-pub core_cut : (old : Kernel) (core : CoreId) (words : Words) (log grown : List Change) → MayHaveWritten old core.0 words log grown → IsCutTurn old (event.Core core) words log grown
-unfolding MayHaveWritten IsCutTurn
-core_cut old core words log grown either = either
+pub core_cut : (old : Kernel) (core : CoreId) (words later : Words) (log grown : List Change) → (grown ≡ log → later ≡ words) → MayHaveWritten old core.0 words later log grown → CutsEvent old (event.Core core) words log later grown
+unfolding MayHaveWritten CutsEvent
+core_cut old core words later log grown still either = λ o s at.
+    let l = lawful_at o old words s at in
+    ⊎_elim
+    (λ e. inl (e, subst (λ (w : Words). Decodes o w s) (sym (still e)) (at_decodes o old words s at)))
+    (λ made. inr (cut_at o old words later s (event.Core core) log grown at made))
+    (either at.tables at.keeps l)
 
-pub fail_turns : (old new : Kernel) (words : Words) (log : List Change) (line : Line) → KeepsSet old new → length new.listing.items ≤ new.room → Fails old new line → Turns old event.Fail words log new words log line
-unfolding Fails Turns
-fail_turns old new words log line same few fails = λ t h l.
-    let a = fails words t h l in
-    record {
-      turned = record { keeps = a.keeps; lawful = lawful_after old new words words t Fail h l same refl a.keeps few; tells = a.tells };
-      written = sym (append-nil log);
-      image = refl;
-    }
+pub fail_turns : (old new : Kernel) (words : Words) (log : List Change) (line : Line) → KeepsSet old new → length new.listing.items ≤ new.room → Fails old new line → SimulatesEvent old event.Fail words log new words log line
+unfolding Fails SimulatesEvent
+fail_turns old new words log line same few fails = λ o s at.
+    let a = fails words at.tables at.keeps (lawful_at o old words s at) in
+    event_at o old new words words s event.Fail log log line at same a.keeps few a.tells (record { logged = sym (append-nil log); words_are = refl })
 
 -- ---- what holds at every answer holds at one
 

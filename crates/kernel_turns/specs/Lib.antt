@@ -6,4 +6,4 @@ pub mod Opening
 pub mod Deciding
 pub mod Steps
 pub mod Failures
-pub mod Turning
+pub mod Events

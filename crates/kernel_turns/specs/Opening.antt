@@ -1,29 +1,26 @@
 -- What a kernel has before it begins on a device. This project's own.
 use Rattle.std.specs.Prelude.{◌≡◌, ℕ, ◌≤◌, List, [], length, vec_capacity, true, false, None}
 use Rattle.std.specs.List.{AllByRecursion}
-use Rattle.rv_core.specs.State.{MachineState}
 use Rattle.nv_base.specs.Streams.{FaultCounted}
-use Rattle.kernel_model.specs.Events.{On, Boot}
+use Rattle.kernel_model.specs.Events.{On}
 use Rattle.set_model.specs.Sets.{TaskSet}
 use Rattle.set_model.specs.Limits.{IsTaskSet}
 use Rattle.device_model.specs.Words.{Words}
 use Rattle.device_model.specs.IndexWords.{Index}
-use Rattle.device_model.specs.Layouts.{boot_turns_of}
 use Rattle.device_model.specs.Decoding.{Held, decode, durable_of, is_worn}
 use Rattle.device_model.specs.Decoding as stored
-use Rattle.device_model.specs.Devices.{HoldsOn, held_on, layout_on}
+use Rattle.device_model.specs.Devices.{HoldsOn, held_on}
 use Rattle.shadow_index.specs.States.{HasTaken}
 use Rattle.shadow_index.specs.Tells.{IsLayoutOf, device_of}
-use Rattle.table_machine.specs.Tables.{Tables, Vacant}
-use Rattle.table_machine.specs.Simulates.{opened_tables}
+use Rattle.table_machine.specs.Tables.{Vacant}
 use Rattle.recovery.specs.Images.{device_at}
+use Rattle.headline.specs.Runs.{booting_origin, first_state, origin_of}
 use Rattle.commit_writer.specs.Rooms.{IsFor as HasTables}
 use Rattle.vol_copy.specs.Tries.{IsFor}
 use Rattle.committed_state.specs.Committed.{HasRooms}
 use Rattle.core_seats.specs.declared.seat.Seat.{Seat}
 use Rattle.core_seats.specs.Holding.{StandsFor}
-use Rattle.kernel_turns.specs.Commits.{setting_on}
-use Rattle.kernel_turns.specs.Keeping.{IsLawful, Keeps}
+use Rattle.kernel_turns.specs.Events.{IsAt}
 use Rattle.kernel_turns.specs.declared.kernel.Kernel.{Kernel}
 use Rattle.kernel_turns.specs.declared.kernel.Power.TheVariants as power
 use Rattle.kernel_turns.specs.declared.open.OpenRefusal.{OpenRefusal}
@@ -55,27 +52,19 @@ pub record HasRoomFor (set : TaskSet) (room : ℕ) (k : Kernel) : Type 0 where
   pub power : k.power ≡ power.On
   pub lost : k.lost ≡ false
 
--- with its power on the kernel stands for the tables of a state that its device holds, and these for the event machine before its first event
-pub record IsOpenedOn (k : Kernel) (words : Words) (h : Held) : Type 0 where
-  pub keeps : Keeps k words (opened_tables (setting_on k.set words) h k.set.cores On)
-  pub lawful : IsLawful k words (opened_tables (setting_on k.set words) h k.set.cores On)
-
--- the tables of what a device holds, before the first turn of a boot
-abbrev pub booting_tables : Kernel → Words → Tables MachineState
-booting_tables k words =
-    let d = device_at k.set words in
-    opened_tables (setting_on k.set words) (held_on d words) k.set.cores (Boot (boot_turns_of (layout_on d)))
+-- with its power on the kernel is at the first state of a run from what its device holds
+abbrev pub IsOpenedOn : Kernel → Words → Held → Type 0
+IsOpenedOn k words h = let o = origin_of (device_at k.set words) h On in IsAt o k words (first_state o)
 
 -- its words hold a state, and it is not worn
 pub record HoldsFresh (set : TaskSet) (words : Words) : Type 0 where
   pub holds : HoldsOn (device_at set words) (held_on (device_at set words) words) words
   pub fresh : is_worn (durable_of (held_on (device_at set words) words)) ≡ false
 
--- in a boot the kernel stands for the tables of what its device holds, with no turn of it taken
+-- the kernel is at the first state of a run that boots what its device holds
 pub record IsBootOn (k : Kernel) (words : Words) : Type 0 where
   pub held : HoldsFresh k.set words
-  pub keeps : Keeps k words (booting_tables k words)
-  pub lawful : IsLawful k words (booting_tables k words)
+  pub at : let o = booting_origin (device_at k.set words) (held_on (device_at k.set words) words) in IsAt o k words (first_state o)
 
 -- why a kernel does not begin on what a device holds
 abbrev pub IsNotBooted : TaskSet → Words → (old new : ℕ) → OpenRefusal → Type 0

@@ -8,7 +8,7 @@ use Rattle.table_machine.specs.Tables.{Tables}
 use Rattle.table_machine.specs.Events.{Answer, table_step}
 use Rattle.kernel_turns.specs.Commits.{setting_on}
 use Rattle.kernel_turns.specs.Keeping.{IsLawful, Keeps}
-use Rattle.kernel_turns.specs.Turns.{IsAnswered}
+use Rattle.kernel_turns.specs.Turns.{HasMade, IsAnswered}
 use Rattle.kernel_turns.specs.declared.kernel.Kernel.{Kernel}
 
 -- what no event changes: the set, and how many finishes there may be
@@ -33,5 +33,5 @@ unfoldable pub HasImage : Kernel → (n : ℕ) → Words → (later : Words) →
 HasImage old n words later = (t : Tables MachineState) → Keeps old words t → IsLawful old words t → later ≡ made (step_of old words t n).writes words
 
 -- they are made, or none is
-unfoldable pub MayHaveWritten : Kernel → (n : ℕ) → Words → (log grown : List Change) → Type 0
-MayHaveWritten old n words log grown = (t : Tables MachineState) → Keeps old words t → IsLawful old words t → (grown ≡ log) ⊎ (grown ≡ log ++ (step_of old words t n).writes)
+unfoldable pub MayHaveWritten : Kernel → (n : ℕ) → (words later : Words) → (log grown : List Change) → Type 0
+MayHaveWritten old n words later log grown = (t : Tables MachineState) → Keeps old words t → IsLawful old words t → (grown ≡ log) ⊎ HasMade (step_of old words t n).writes words later log grown

@@ -5,6 +5,7 @@ mod again;
 mod commit;
 mod copying;
 mod kernel;
+pub mod laws;
 mod open;
 mod power;
 mod running;

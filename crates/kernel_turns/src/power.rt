@@ -64,7 +64,9 @@ impl Kernel {
             let later = words_of (F.log dev.new) (F.start dev.new) in
             OnOk result (HasImage self.old core.0 words later) }
         ensures cut { let words = words_of (F.log dev.old) (F.start dev.old) in
-            OnErr result (MayHaveWritten self.old core.0 words (F.log dev.old) (F.log dev.new)) }
+            let later = words_of (F.log dev.new) (F.start dev.new) in
+            OnErr result
+            (MayHaveWritten self.old core.0 words later (F.log dev.old) (F.log dev.new)) }
         ensures rest { KeepsSet self.old self.new }
         ensures live { self.new.lost ≡ self.old.lost }
         ensures listing { self.new.listing ≡ self.old.listing }

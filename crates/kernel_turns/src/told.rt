@@ -1,12 +1,14 @@
 //! What a kernel tells.
 
-ghost use Rattle.std.specs.Prelude.{◌≡◌};
+ghost use Rattle.std.specs.Prelude.{◌≡◌, map};
 ghost use Rattle.rv_core.specs.State.{MachineState};
-ghost use Rattle.set_model.specs.Views.{entry_if};
+ghost use Rattle.kernel_model.specs.Items.{listing};
+ghost use Rattle.kernel_model.specs.Events.{State};
+ghost use Rattle.kernel_model.specs.Report.{unprinted};
+ghost use Rattle.set_model.specs.Views.{entry_if, entry_of};
 ghost use Rattle.device_model.specs.Words.{Words};
-ghost use Rattle.table_machine.specs.Tables.{Tables};
-ghost use Rattle.table_machine.specs.Events.{untold};
-ghost use Rattle.kernel_turns.specs.Keeping.{Keeps};
+ghost use Rattle.headline.specs.Runs.{Origin};
+ghost use Rattle.kernel_turns.specs.Events.{IsAt};
 
 use crate::kernel::Kernel;
 use crate::power::whole_among;
@@ -23,7 +25,9 @@ impl Kernel {
 
     /// The finishes that have joined, by number.
     pub fn listing(&self) -> &[Entry]
-        ensures { result.now ≡ self.now.listing.items }
+        ensures items { result.now ≡ self.now.listing.items }
+        ensures listing { (o : Origin) (words : Words) (s : State MachineState)
+            → IsAt o self.now words s → map entry_of result.now ≡ listing s.history }
     {
         &self.listing
     }
@@ -37,8 +41,8 @@ impl Kernel {
 
     /// The finish that stands on the device and that no line has told, if there is one.
     pub fn close_line(&self) -> Option<Entry>
-        ensures { (words : Words) (t : Tables MachineState) → Keeps self.now words t
-            → entry_if result ≡ untold t }
+        ensures { (o : Origin) (words : Words) (s : State MachineState) → IsAt o self.now words s
+            → entry_if result ≡ unprinted s }
     {
         match whole_among(&self.seats) {
             Some(entry) => Some(entry),

@@ -3,12 +3,16 @@
 ghost use Rattle.std.specs.Prelude.{◌≡◌, ◌<◌, ◌≤◌, IfOk, OnErr, OnOk, length, true, false};
 ghost use Rattle.nv_base.specs.Streams.{FaultCounted};
 ghost use Rattle.rv_core.specs.State.{MachineState};
+ghost use Rattle.kernel_model.specs.Events.{State};
+ghost use Rattle.schedule_model.specs.Parts.{IsOfCores};
+ghost use Rattle.power_trace.specs.Events.{event_of};
 ghost use Rattle.device_model.specs.Devices.{need_on};
 ghost use Rattle.table_machine.specs.Tables.{Tables};
 ghost use Rattle.recovery.specs.Images.{device_at, words_of};
+ghost use Rattle.headline.specs.Runs.{Origin};
 ghost use Rattle.kernel_turns.specs.Keeping.{IsLawful, Keeps};
 ghost use Rattle.kernel_turns.specs.Steps.{HasImage, HasWritten, KeepsSet, MayHaveWritten, Steps};
-ghost use Rattle.kernel_turns.specs.Turning.{IsCutTurn, IsOfCores, Turns};
+ghost use Rattle.kernel_turns.specs.Events.{CutsEvent, IsAt, SimulatesEvent};
 ghost use Rattle.kernel_turns.specs.Turns.{IsAtStage, TurnsOn};
 
 use crate::kernel::{Kernel, Power};
@@ -21,19 +25,21 @@ impl Kernel {
     /// One event, with one write to the device at most: its line. `Lost` where the device lost the call: then its write is
     /// made, or it is not, and the kernel takes no event any more.
     pub fn turn<F: Fram>(&mut self, dev: &mut F, event: Event) -> Result<Line, Lost>
-        requires lawful { let words = words_of (F.log dev.old) (F.start dev.old) in
-            (t : Tables MachineState) × Keeps self.old words t × IsLawful self.old words t }
-        requires core { IsOfCores self.old event }
+        requires at { let words = words_of (F.log dev.old) (F.start dev.old) in
+            (o : Origin) × (s : State MachineState) × IsAt o self.old words s }
+        requires core { IsOfCores self.old.set.cores (event_of event) }
         requires few { length self.old.listing.items < self.old.room }
         requires room { let words = words_of (F.log dev.old) (F.start dev.old) in
             need_on (device_at self.old.set words) ≤ length (F.start dev.old) }
         requires boots { words_of (F.log dev.old) (F.start dev.old) 2 < 4294967295 }
         requires live { self.old.lost ≡ false }
-        ensures turns { let words = words_of (F.log dev.old) (F.start dev.old) in
-            let later = words_of (F.log dev.new) (F.start dev.new) in
-            IfOk result (Turns self.old event words (F.log dev.old) self.new later (F.log dev.new)) }
+        ensures simulates { let words = words_of (F.log dev.old) (F.start dev.old) in
+            let later = words_of (F.log dev.new) (F.start dev.new) in IfOk result
+            (SimulatesEvent self.old event words (F.log dev.old) self.new later (F.log dev.new)) }
         ensures cut { let words = words_of (F.log dev.old) (F.start dev.old) in
-            OnErr result (IsCutTurn self.old event words (F.log dev.old) (F.log dev.new)) }
+            let later = words_of (F.log dev.new) (F.start dev.new) in
+            OnErr result
+            (CutsEvent self.old event words (F.log dev.old) later (F.log dev.new)) }
         ensures rest { KeepsSet self.old self.new }
         ensures live { OnOk result (self.new.lost ≡ false) }
         ensures lost { OnErr result (self.new.lost ≡ true) }
@@ -71,7 +77,9 @@ impl Kernel {
             let later = words_of (F.log dev.new) (F.start dev.new) in
             OnOk result (HasImage self.old core.0 words later) }
         ensures cut { let words = words_of (F.log dev.old) (F.start dev.old) in
-            OnErr result (MayHaveWritten self.old core.0 words (F.log dev.old) (F.log dev.new)) }
+            let later = words_of (F.log dev.new) (F.start dev.new) in
+            OnErr result
+            (MayHaveWritten self.old core.0 words later (F.log dev.old) (F.log dev.new)) }
         ensures rest { KeepsSet self.old self.new }
         ensures lost { self.new.lost ≡ self.old.lost }
         ensures failed { OnErr result (FaultCounted (F.lost dev.old) (F.lost dev.new)) }

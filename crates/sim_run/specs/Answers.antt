@@ -1,26 +1,33 @@
--- The answers of a call, each with its cause and with what was put. This project's own.
-use Rattle.std.specs.Prelude.{◌≡◌, ℕ, ◌+◌, ◌≤◌, ◌⊎◌, List, [], Option, Some, None}
+-- The answers of a call, each with its cause, and with what was put and written. This project's own.
+use Rattle.std.specs.Prelude.{◌≡◌, ℕ, ◌+◌, ◌≤◌, ◌⊎◌, List, [], length, Option, Some, None}
 use Rattle.nv_base.specs.Streams.{AreGone, AtMostGone, PutsFront, PutsText, FaultCounted, Stream}
-use Rattle.sim_run.specs.Replies.{Puts, Refuses, reply, status_of, most_input, too_long}
+use Rattle.sim_run.specs.Replies.{Puts, Refuses, Reply, reply, status_of, most_input, too_long}
+use Rattle.sim_run.specs.Runs.{PutsStart}
+use Rattle.sim_run.specs.Stores.{Store}
 use Rattle.answers.specs.Names.{PutsName}
 use Rattle.sim_run.specs.declared.command.Command.{Command}
 use Rattle.answers.specs.declared.status.Status.{Status}
-use Rattle.answers.specs.declared.status.Status.TheVariants.{Done, Usage, Script, ReadFault, WriteFault, NoMemory}
+use Rattle.answers.specs.declared.status.Status.TheVariants.{Done, Usage, Script, ReadFault, WriteFault, NoMemory, DeviceLost}
+use Rattle.sim_run.specs.declared.command.Command.TheVariants.{Run}
 
--- a source and a sink, at the call and at the return
+-- a source, a sink and a device, at the call and at the return
 pub record Exchange : Type 0 where
   pub source : Stream
   pub source_now : Stream
   pub sink : Stream
   pub sink_now : Stream
+  pub device : Store
+  pub device_now : Store
 
--- the exchange of a call, by what its source and its sink tell before it and behind it
-abbrev pub exchange : {S K : Type 0} → (S → Stream) → (K → Stream) → S → S → K → K → Exchange
-exchange source_seen sink_seen source source_now sink sink_now = record {
+-- the exchange of a call, by what its source, its sink and its device tell before it and behind it
+abbrev pub exchange : {S K F : Type 0} → (S → Stream) → (K → Stream) → (F → Store) → S → S → K → K → F → F → Exchange
+exchange source_seen sink_seen device_seen source source_now sink sink_now device device_now = record {
   source = source_seen source;
   source_now = source_seen source_now;
   sink = sink_seen sink;
   sink_now = sink_seen sink_now;
+  device = device_seen device;
+  device_now = device_seen device_now;
 }
 
 abbrev pub ReadFailed : Exchange → Type 0
@@ -29,10 +36,18 @@ ReadFailed x = FaultCounted x.source.faults x.source_now.faults
 abbrev pub WriteFailed : Exchange → Type 0
 WriteFailed x = FaultCounted x.sink.faults x.sink_now.faults
 
+abbrev pub DeviceFailed : Exchange → Type 0
+DeviceFailed x = FaultCounted x.device.losses x.device_now.losses
+
+-- nothing was written, and no call was lost
+abbrev pub IsUntouched : Exchange → Type 0
+IsUntouched x = x.device_now ≡ x.device
+
 -- no count of faults falls
 pub record NeverFalls (x : Exchange) : Type 0 where
   pub source : x.source.faults ≤ x.source_now.faults
   pub sink : x.sink.faults ≤ x.sink_now.faults
+  pub device : x.device.losses ≤ x.device_now.losses
 
 -- what holds of the input, where the source tells it
 abbrev pub OfInput : Option (List ℕ) → (List ℕ → Type 0) → Type 0
@@ -47,44 +62,62 @@ HasReadAll x = OfInput x.source.bytes (λ input. x.source_now.bytes ≡ Some [])
 abbrev pub HasReadEnough : Exchange → Type 0
 HasReadEnough x = HasReadAll x ⊎ AreGone x.source.bytes x.source_now.bytes (most_input + 1)
 
+-- what a command replies to an input
+abbrev pub reply_in : Exchange → Command → List ℕ → Reply
+reply_in x c input = reply c (length x.device.start) input
+
 -- the command's text, put whole
 pub record IsDone (c : Command) (x : Exchange) (input : List ℕ) : Type 0 where
   pub text : List ℕ
-  pub replies : reply c input ≡ Puts text
+  pub replies : reply_in x c input ≡ Puts text
   pub put : PutsText text x.sink x.sink_now
 
 -- a front of it
 pub record IsCutOff (c : Command) (x : Exchange) (input : List ℕ) : Type 0 where
   pub text : List ℕ
-  pub replies : reply c input ≡ Puts text
+  pub replies : reply_in x c input ≡ Puts text
   pub put : PutsFront text x.sink x.sink_now
 
--- each answer to a command: when it may come, and what it leaves. Names: what was put to name it
-abbrev pub AnsweredTo : (Status → Type 0) → Command → Exchange → Status → Type 0
+-- a front of it whole, and then what names that the device lost a call
+pub record IsStopped (Names : Stream → Status → Type 0) (c : Command) (x : Exchange) (input : List ℕ) : Type 0 where
+  pub text : List ℕ
+  pub replies : reply_in x c input ≡ Puts text
+  pub middle : Stream
+  pub put : PutsStart text x.sink middle
+  pub named : Names middle DeviceLost
+
+-- each answer to a command: when it may come, and what it leaves. Names: what was put from some moment on to name it
+abbrev pub AnsweredTo : (Stream → Status → Type 0) → Command → Exchange → Status → Type 0
 AnsweredTo Names c x Done = HasReadAll x × OfInput x.source.bytes (IsDone c x)
 AnsweredTo Names c x Usage = ⊥
-AnsweredTo Names c x ReadFault = ReadFailed x × Names ReadFault
+AnsweredTo Names c x ReadFault = ReadFailed x × IsUntouched x × Names x.sink ReadFault
 AnsweredTo Names c x WriteFault = WriteFailed x × HasReadAll x × OfInput x.source.bytes (IsCutOff c x)
-AnsweredTo Names c x NoMemory = Names NoMemory
-AnsweredTo Names c x status = HasReadEnough x × OfInput x.source.bytes (λ input. reply c input ≡ Refuses status) × Names status
+AnsweredTo Names c x NoMemory = IsUntouched x × Names x.sink NoMemory
+AnsweredTo Names c x DeviceLost = DeviceFailed x × HasReadAll x × OfInput x.source.bytes (IsStopped Names c x)
+AnsweredTo Names c x status = HasReadEnough x × IsUntouched x × OfInput x.source.bytes (λ input. reply_in x c input ≡ Refuses status) × Names x.sink status
 
 -- words that are no command are answered by Usage, and nothing is read
-abbrev pub AnsweredBy : (Status → Type 0) → Option Command → Exchange → Status → Type 0
-AnsweredBy Names None x status = (status ≡ Usage) × (x.source_now ≡ x.source) × Names Usage
+abbrev pub AnsweredBy : (Stream → Status → Type 0) → Option Command → Exchange → Status → Type 0
+AnsweredBy Names None x status = (status ≡ Usage) × (x.source_now ≡ x.source) × IsUntouched x × Names x.sink Usage
 AnsweredBy Names (Some c) x status = AnsweredTo Names c x status
 
--- each answer of a call: those with a line of their own put this line alone
+-- each answer of a call: those with a line of their own put this line alone, but for a device that lost a call
 abbrev pub Answered : Option Command → Exchange → Status → Type 0
-Answered command x status = AnsweredBy (λ named. PutsName named x.sink x.sink_now) command x status
+Answered command x status = AnsweredBy (λ from named. PutsName named from x.sink_now) command x status
 
--- neither the source nor the sink failed
+-- only `run` may touch the device
+abbrev pub LeavesDevice : Option Command → Exchange → Type 0
+LeavesDevice (Some Run) x = x.device_now.start ≡ x.device.start
+LeavesDevice _ x = IsUntouched x
+
+-- neither the source nor the sink nor the device failed
 abbrev pub NoFault : Exchange → Type 0
-NoFault x = (ReadFailed x → ⊥) × (WriteFailed x → ⊥)
+NoFault x = (ReadFailed x → ⊥) × (WriteFailed x → ⊥) × (DeviceFailed x → ⊥)
 
 -- a command, and no fault: the answer is what the command replies to the input, unless memory ran out
 abbrev pub IsComplete : Option Command → Exchange → Status → Type 0
 IsComplete None x status = status ≡ Usage
-IsComplete (Some c) x status = NoFault x → OfInput x.source.bytes (λ input. (status ≡ status_of (reply c input)) ⊎ (status ≡ NoMemory))
+IsComplete (Some c) x status = NoFault x → OfInput x.source.bytes (λ input. (status ≡ status_of (reply_in x c input)) ⊎ (status ≡ NoMemory))
 
 -- at most as many bytes as an input may have were read; or one more, and then the answer says so
 abbrev pub HasReadFew : Stream → Stream → Status → Type 0

@@ -1,17 +1,19 @@
 -- What a call has done before the line that names its answer.
 use Rattle.std.specs.Prelude.{◌≡◌, List, ℕ, Option}
-use Rattle.nv_base.specs.Streams.{PutsFront, PutsText, Stream}
+use Rattle.nv_base.specs.Streams.{PutsFront, PutsText, FaultCounted, Stream}
 use Rattle.nv_base.specs.WholeInputs.{Stops}
 use Rattle.nv_base.specs.declared.whole.ReadRefusal.TheVariants as reading
 use Rattle.sim_run.specs.Replies.{Reply, Puts, Refuses, too_long, most_input}
 use Rattle.sim_run.specs.Answers.{AnsweredBy, Exchange}
+use Rattle.sim_run.specs.Runs.{PutsStart}
+use Rattle.sim_run.specs.Stores.{Store}
 use Rattle.sim_run.specs.declared.command.Command.{Command}
 use Rattle.answers.specs.declared.status.Status.{Status}
-use Rattle.answers.specs.declared.status.Status.TheVariants.{Done, Usage, ReadFault, WriteFault, NoMemory, Script}
+use Rattle.answers.specs.declared.status.Status.TheVariants.{Done, Usage, ReadFault, WriteFault, NoMemory, DeviceLost, Script}
 
 -- the answer stands, and nothing was put to name it
 abbrev pub BeforeAnswerLine : Option Command → Exchange → Status → Type 0
-BeforeAnswerLine command x status = AnsweredBy (λ named. x.sink_now ≡ x.sink) command x status
+BeforeAnswerLine command x status = AnsweredBy (λ from named. x.sink_now ≡ from) command x status
 
 -- why no input was read
 abbrev pub Unread : Stream → Stream → Status → Type 0
@@ -20,6 +22,13 @@ Unread old new (Script e) = (e ≡ too_long) × Stops most_input old new reading
 Unread old new NoMemory = Stops most_input old new reading.NoMemory
 Unread old new _ = ⊥
 
+-- what became of the device by way of a reply: nothing where memory ran out or the reply refuses, and a call was lost where the answer says so
+abbrev pub LeavesStore : Store → Store → Status → Type 0
+LeavesStore old new Done = Unit {0}
+LeavesStore old new WriteFault = Unit {0}
+LeavesStore old new DeviceLost = FaultCounted old.losses new.losses
+LeavesStore old new status = new ≡ old
+
 -- what was put by way of a reply
 abbrev pub PutReply : Reply → Stream → Stream → Status → Type 0
 PutReply r old new Done = (text : List ℕ) × (r ≡ Puts text) × PutsText text old new
@@ -27,4 +36,5 @@ PutReply r old new Usage = ⊥
 PutReply r old new ReadFault = ⊥
 PutReply r old new WriteFault = (text : List ℕ) × (r ≡ Puts text) × PutsFront text old new
 PutReply r old new NoMemory = new ≡ old
+PutReply r old new DeviceLost = (text : List ℕ) × (r ≡ Puts text) × PutsStart text old new
 PutReply r old new status = (r ≡ Refuses status) × (new ≡ old)

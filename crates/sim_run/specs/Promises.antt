@@ -10,20 +10,21 @@ use Rattle.answers.specs.declared.status.Status.{Status}
 use Rattle.answers.specs.declared.status.Status.TheVariants.{Done}
 use Rattle.sim_run.specs.declared.command.Command.{Command}
 use Rattle.sim_run.specs.declared.command.Command.TheVariants.{Run}
+use Rattle.sim_run.specs.Replies.{fresh_run}
 use Rattle.sim_run.specs.Answers.{Exchange, OfInput}
 
 -- the input is a script, of whose report the headline holds
 pub record IsPromised (input : List ℕ) : Type 0 where
   pub script : Script
   pub reads : read input ≡ Ok script
-  pub promise : Headline script.set (events_of script.schedule) (report_text script.set (events_of script.schedule))
+  pub promise : Headline (fresh_run script.set) (events_of script.schedule) (report_text (fresh_run script.set) (events_of script.schedule))
 
 -- and that report was put, whole
 pub record IsHeadlined (x : Exchange) (input : List ℕ) : Type 0 where
   pub script : Script
   pub reads : read input ≡ Ok script
   pub text : List ℕ
-  pub promise : Headline script.set (events_of script.schedule) text
+  pub promise : Headline (fresh_run script.set) (events_of script.schedule) text
   pub put : PutsText text x.sink x.sink_now
 
 -- `run` that is answered by Done

@@ -1,5 +1,5 @@
--- What each command replies to an input, where nothing fails and memory is found. This project's own.
-use Rattle.std.specs.Prelude.{ℕ, ◌+◌, ◌==◌, ◌&&◌, nat_lt, Bool, List, [], ◌∷◌, ◌++◌, length, position, Option, Some, None, Result, Ok, Err, if◌then◌else◌}
+-- What each command replies to an input, where nothing fails and memory is found: `run` also by how many words its device has. This project's own.
+use Rattle.std.specs.Prelude.{ℕ, ◌+◌, nat_lt, List, [], ◌∷◌, ◌++◌, length, position, Option, Some, None, Result, Ok, Err, if◌then◌else◌}
 use Rattle.std.specs.List.{flat_map}
 use Rattle.std.specs.Str.Lines.{lines}
 use Rattle.plain_text.specs.BadLines.{is_bad}
@@ -9,7 +9,9 @@ use Rattle.rv_asm.specs.Assembly.{assembled}
 use Rattle.rv_asm.specs.Causes.{AsmError}
 use Rattle.set_model.specs.Sets.{TaskSet}
 use Rattle.schedule_model.specs.Failures.{events_of}
-use Rattle.schedule_model.specs.Parts.{failure_count}
+use Rattle.device_model.specs.Devices.{Device, need_on}
+use Rattle.shadow_index.specs.Tells.{device_of}
+use Rattle.headline.specs.Runs.{Origin, formatted_origin}
 use Rattle.headline.specs.Report.{report_text}
 use Rattle.task_image.specs.Packed.{packed}
 use Rattle.task_image.specs.Unpacked.{unpacked}
@@ -19,7 +21,7 @@ use Rattle.script_text.specs.ScriptText.{script_text}
 use Rattle.script.specs.declared.refusals.ScriptCause.TheVariants.{Long, Byte, Code}
 use Rattle.script.specs.Causes.{ScriptError}
 use Rattle.answers.specs.declared.status.Status.{Status}
-use Rattle.answers.specs.declared.status.Status.TheVariants.{Done, Script, Packed, NotBuilt}
+use Rattle.answers.specs.declared.status.Status.TheVariants.{Done, Script, Packed, Small}
 use Rattle.sim_run.specs.declared.command.Command.{Command}
 use Rattle.sim_run.specs.declared.command.Command.TheVariants.{Run, Asm, Dis, Pack}
 
@@ -40,15 +42,24 @@ most_input = MAX_INPUT
 abbrev pub too_long : ScriptError
 too_long = record { line = 0; cause = Long }
 
--- a set of format 1, one core, and no failure of power among the events
-abbrev pub is_built : scripts.Script → Bool
-is_built s = s.set.format == 1 && s.set.cores == 1 && failure_count (events_of s.schedule) == 0
+-- ---- `run`: the event machine's report of a run on a formatted device
 
--- ---- `run`: the event machine's report
+-- the device that a format makes for a set, and a run there
+abbrev pub device_for : TaskSet → Device
+device_for set = device_of set 0
 
-abbrev pub run_reply : Result scripts.Script ScriptError → Reply
-run_reply (Err e) = Refuses (Script e)
-run_reply (Ok s) = if is_built s then Puts (report_text s.set (events_of s.schedule)) else Refuses NotBuilt
+abbrev pub fresh_run : TaskSet → Origin
+fresh_run set = formatted_origin (device_for set)
+
+-- a device of so many words
+abbrev pub script_reply : (len : ℕ) → scripts.Script → Reply
+script_reply len s =
+    if nat_lt len (need_on (device_for s.set)) then Refuses (Small (need_on (device_for s.set)) len)
+    else Puts (report_text (fresh_run s.set) (events_of s.schedule))
+
+abbrev pub run_reply : (len : ℕ) → Result scripts.Script ScriptError → Reply
+run_reply len (Err e) = Refuses (Script e)
+run_reply len (Ok s) = script_reply len s
 
 -- ---- `asm`: the words of a text, each a line of 8 hexadecimal digits
 
@@ -81,11 +92,11 @@ pack_reply (Err e) = Refuses (Script e)
 
 -- ---- all of them
 
-abbrev pub reply_within : Command → List ℕ → Reply
-reply_within Run input = run_reply (read input)
-reply_within Asm input = asm_reply (lines input)
-reply_within Dis input = dis_reply (unpacked input)
-reply_within Pack input = pack_reply (read input)
+abbrev pub reply_within : Command → (len : ℕ) → List ℕ → Reply
+reply_within Run len input = run_reply len (read input)
+reply_within Asm len input = asm_reply (lines input)
+reply_within Dis len input = dis_reply (unpacked input)
+reply_within Pack len input = pack_reply (read input)
 
-unfoldable pub reply : Command → List ℕ → Reply
-reply c input = if nat_lt most_input (length input) then Refuses (Script too_long) else reply_within c input
+unfoldable pub reply : Command → (len : ℕ) → List ℕ → Reply
+reply c len input = if nat_lt most_input (length input) then Refuses (Script too_long) else reply_within c len input

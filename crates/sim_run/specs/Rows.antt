@@ -7,7 +7,8 @@ use Rattle.kernel_model.specs.Turns.{Line, Start, Finish, Found}
 use Rattle.kernel_model.specs.Events.{CoreStep, Event}
 use Rattle.kernel_model.specs.WorkedTasks.{shown}
 use Rattle.set_model.specs.Sets.{TaskSet}
-use Rattle.task_model.specs.SetRun.{all_lines, state_read}
+use Rattle.headline.specs.Runs.{all_lines, state_read}
+use Rattle.sim_run.specs.Replies.{fresh_run}
 use Rattle.sim_run.specs.Set.{set_with}
 
 -- addi s0, a0, 0; addi a0, zero, 0; addi a1, zero, 512; addi a7, zero, 1; ecall; lw t0, 512(zero); add t0, t0, s0; sw t0, 512(zero); addi a7, zero, 2; ecall; addi a7, zero, 4; ecall
@@ -32,8 +33,8 @@ behind = record { objects = (12 ∷ []) ∷ []; tasks = []; clock = 1; number = 
 
 -- what a run of n steps prints, and the state it leaves
 pub record Runs (set : TaskSet) (n : ℕ) (lines : List Line) (state : DeviceState) : Type 0 where
-  pub printed : shown (all_lines set (steps n)) ≡ lines
-  pub left : state_read set (steps n) ≡ state
+  pub printed : shown (all_lines (fresh_run set) (steps n)) ≡ lines
+  pub left : state_read (fresh_run set) (steps n) ≡ state
 
 -- 31 steps are enough; at the 30th the finish is durable, and at the 31st it is told
 abbrev pub SmallestRuns : Type 0

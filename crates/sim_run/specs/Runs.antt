@@ -1,54 +1,72 @@
--- What a run puts: the lines of its events, and then what is read back.
-use Rattle.std.specs.Prelude.{◌≡◌, ◌≤◌, ℕ, List, ◌++◌, take}
-use Rattle.std.specs.List.{flat_map}
+-- A run of the kernel on a device, event by event, and what it puts. This project's own.
+use Rattle.std.specs.Prelude.{◌≡◌, ℕ, ◌+◌, ◌<◌, ◌≤◌, List, ◌++◌, false, length, take}
 use Rattle.rv_core.specs.State.{MachineState}
-use Rattle.kernel_model.specs.Effects.{object_words}
+use Rattle.nv_base.specs.Streams.{PutsFront, PutsText, FaultCounted, Stream}
 use Rattle.kernel_model.specs.Events.{Event, State}
+use Rattle.kernel_model.specs.Durable.{listed, state_left}
 use Rattle.kernel_model.specs.Report.{found_lines, unprinted}
-use Rattle.set_model.specs.Sets.{TaskSet, object_at}
-use Rattle.report_text.specs.Lines.{end_text, object_text, open_text}
-use Rattle.report_text.specs.Report.{end_part, lines_text, objects_text}
-use Rattle.task_model.specs.SetRun.{after, event_lines}
+use Rattle.set_model.specs.Sets.{TaskSet}
+use Rattle.device_model.specs.IndexWords.{base_of}
+use Rattle.device_model.specs.Devices.{held_on, need_on}
+use Rattle.recovery.specs.Images.{device_at}
+use Rattle.report_text.specs.Report.{end_part, lines_text}
+use Rattle.headline.specs.Runs.{Origin, after, event_lines, first_state}
+use Rattle.headline.specs.Images.{HasImages}
 use Rattle.headline.specs.Report.{report_text}
-use Rattle.kernel_core.specs.Invariant.{IsValid, finishes}
-use Rattle.kernel_core.specs.Represents.{Represents, durable_of}
-use Rattle.kernel_core.specs.declared.kernel.Kernel.{Kernel}
+use Rattle.kernel_turns.specs.Events.{IsAt}
+use Rattle.kernel_turns.specs.declared.kernel.Kernel.{Kernel}
+use Rattle.sim_run.specs.Stores.{Store, words_in}
+use Rattle.sim_run.specs.declared.halt.Halt.{Halt}
+use Rattle.sim_run.specs.declared.halt.Halt.TheVariants.{WriteFault, DeviceLost}
 
 -- the lines of the first n events
-abbrev pub first_lines_text : TaskSet → List Event → ℕ → List ℕ
-first_lines_text set events n = lines_text set (event_lines set (take n events))
+abbrev pub first_lines_text : Origin → List Event → ℕ → List ℕ
+first_lines_text o events n = lines_text o.device.set (event_lines o (take n events))
 
--- the line of an object, with its durable words
-abbrev pub object_part : Kernel → ℕ → List ℕ
-object_part k o = object_text (object_at k.set o).name (object_words (durable_of k).objects o)
+-- what comes after the last event, where it left a state: the finish that no line has told, and what is durable
+abbrev pub found_text : Origin → State MachineState → List ℕ
+found_text o s = lines_text o.device.set (found_lines (unprinted s))
 
--- the object lines of what is durable
-abbrev pub objects_part : Kernel → List ℕ
-objects_part k = objects_text k.set.objects (durable_of k).objects
+abbrev pub tail_text : Origin → State MachineState → List ℕ
+tail_text o s = found_text o s ++ end_part o.device.set (state_left o.base (listed s)) s.boots
 
--- its lines of open tasks
-abbrev pub open_part : Kernel → List ℕ
-open_part k = flat_map (open_text k.set) (durable_of k).tasks
+-- the words of a device tell what is read back
+abbrev pub read_text : TaskSet → Store → List ℕ
+read_text set s =
+    let h = held_on (device_at set (words_in s)) (words_in s) in
+    end_part set (base_of h.index h.objects) h.boots
 
--- its numbers, of which no boot is one
-abbrev pub numbers_part : Kernel → List ℕ
-numbers_part k = end_text (durable_of k).clock (durable_of k).number (durable_of k).next 0
+-- a front of a text was put, and the sink did not fail
+pub record PutsStart (text : List ℕ) (old new : Stream) : Type 0 where
+  pub count : ℕ
+  pub few : count ≤ length text
+  pub put : PutsText (take count text) old new
 
--- the line of a finish that is durable and not told
-abbrev pub found_part : Kernel → State MachineState → List ℕ
-found_part k s = lines_text k.set (found_lines (unprinted s))
+-- a kernel before the first event of a run, with room for all of them
+pub record Begins (o : Origin) (events : List Event) (k : Kernel) (s : Store) : Type 0 where
+  pub at : IsAt o k (words_in s) (first_state o)
+  pub live : k.lost ≡ false
+  pub room : length events ≤ k.room
+  pub long : need_on o.device ≤ length s.start
+  pub boots : o.boots + length events < 4294967295
 
--- all that is read back
-abbrev pub end_part_of : Kernel → List ℕ
-end_part_of k = end_part k.set (durable_of k) 0
+-- after n events: the kernel is at the state that they lead to, their lines were put, and each image of the device so far holds what was durable then
+pub record Goes (o : Origin) (events : List Event) (n : ℕ) (k : Kernel) (first now : Store) (old new : Stream) : Type 0 where
+  pub at : IsAt o k (words_in now) (after o (take n events))
+  pub live : k.lost ≡ false
+  pub room : length events ≤ k.room
+  pub start : now.start ≡ first.start
+  pub losses : first.losses ≤ now.losses
+  pub images : HasImages o events first.start first.log now.log n
+  pub puts : PutsText (first_lines_text o events n) old new
 
--- all that comes after the last event
-abbrev pub tail_of : Kernel → State MachineState → List ℕ
-tail_of k s = found_part k s ++ end_part_of k
+-- some number of the events was done, as far as the device tells: also a last one of which no line was put
+abbrev pub HasDone : (o : Origin) (events : List Event) (first now : Store) → Type 0
+HasDone o events first now =
+    (n : ℕ) × (n ≤ length events) × HasImages o events first.start first.log now.log n
 
--- the kernel stands for the state after the first n events
-pub record Carries (set : TaskSet) (events : List Event) (k : Kernel) (n : ℕ) : Type 0 where
-  pub set_is : k.set ≡ set
-  pub kept : IsValid k
-  pub stands : Represents k (after set (take n events))
-  pub few : finishes k ≤ n
+-- why a run stops before its end, and what was put of its report
+abbrev pub IsHalted : (text : List ℕ) (first now : Store) (old new : Stream) → Halt → Type 0
+IsHalted text first now old new WriteFault = PutsFront text old new
+IsHalted text first now old new DeviceLost =
+    FaultCounted first.losses now.losses × PutsStart text old new

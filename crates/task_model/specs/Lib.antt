@@ -2,5 +2,4 @@ pub mod TaskSteps
 pub mod Shape
 pub mod Progress
 pub mod WholeRun
-pub mod SetRun
 pub mod WorkedRuns

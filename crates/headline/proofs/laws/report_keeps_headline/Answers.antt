@@ -6,8 +6,8 @@ use Rattle.headline.proofs.Promise.{execution_of}
 use Rattle.headline.proofs.laws.report_keeps_headline.Goals as goal
 
 pub returns : goal.returns
-returns c = λ set events h l.
-    let x : Execution MachineState = execution_of set events h l (c.task_set_is_set_up.ensures set h) in
+returns c = λ o events up ids.
+    let x : Execution MachineState = execution_of o events up ids in
     record {
       report = refl;
       serial = c.listing_is_serial.ensures x;

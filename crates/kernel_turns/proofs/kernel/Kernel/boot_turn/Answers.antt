@@ -74,4 +74,7 @@ returns-in-Ok-Done-clause-image g c =
 
 pub returns-in-Err-Lost-clause-cut : goal.returns-in-Err-Lost-clause-cut
 returns-in-Err-Lost-clause-cut g c =
-    lost_writes c.args.self.now _ c.args.core.0 c.in-Boot.boot _ _ c.if-core-ne0.false c.in-Boot.is (⊎_elim inl (λ counted. inr counted.1) c.in-Err-Lost.ensures.unwritten)
+    let words = words_of (g.F.Fram.log c.args.dev.now) (g.F.Fram.start c.args.dev.now) in
+    lost_writes c.args.self.now words _ c.args.core.0 c.in-Boot.boot _ _ c.if-core-ne0.false c.in-Boot.is
+    (λ e. counted_image c.args.self.now.set (words 2 + 1) (g.F.Fram.log c.args.dev.now) _ (g.F.Fram.start c.args.dev.now) _ c.requires.room e c.turn.ensures.start)
+    (⊎_elim inl (λ counted. inr counted.1) c.in-Err-Lost.ensures.unwritten)

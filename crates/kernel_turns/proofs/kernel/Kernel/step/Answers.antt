@@ -41,7 +41,7 @@ returns-in-None-clause-cut g c =
     let n = c.args.core.0 in
     let log = g.F.Fram.log c.args.dev.now in
     let words = words_of log (g.F.Fram.start c.args.dev.now) in
-    on_err_here c.step_try.result (subst (MayHaveWritten k n words log) (sym c.step_try.ensures.log) (try_cut k words n log))
+    on_err_here c.step_try.result (subst (MayHaveWritten k n words (words_of (g.F.Fram.log c.step_try.new.dev) (g.F.Fram.start c.step_try.new.dev)) log) (sym c.step_try.ensures.log) (try_cut k words _ n log))
 
 pub returns-in-Some-clause-steps : goal.returns-in-Some-clause-steps
 returns-in-Some-clause-steps g c =
