@@ -36,7 +36,7 @@ use Rattle.kernel_turns.proofs.Failing.{configuration, represented, told_now}
 use Rattle.kernel_turns.proofs.Represented.{setting_fits, simulated}
 
 -- the state is lawful
-pub lawful_at : (o : Origin) (k : Kernel) (words : Words) (s : State MachineState) → (a : IsAt o k words s) → IsLawful k words a.tables
+abbrev pub lawful_at : (o : Origin) (k : Kernel) (words : Words) (s : State MachineState) → (a : IsAt o k words s) → IsLawful k words a.tables
 lawful_at o k words s a = record {
   base = o.base;
   last = o.last;

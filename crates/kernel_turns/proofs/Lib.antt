@@ -14,6 +14,7 @@ pub mod Begun
 pub mod Opened
 pub mod Failing
 pub mod Booting
+pub mod Naming
 pub mod Lawful
 pub mod Represented
 pub mod Cutting

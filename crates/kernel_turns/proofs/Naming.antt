@@ -1,5 +1,5 @@
 -- The object that a refused finish has no room for is of the set.
-use Rattle.std.proofs.Common.{◌≡◌, ◌<◌, ℕ, zero, suc, Bool, true, false, cond, List, [], ◌∷◌, get_or, ◌×◌, Some, nat_eq, length, subst}
+use Rattle.std.proofs.Common.{◌≡◌, ◌<◌, ℕ, zero, suc, Bool, true, false, cond, List, [], ◌∷◌, get_or, Some, nat_eq, length, subst}
 use Rattle.std.specs.List.{AllByRecursion}
 use Rattle.rv_core.specs.State.{MachineState}
 use Rattle.kernel_model.specs.Effects.{Exit, Outcome, Trap, Write}
@@ -25,11 +25,11 @@ Names count line = (core task object : ℕ) → line ≡ RefuseSlots core task o
 
 room_names : {M : Type 0} → (sizes : Sizes) (base : DeviceState) (history : List FinishRecord) (others : List (Core M)) (ws : List Write) (o : ℕ) → AllByRecursion (IsWrite sizes) ws → without_room sizes base history others ws ≡ Some o → o < sizes.objects
 room_names sizes base history others [] o h e = absurd (cc e)
-room_names {M} sizes base history others (w ∷ ws) o h e = at (has_room sizes base history others w.object) e
+room_names {M} sizes base history others (w ∷ ws) o h e = at (has_room sizes base history others w.object) e (λ f. room_names sizes base history others ws o h.1 f)
   where
-    at : (b : Bool) → cond b (without_room sizes base history others ws) (Some w.object) ≡ Some o → o < sizes.objects
-    at true f = room_names sizes base history others ws o h.1 f
-    at false f = let same : w.object ≡ o = cc f in subst (λ (n : ℕ). n < sizes.objects) same h.0.object
+    at : (b : Bool) → cond b (without_room sizes base history others ws) (Some w.object) ≡ Some o → (without_room sizes base history others ws ≡ Some o → o < sizes.objects) → o < sizes.objects
+    at true f rest = rest f
+    at false f rest = let same : w.object ≡ o = cc f in subst (λ (n : ℕ). n < sizes.objects) same h.0.object
 
 -- a trapped try writes nothing
 run_writes : {M : Type 0} → (sizes : Sizes) (a : Attempt M) (outcome : Outcome) → AllByRecursion (IsWrite sizes) a.writes → AllByRecursion (IsWrite sizes) (run_of a outcome).writes
@@ -69,7 +69,7 @@ step_names world s n (Boot left) writes = at (nat_eq n 0)
     at false = λ core task object e. absurd (cc e)
 
 event_names : (world : World MachineState) (s : State MachineState) (e : Event) → ((n : ℕ) → Writes world (get_or s.cores n Idle)) → Names world.sizes.objects (event_step world s e).1
-event_names world s Fail writes core task object e = absurd (cc e)
+event_names world s Fail writes = λ core task object e. absurd (cc e)
 event_names world s (CoreStep n) writes = step_names world s n s.power (writes n)
 
 -- at a state of a run

@@ -37,9 +37,11 @@ use Rattle.table_machine.specs.Simulates.{IsSetting, opened_tables}
 use Rattle.task_model.specs.TaskSteps.{task_steps}
 use Rattle.committed_state.specs.Committed.{HasRooms, IsCommitted, chains_in}
 use Rattle.core_seats.specs.Holding.{AreSeats}
+use Rattle.headline.specs.Runs.{Origin, first_state}
 use Rattle.kernel_turns.specs.Commits.{setting_on}
 use Rattle.kernel_turns.specs.Keeping.{IsOn, IsPowered, Keeps}
-use Rattle.kernel_turns.specs.Opening.{AreIdle, IsOpenedOn}
+use Rattle.kernel_turns.specs.Events.{IsAt}
+use Rattle.kernel_turns.specs.Opening.{AreIdle}
 use Rattle.kernel_turns.specs.declared.kernel.Kernel.{Kernel}
 use Rattle.kernel_turns.specs.declared.kernel.Power.TheVariants as power
 use Rattle.kernel_turns.proofs.Idle.{idle_kept, vacant_seats}
@@ -131,7 +133,11 @@ abbrev pub OpenedLaw : Type 0
 OpenedLaw = (x : Setting MachineState) (h : Held) (words : Words) (cores : ℕ) (p : Power) → IsSetting x → IsMachine x.steps (sizes_in x) → KeepsIn x.set x.layout h words → h.index.next ≤ max_id
     → Represents x (base_of h.index h.objects) h.index.last (opened_tables x h cores p) words (opened cores p h.boots)
 
-pub begun : (k : Kernel) (words : Words) (h : Held) → OpenedLaw → IsSetting (setting_on k.set words) → IsMachine (task_steps k.set) (sizes_of k.set) → HasBegun k words h → IsOpenedOn k words h
+-- a run from there
+abbrev pub begun_origin : Kernel → Words → Held → Origin
+begun_origin k words h = record { device = device_at k.set words; base = base_of h.index h.objects; last = h.index.last; boots = h.boots; power = On }
+
+pub begun : (k : Kernel) (words : Words) (h : Held) → OpenedLaw → IsSetting (setting_on k.set words) → IsMachine (task_steps k.set) (sizes_of k.set) → HasBegun k words h → IsAt (begun_origin k words h) k words (first_state (begun_origin k words h))
 begun k words h law setting machine b = record {
   device = refl;
   tables = begun_tables k words h;

@@ -32,6 +32,7 @@ use Rattle.kernel_turns.specs.Commits.{setting_on}
 use Rattle.kernel_turns.specs.Keeping.{IsLawful, Keeps}
 use Rattle.kernel_turns.specs.Failures.{Fails}
 use Rattle.kernel_turns.specs.Steps.{HasImage, HasWritten, KeepsSet, MayHaveWritten, Steps, step_of}
+use Rattle.headline.specs.Images.{Decodes}
 use Rattle.kernel_turns.specs.Events.{CutsEvent, SimulatesEvent}
 use Rattle.kernel_turns.specs.Turns.{CoreTurns, CoreWrites, IsAnswered, IsAtStage, IsSavingAt, SeatTurns, TurnsOn, held_at, turn_at}
 use Rattle.kernel_turns.specs.declared.kernel.Kernel.{Kernel}

@@ -2,19 +2,18 @@
 use Rattle.std.specs.Prelude.{◌≡◌, ℕ, ◌≤◌, List, [], length, vec_capacity, true, false, None}
 use Rattle.std.specs.List.{AllByRecursion}
 use Rattle.nv_base.specs.Streams.{FaultCounted}
-use Rattle.kernel_model.specs.Events.{On}
 use Rattle.set_model.specs.Sets.{TaskSet}
 use Rattle.set_model.specs.Limits.{IsTaskSet}
 use Rattle.device_model.specs.Words.{Words}
 use Rattle.device_model.specs.IndexWords.{Index}
-use Rattle.device_model.specs.Decoding.{Held, decode, durable_of, is_worn}
+use Rattle.device_model.specs.Decoding.{decode, durable_of, is_worn}
 use Rattle.device_model.specs.Decoding as stored
 use Rattle.device_model.specs.Devices.{HoldsOn, held_on}
 use Rattle.shadow_index.specs.States.{HasTaken}
 use Rattle.shadow_index.specs.Tells.{IsLayoutOf, device_of}
 use Rattle.table_machine.specs.Tables.{Vacant}
 use Rattle.recovery.specs.Images.{device_at}
-use Rattle.headline.specs.Runs.{booting_origin, first_state, origin_of}
+use Rattle.headline.specs.Runs.{booting_origin, first_state, formatted_origin}
 use Rattle.commit_writer.specs.Rooms.{IsFor as HasTables}
 use Rattle.vol_copy.specs.Tries.{IsFor}
 use Rattle.committed_state.specs.Committed.{HasRooms}
@@ -52,9 +51,9 @@ pub record HasRoomFor (set : TaskSet) (room : ℕ) (k : Kernel) : Type 0 where
   pub power : k.power ≡ power.On
   pub lost : k.lost ≡ false
 
--- with its power on the kernel is at the first state of a run from what its device holds
-abbrev pub IsOpenedOn : Kernel → Words → Held → Type 0
-IsOpenedOn k words h = let o = origin_of (device_at k.set words) h On in IsAt o k words (first_state o)
+-- the kernel is at the first state of a run on a device that was just formatted
+abbrev pub IsOpenedOn : Kernel → Words → Type 0
+IsOpenedOn k words = let o = formatted_origin (device_of k.set 0) in IsAt o k words (first_state o)
 
 -- its words hold a state, and it is not worn
 pub record HoldsFresh (set : TaskSet) (words : Words) : Type 0 where

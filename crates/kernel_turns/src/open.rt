@@ -2,7 +2,7 @@
 
 ghost use Rattle.std.specs.Prelude.{◌≡◌, ◌≢◌, ◌<◌, ◌≤◌, ◌++◌, ℕ, IfOk, IsErr, OnErr, OnOk, false, length};
 ghost use Rattle.nv_base.specs.Streams.{FaultCounted};
-ghost use Rattle.device_model.specs.Devices.{first_on, format_on, need_on};
+ghost use Rattle.device_model.specs.Devices.{format_on, need_on};
 ghost use Rattle.shadow_index.specs.Tells.{device_of};
 ghost use Rattle.recovery.specs.Images.{words_of};
 ghost use Rattle.device_model.specs.IndexWords.{Index};
@@ -64,7 +64,7 @@ impl Kernel {
     ) -> Result<Kernel, OpenRefusal>
         requires { room ≤ MAX_EVENTS }
         ensures opened { let words = words_of (F.log dev.new) (F.start dev.new) in
-            IfOk result (λ k. IsOpenedOn k words (first_on (device_of set 0))) }
+            IfOk result (λ k. IsOpenedOn k words) }
         ensures set { IfOk result (λ k. (k.set ≡ set) × (k.room ≡ room) × (k.lost ≡ false)) }
         ensures written { OnOk result
             (F.log dev.new ≡ F.log dev.old ++ format_on (device_of set 0)) }
@@ -124,7 +124,7 @@ impl Kernel {
         requires room { (room : ℕ) × (room ≤ MAX_EVENTS) × HasRoomFor self.old.set room self.old }
         requires long { need_on (device_of self.old.set 0) ≤ length (F.start dev.old) }
         ensures opened { let words = words_of (F.log dev.new) (F.start dev.new) in
-            OnOk result (IsOpenedOn self.new words (first_on (device_of self.old.set 0))) }
+            OnOk result (IsOpenedOn self.new words) }
         ensures rest { KeepsSet self.old self.new }
         ensures live { self.new.lost ≡ self.old.lost }
         ensures written { OnOk result

@@ -9,6 +9,8 @@ use Rattle.shadow_index.specs.declared.state.State.{State}
 use Rattle.recovery.specs.Images.{IsStateOn, device_at, words_of}
 use Rattle.table_machine.specs.Events.{reopened}
 use Rattle.committed_state.specs.Committed.{HasRooms}
+use Rattle.headline.specs.Runs.{first_state, formatted_origin}
+use Rattle.kernel_turns.specs.Events.{IsAt}
 use Rattle.kernel_turns.specs.Opening.{IsOpenedOn}
 use Rattle.kernel_turns.specs.declared.kernel.Kernel.{Kernel}
 use Rattle.kernel_turns.proofs.Opened.{HasBegun, begun, counted_later, first_kind_of, formatted, lost_read, own_of, read_first, read_index_fits}
@@ -83,5 +85,6 @@ returns-clause-opened g c =
       number = omega arith;
     } in
     let opened = begun new words h c.opened_tables_represent.ensures (c.device_is_setting.ensures.setting _ (device_at set words).kind set room.limits) (c.tasks_are_a_machine.ensures set) b in
-    subst (λ (xs : List ℕ). IsOpenedOn new (words_of (g.F.Fram.log c.read_state.new.dev) xs) h) (sym c.read_state.ensures.start)
-    (subst (λ (l : List Change). IsOpenedOn new (words_of l (g.F.Fram.start c.format.new.dev)) h) (sym c.read_state.ensures.log) opened)
+    let on_device = subst (λ (d : Device). IsAt (formatted_origin d) new words (first_state (formatted_origin d))) f.device opened in
+    subst (λ (xs : List ℕ). IsOpenedOn new (words_of (g.F.Fram.log c.read_state.new.dev) xs)) (sym c.read_state.ensures.start)
+    (subst (λ (l : List Change). IsOpenedOn new (words_of l (g.F.Fram.start c.format.new.dev))) (sym c.read_state.ensures.log) on_device)

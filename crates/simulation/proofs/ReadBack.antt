@@ -9,7 +9,7 @@ use Rattle.kernel_model.specs.Effects.{Objects}
 use Rattle.set_model.specs.Sets.{ObjPart}
 use Rattle.report_text.specs.Lines.{object_text}
 use Rattle.report_text.specs.Report.{objects_text}
-use Rattle.sim_run.proofs.Fronts.{front_here, front_later, front_next, puts_more}
+use Rattle.simulation.proofs.Fronts.{front_here, front_later, front_next, puts_more}
 
 -- ---- texts of a list, one after another
 

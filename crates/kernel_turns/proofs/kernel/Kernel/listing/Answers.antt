@@ -1,3 +1,0 @@
-use Rattle.std.proofs.Common.{ap, ◌∙◌}
-use Rattle.kernel_turns.proofs.Lawful.{listed_at}
-use Rattle.kernel_turns.proofs.kernel.Kernel.listing.Goals as goal
