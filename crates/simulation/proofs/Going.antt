@@ -1,22 +1,29 @@
 -- A run of the kernel, event by event.
-use Rattle.std.proofs.Common.{◌≡◌, ℕ, zero, suc, ◌+◌, ◌<◌, ◌≤◌, ◌⊎◌, inl, inr, List, [], ◌∷◌, ◌++◌, length, take, drop, Option, Some, None, false, refl, ap, ap₂, sym, ◌∙◌, subst, append_assoc, arith}
+use Rattle.std.proofs.Common.{◌≡◌, ℕ, zero, suc, ◌+◌, ◌<◌, ◌≤◌, ◌⊎◌, inl, inr, List, [], ◌∷◌, ◌++◌, Bool, true, false, cond, nat_eq, length, take, drop, Option, Some, None, refl, ap, ap₂, sym, ◌∙◌, subst, append_assoc, add-one, arith}
 use Rattle.std.specs.Prelude.{slice_get}
 use Rattle.std.proofs.lemmas.Grind.{flat_map-append}
-use Rattle.std.proofs.lemmas.List.{append-nil, take_all, take-append-drop}
+use Rattle.std.proofs.lemmas.List.{append-nil, length-map, length-take-le, take_all, take-append-drop}
 use Rattle.nv_base.specs.Streams.{PutsFront, PutsText, FaultCounted, Stream}
 use Rattle.rv_core.specs.State.{MachineState}
 use Rattle.nv_base.specs.declared.lines.Line as base
-use Rattle.kernel_model.specs.Turns.{Line}
-use Rattle.kernel_model.specs.Events.{Event, State, event_step, lines_of}
-use Rattle.kernel_model.specs.Durable.{event_writes}
+use Rattle.nv_base.specs.declared.lines.Line.TheVariants as own_line
+use Rattle.nv_base.specs.declared.lines.Entry as base_entry
+use Rattle.kernel_model.specs.Items.{Entry}
+use Rattle.kernel_model.specs.Turns.{Booted, Failed, Finish, Found, Line, Nothing, RefuseEmpty, RefuseRecords, RefuseSlots, Stale, Start}
+use Rattle.kernel_model.specs.Events.{Boot, CoreStep, Event, Fail, On, Power, State, event_step, lines_of, state_after}
+use Rattle.kernel_model.specs.Durable.{boots_at, boots_by, event_writes, turn_boots}
 use Rattle.kernel_model.specs.Report.{found_lines, unprinted}
-use Rattle.kernel_model.proofs.ForCallers.{lines_of-append, one_more}
+use Rattle.kernel_model.proofs.ForCallers.{history-bound, lines_of-append, one_more}
+use Rattle.kernel_model.proofs.DurableLaws.{boots_step}
+use Rattle.kernel_model.proofs.Reruns.{length-listing}
 use Rattle.power_trace.specs.Events.{event_of}
 use Rattle.power_trace.specs.declared.event.Event as own
 use Rattle.set_model.specs.Sets.{TaskSet}
-use Rattle.set_model.specs.Views.{line_of}
+use Rattle.set_model.specs.Views.{entry_if, entry_of, line_of}
 use Rattle.device_model.specs.Words.{Change, Words}
+use Rattle.device_model.specs.Devices.{Device}
 use Rattle.recovery.specs.Images.{words_of}
+use Rattle.report.specs.Named.{NamesObject}
 use Rattle.report_text.specs.Lines.{line_text}
 use Rattle.report_text.specs.Report.{end_part, lines_text}
 use Rattle.headline.specs.Runs.{Origin, after, event_lines, first_state, state_read, world_from}
@@ -25,6 +32,7 @@ use Rattle.headline.specs.Report.{report_text}
 use Rattle.kernel_turns.specs.Events.{CutsEvent, IsAt, SimulatesEvent}
 use Rattle.kernel_turns.specs.Steps.{KeepsSet}
 use Rattle.kernel_turns.specs.declared.kernel.Kernel.{Kernel}
+use Rattle.kernel_turns.proofs.Lawful.{listed_at}
 use Rattle.simulation.specs.Runs.{Begins, Goes, HasDone, IsHalted, PutsStart, first_lines_text, found_text, tail_text}
 use Rattle.simulation.specs.Stores.{Store, words_in}
 use Rattle.simulation.specs.declared.halt.Halt.{Halt}
@@ -56,14 +64,20 @@ begun o events k s p durable none b = record {
 -- ---- one event more
 
 -- the next of what is left
-pub next_left : (all left : List Event) (n : ℕ) (e : Event) (rest : List Event) → left ≡ drop n all → left ≡ e ∷ rest → (slice_get all n ≡ Some e) × (rest ≡ drop (n + 1) all)
-next_left [] left n e rest h f = absurd (at n (sym f ∙ h))
-  where
-    at : (n : ℕ) → e ∷ rest ≡ drop n [] → ⊥
-    at zero g = cc g
-    at (suc n) g = cc g
-next_left (x ∷ all) left zero e rest h f = let same : e ∷ rest ≡ x ∷ all = sym f ∙ h in (cc same, cc same)
-next_left (x ∷ all) left (suc n) e rest h f = next_left all left n e rest h f
+pub next_is : (all : List Event) (n : ℕ) (e : Event) (rest : List Event) → drop n all ≡ e ∷ rest → slice_get all n ≡ Some e
+next_is [] zero e rest h = absurd (cc h)
+next_is [] (suc n) e rest h = absurd (cc h)
+next_is (x ∷ all) zero e rest h = cc h
+next_is (x ∷ all) (suc n) e rest h = next_is all n e rest h
+
+rest_from : (all : List Event) (n : ℕ) (e : Event) (rest : List Event) → drop n all ≡ e ∷ rest → rest ≡ drop (suc n) all
+rest_from [] zero e rest h = absurd (cc h)
+rest_from [] (suc n) e rest h = absurd (cc h)
+rest_from (x ∷ all) zero e rest h = cc h
+rest_from (x ∷ all) (suc n) e rest h = rest_from all n e rest h
+
+pub rest_is : (all : List Event) (n : ℕ) (e : Event) (rest : List Event) → drop n all ≡ e ∷ rest → rest ≡ drop (n + 1) all
+rest_is all n e rest h = rest_from all n e rest h ∙ ap (λ (m : ℕ). drop m all) (sym (add-one n))
 
 pub some_left : (all left : List Event) (n : ℕ) → left ≡ drop n all → n < length all → left ≡ [] → ⊥
 some_left [] left n h l e = absurd (omega (arith, l))
@@ -142,7 +156,7 @@ split_report o events n =
 
 -- all of it, behind the lines of all events
 pub ended_report : (o : Origin) (events : List Event) → report_text o events ≡ first_lines_text o events (length events) ++ tail_text o (after o (take (length events) events))
-ended_report o events = subst (λ (x : List Event). report_text o events ≡ lines_text o.device.set (event_lines o x) ++ tail_text o (after o x)) (sym (take_all events (length events) (omega arith))) (whole_report o events)
+ended_report o events = subst (λ (x : List Event). report_text o events ≡ lines_text o.device.set (event_lines o x) ++ tail_text o (after o x)) (sym (take_all (length events) events (omega arith))) (whole_report o events)
 
 -- ---- a run that stops at an event
 
@@ -187,3 +201,78 @@ call_done o events n k first now later e p q follows g is less cuts same = elim 
           follows o events first.start first.log now.log later.log n (event_of e) g.images is made.0
               (subst (λ (xs : List ℕ). Decodes o (words_of later.log xs) (after o (take (n + 1) events))) (sym start) (subst (Decodes o (words_in later)) (sym next.0) made.1)),
         )
+
+-- ---- conditions of a turn
+
+turns_one : (left : ℕ) → turn_boots left ≤ 1
+turns_one zero = omega arith
+turns_one (suc zero) = omega arith
+turns_one (suc (suc left)) = omega arith
+
+boots_one_at : (n : ℕ) (p : Power) → boots_at n p ≤ 1
+boots_one_at n On = omega arith
+boots_one_at n (Boot left) = elim (nat_eq n 0) as (λ b. cond b (turn_boots left) 0 ≤ 1) [ true ↦ turns_one left | false ↦ omega arith ]
+
+boots_one : (s : State MachineState) (e : Event) → boots_by s e ≤ 1
+boots_one s Fail = omega arith
+boots_one s (CoreStep n) = boots_one_at n s.power
+
+-- each event counts one boot at most
+boots_few : (o : Origin) (events : List Event) (s : State MachineState) → (state_after (world_from o) s events).boots ≤ s.boots + length events
+boots_few o [] s = omega arith
+boots_few o (e ∷ events) s =
+    let rest = boots_few o events (event_step (world_from o) s e).0 in
+    let step = boots_step (world_from o) s e in
+    let one = boots_one s e in
+    omega (arith, rest, step, one)
+
+abbrev pub BootsLaw : Type 0
+BootsLaw = (o : Origin) (k : Kernel) (words : Words) (s : State MachineState) → IsAt o k words s → words 2 ≡ s.boots
+
+pub boots_below : (o : Origin) (events : List Event) (n : ℕ) (k : Kernel) (first now : Store) (p q : Stream) → BootsLaw → Begins o events k first → n < length events → (j : Kernel) → Goes o events n j first now p q → words_in now 2 < 4294967295
+boots_below o events n k first now p q law b less j g =
+    let same = law o j (words_in now) (after o (take n events)) g.at in
+    let few = boots_few o (take n events) (first_state o) in
+    let count = length-take-le n events (omega (arith, less)) in
+    let most = b.boots in
+    omega (arith, same, few, count, most, less)
+
+-- fewer finishes are listed than events were taken
+pub listed_below : (o : Origin) (events : List Event) (n : ℕ) (k : Kernel) (first now : Store) (p q : Stream) → n < length events → Goes o events n k first now p q → length k.listing.items < k.room
+listed_below o events n k first now p q less g =
+    let few = history-bound (world_from o) (take n events) (first_state o) in
+    let count = length-take-le n events (omega (arith, less)) in
+    let room = g.room in
+    let same = sym (length-map k.listing.items entry_of) ∙ ap length (listed_at o k (words_in now) (after o (take n events)) g.at) ∙ length-listing (after o (take n events)).history in
+    omega (arith, few, count, room, same, less)
+
+-- the line of a turn names an object of the set
+by_line : (set : TaskSet) (l : Line) → ((core task object : ℕ) → l ≡ RefuseSlots core task object → object < length set.objects) → NamesObject set l
+by_line set Nothing h = tt
+by_line set (Start core task at) h = tt
+by_line set (Stale core task lo hi) h = tt
+by_line set (RefuseEmpty core task lo hi) h = tt
+by_line set (RefuseSlots core task object) h = h core task object refl
+by_line set (RefuseRecords core task pending spawns) h = tt
+by_line set (Finish e) h = tt
+by_line set (Found e) h = tt
+by_line set Failed h = tt
+by_line set (Booted found boots) h = tt
+
+abbrev pub RefusedLaw : Type 0
+RefusedLaw = (o : Origin) (k : Kernel) (words : Words) (s : State MachineState) → IsAt o k words s → (e : Event) (core task object : ℕ) → (event_step (world_from o) s e).1 ≡ RefuseSlots core task object → object < length o.device.set.objects
+
+pub line_named : (o : Origin) (s : State MachineState) (k j : Kernel) (words later : Words) (log grown : List Change) (e : own.Event) (l : base.Line) (at : TaskSet) → RefusedLaw → IsAt o k words s → SimulatesEvent k e words log j later grown l → at ≡ o.device.set → NamesObject at (line_of l)
+unfolding SimulatesEvent
+line_named o s k j words later log grown e l at law a turns same =
+    subst (λ (set : TaskSet). NamesObject set (line_of l)) (sym same)
+    (by_line o.device.set (line_of l) (λ core task object f. law o k words s a (event_of e) core task object (sym (turns o s a).tells ∙ f)))
+
+-- the set of a kernel at a state is that of the run
+pub set_at : (o : Origin) (k : Kernel) (words : Words) (s : State MachineState) → IsAt o k words s → k.set ≡ o.device.set
+set_at o k words s a = ap (λ (d : Device). d.set) a.device
+
+-- the line of a finish that no line has told
+pub one_found : (set at : TaskSet) (entry : base_entry.Entry) (untold : Option Entry) → at ≡ set → entry_if (Some entry) ≡ untold → line_text at (line_of (own_line.Found entry)) ≡ lines_text set (found_lines untold)
+one_found set at entry untold same e =
+    ap (λ (x : TaskSet). line_text x (line_of (own_line.Found entry))) same ∙ sym (append-nil (line_text set (line_of (own_line.Found entry)))) ∙ ap (λ (x : Option Entry). lines_text set (found_lines x)) e

@@ -14,7 +14,7 @@ no_start text o = record { count = 0; few = omega arith; put = puts_nothing o }
 
 -- so is all of it
 pub whole_start : (text : List ℕ) (o p : Stream) → PutsText text o p → PutsStart text o p
-whole_start text o p h = record { count = length text; few = omega arith; put = subst (λ (t : List ℕ). PutsText t o p) (sym (take_all text (length text) (omega arith))) h }
+whole_start text o p h = record { count = length text; few = omega arith; put = subst (λ (t : List ℕ). PutsText t o p) (sym (take_all (length text) text (omega arith))) h }
 
 pub start_here : (o q : Stream) (a rest : List ℕ) → PutsStart a o q → PutsStart (a ++ rest) o q
 start_here o q a rest h = record {

@@ -1,14 +1,27 @@
 -- The parts of what is read back, line by line.
-use Rattle.std.proofs.Common.{◌≡◌, ℕ, zero, suc, ◌+◌, ◌≤◌, ◌<◌, List, [], ◌∷◌, ◌++◌, length, take, drop, get_or, map, refl, ap, sym, subst, ◌∙◌, append_assoc, add-one, arith}
+use Rattle.std.proofs.Common.{◌≡◌, ℕ, zero, suc, ◌+◌, ◌≤◌, ◌<◌, List, [], ◌∷◌, ◌++◌, length, take, drop, get_or, map, refl, ap, ap₂, sym, subst, ◌∙◌, append_assoc, add-one, arith}
 use Rattle.std.specs.List.{AllByRecursion, flat_map}
+use Rattle.std.specs.Prelude.{slice_index}
 use Rattle.std.proofs.lemmas.Grind.{flat_map-append}
 use Rattle.std.proofs.lemmas.List.Concat.{flat_map-cons}
 use Rattle.std.proofs.lemmas.List.{append-nil, take_all, take_more, take-append-drop}
 use Rattle.nv_base.specs.Streams.{PutsFront, PutsText, Stream}
 use Rattle.kernel_model.specs.Effects.{Objects}
-use Rattle.set_model.specs.Sets.{ObjPart}
+use Rattle.set_model.specs.Sets.{ObjPart, object_at}
 use Rattle.report_text.specs.Lines.{object_text}
 use Rattle.report_text.specs.Report.{objects_text}
+use Rattle.set_model.specs.Limits.{IsTaskSet}
+use Rattle.set_model.specs.Sets.{TaskSet}
+use Rattle.device_model.specs.Words.{Words}
+use Rattle.device_model.specs.Keeping.{KeepsIn}
+use Rattle.device_model.specs.Devices.{layout_on}
+use Rattle.shadow_index.specs.declared.state.State.{State}
+use Rattle.recovery.specs.Images.{device_at}
+use Rattle.recovery.specs.Reading.{IsRead}
+use Rattle.kernel_turns.proofs.Opened.{kept_on}
+use Rattle.simulation.specs.Runs.{IsHalted, read_at}
+use Rattle.simulation.specs.declared.halt.Halt.{Halt}
+use Rattle.simulation.proofs.Halting.{halted_middle}
 use Rattle.simulation.proofs.Fronts.{front_here, front_later, front_next, puts_more}
 
 -- ---- texts of a list, one after another
@@ -66,11 +79,11 @@ pub next_object : (parts : List ObjPart) (objects : Objects) (none : ObjPart) (i
     → PutsText (objects_text (take i parts) (take i objects)) o p → PutsText (object_line parts objects none i) p q → PutsText (objects_text (take (i + 1) parts) (take (i + 1) objects)) o q
 next_object parts objects none i o p q l s e f = subst (λ t. PutsText t o q) (sym (objects_more parts objects none i l s)) (puts_more o p q _ _ e f)
 
-pub cut_object : (parts : List ObjPart) (objects : Objects) (none : ObjPart) (i : ℕ) (o p q : Stream) → i < length parts → length objects ≡ length parts
-    → PutsText (objects_text (take i parts) (take i objects)) o p → PutsFront (object_line parts objects none i) p q → PutsFront (objects_text parts objects) o q
-cut_object parts objects none i o p q l s e f =
-    front_later o p q (objects_text (take i parts) (take i objects)) (object_line parts objects none i) (objects_text (drop (i + 1) parts) (drop (i + 1) objects)) (objects_text parts objects)
-    (objects_split parts objects (i + 1) ∙ ap (λ t. t ++ objects_text (drop (i + 1) parts) (drop (i + 1) objects)) (objects_more parts objects none i l s)) e f
+pub halted_object : (parts : List ObjPart) (objects : Objects) (none : ObjPart) (i : ℕ) (l k m : ℕ) (o p q : Stream) (h : Halt) → i < length parts → length objects ≡ length parts → l ≤ k
+    → PutsText (objects_text (take i parts) (take i objects)) o p → IsHalted (object_line parts objects none i) k m p q h → IsHalted (objects_text parts objects) l m o q h
+halted_object parts objects none i l k m o p q h less sized few e f =
+    halted_middle (objects_text (take i parts) (take i objects)) (object_line parts objects none i) (objects_text (drop (i + 1) parts) (drop (i + 1) objects)) (objects_text parts objects) l k m o p q h
+    (objects_split parts objects (i + 1) ∙ ap (λ t. t ++ objects_text (drop (i + 1) parts) (drop (i + 1) objects)) (objects_more parts objects none i less sized)) few e f
 
 pub last_object : (parts : List ObjPart) (objects : Objects) (i : ℕ) (o p : Stream) → length parts ≤ i → length objects ≡ length parts
     → PutsText (objects_text (take i parts) (take i objects)) o p → PutsText (objects_text parts objects) o p
@@ -86,19 +99,17 @@ at_place P [] i d h l = absurd (omega (arith, l))
 at_place P (x ∷ xs) zero d h l = h.0
 at_place P (x ∷ xs) (suc i) d h l = at_place P xs i d h.1 (omega arith)
 
--- ---- four parts, one after another
+-- ---- what a read state tells
 
-pub cut_first : (o q : Stream) (a b c d : List ℕ) → PutsFront a o q → PutsFront (((a ++ b) ++ c) ++ d) o q
-cut_first o q a b c d h = front_here o q ((a ++ b) ++ c) d (front_here o q (a ++ b) c (front_here o q a b h))
+pub read_keeps : (set : TaskSet) (words : Words) (state : State) → IsTaskSet set → IsRead set words state → KeepsIn set (layout_on (device_at set words)) (read_at set words) words
+read_keeps set words state limits r = kept_on (device_at set words) (read_at set words) words limits r.held
 
-pub cut_second : (o p q : Stream) (a b c d : List ℕ) → PutsText a o p → PutsFront b p q → PutsFront (((a ++ b) ++ c) ++ d) o q
-cut_second o p q a b c d e h = front_here o q ((a ++ b) ++ c) d (front_here o q (a ++ b) c (front_next o p q a b e h))
+pub read_slots : (set : TaskSet) (words : Words) (state : State) → IsTaskSet set → IsRead set words state → length state.slots.items ≡ length set.objects
+read_slots set words state limits r = ap (λ x. length x.slots) r.state.index ∙ (read_keeps set words state limits r).held.index.slots
 
-pub cut_third : (o p q r : Stream) (a b c d : List ℕ) → PutsText a o p → PutsText b p q → PutsFront c q r → PutsFront (((a ++ b) ++ c) ++ d) o r
-cut_third o p q r a b c d e f h = front_here o r ((a ++ b) ++ c) d (front_next o q r (a ++ b) c (puts_more o p q a b e f) h)
+pub read_slot : (set : TaskSet) (words : Words) (state : State) (o : ℕ) → IsTaskSet set → IsRead set words state → o < length set.objects → slice_index state.slots.items o < (object_at set o).slots
+read_slot set words state o limits r l = subst (λ x. slice_index x.slots o < (object_at set o).slots) (sym r.state.index) ((read_keeps set words state limits r).held.index.named o l)
 
-pub cut_fourth : (o p q r t : Stream) (a b c d : List ℕ) → PutsText a o p → PutsText b p q → PutsText c q r → PutsFront d r t → PutsFront (((a ++ b) ++ c) ++ d) o t
-cut_fourth o p q r t a b c d e f g h = front_next o r t ((a ++ b) ++ c) d (puts_more o q r (a ++ b) c (puts_more o p q a b e f) g) h
-
-pub all_four : (o p q r t : Stream) (a b c d : List ℕ) → PutsText a o p → PutsText b p q → PutsText c q r → PutsText d r t → PutsText (((a ++ b) ++ c) ++ d) o t
-all_four o p q r t a b c d e f g h = puts_more o r t ((a ++ b) ++ c) d (puts_more o q r (a ++ b) c (puts_more o p q a b e f) g) h
+-- the next of the first words of an object
+pub next_word : (all items : List ℕ) (i word : ℕ) → i < length all → items ≡ take i all → word ≡ slice_index all i → items ++ word ∷ [] ≡ take (i + 1) all
+next_word all items i word l e f = ap₂ (λ (x : List ℕ) (w : ℕ). x ++ w ∷ []) e f ∙ sym (take_more all i 0 l)

@@ -19,9 +19,8 @@ use kernel_turns::Kernel;
 use kernel_turns::laws::kernel_is_at_state;
 use nv_base::Sink;
 use power_trace::Schedule;
-use recovery::laws::words_hold_one_state;
 use report::LineBuf;
-use schedule_model::laws::{each_event_is_of_cores, events_are_within_limits};
+use schedule_model::laws::each_event_is_of_cores;
 
 /// Takes the turns of all events of a schedule, each with its line. It is handed no allocator, so no event takes memory.
 fn put_events<K: Sink, F: Fram>(
@@ -52,6 +51,7 @@ fn put_events<K: Sink, F: Fram>(
 {
     kernel_is_at_state();
     images_follow_events();
+    each_event_is_of_cores();
     let mut events = schedule.events();
     for _ in 0..schedule.len() {
         let Some(event) = events.next() else {

@@ -4,6 +4,7 @@ ghost use Rattle.std.specs.Prelude.{◌≡◌, ◌<◌, ◌≤◌, IfErr, OnErr,
 ghost use Rattle.nv_base.specs.Streams.{FaultCounted, PutsText};
 ghost use Rattle.nv_base.specs.declared.limits.TheConstants.{MAX_SIZE};
 ghost use Rattle.kernel_model.specs.Effects.{object_words};
+ghost use Rattle.set_model.specs.Sets.{object_at};
 ghost use Rattle.device_model.specs.Devices.{need_on};
 ghost use Rattle.recovery.specs.Images.{device_at, words_of};
 ghost use Rattle.recovery.specs.Reading.{IsRead};
@@ -33,12 +34,15 @@ fn read_words<F: Fram>(
     requires room { MAX_SIZE ≤ vec_capacity into.old }
     ensures words { let words = words_of (F.log dev.old) (F.start dev.old) in
         OnOk result (into.new.items ≡ object_words (read_at set.now words).objects o.0) }
+    ensures len { OnOk result (length into.new.items ≡ (object_at set.now o.0).size) }
     ensures room { vec_capacity into.new ≡ vec_capacity into.old }
     ensures lost { OnErr result (FaultCounted (F.lost dev.old) (F.lost dev.new)) }
     ensures log { F.log dev.new ≡ F.log dev.old }
     ensures start { F.start dev.new ≡ F.start dev.old }
     ensures never_falls { F.lost dev.old ≤ F.lost dev.new }
 {
+    // that the set keeps its limits
+    let _ = set.objects();
     into.clear();
     for i in 0..set.size(o) {
         let Ok(word) = read_object(dev, set, state, o, i) else {

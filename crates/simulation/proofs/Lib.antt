@@ -1,0 +1,4 @@
+pub mod Fronts
+pub mod Halting
+pub mod Going
+pub mod ReadBack
