@@ -45,3 +45,20 @@ halted_next a b l k m o p q DeviceLost few e h = (rose_later l k m few h.0, star
 -- in the middle of a text
 pub halted_middle : (a b rest whole : List ℕ) (l k m : ℕ) (o p q : Stream) (h : Halt) → whole ≡ (a ++ b) ++ rest → l ≤ k → PutsText a o p → IsHalted b k m p q h → IsHalted whole l m o q h
 halted_middle a b rest whole l k m o p q h same few e halted = subst (λ (t : List ℕ). IsHalted t l m o q h) (sym same) (halted_here (a ++ b) rest l m o q h (halted_next a b l k m o p q h few e halted))
+
+-- ---- four parts, one after another
+
+pub halted_first : (a b c d : List ℕ) (l m : ℕ) (o q : Stream) (h : Halt) → IsHalted a l m o q h → IsHalted (((a ++ b) ++ c) ++ d) l m o q h
+halted_first a b c d l m o q h e = halted_here ((a ++ b) ++ c) d l m o q h (halted_here (a ++ b) c l m o q h (halted_here a b l m o q h e))
+
+pub halted_second : (a b c d : List ℕ) (l k m : ℕ) (o p q : Stream) (h : Halt) → l ≤ k → PutsText a o p → IsHalted b k m p q h → IsHalted (((a ++ b) ++ c) ++ d) l m o q h
+halted_second a b c d l k m o p q h few e f = halted_here ((a ++ b) ++ c) d l m o q h (halted_here (a ++ b) c l m o q h (halted_next a b l k m o p q h few e f))
+
+pub halted_third : (a b c d : List ℕ) (l k m : ℕ) (o p q r : Stream) (h : Halt) → l ≤ k → PutsText a o p → PutsText b p q → IsHalted c k m q r h → IsHalted (((a ++ b) ++ c) ++ d) l m o r h
+halted_third a b c d l k m o p q r h few e f g = halted_here ((a ++ b) ++ c) d l m o r h (halted_next (a ++ b) c l k m o q r h few (puts_more o p q a b e f) g)
+
+pub halted_fourth : (a b c d : List ℕ) (l k m : ℕ) (o p q r t : Stream) (h : Halt) → l ≤ k → PutsText a o p → PutsText b p q → PutsText c q r → IsHalted d k m r t h → IsHalted (((a ++ b) ++ c) ++ d) l m o t h
+halted_fourth a b c d l k m o p q r t h few e f g i = halted_next ((a ++ b) ++ c) d l k m o r t h few (puts_more o q r (a ++ b) c (puts_more o p q a b e f) g) i
+
+pub all_four : (a b c d : List ℕ) (o p q r t : Stream) → PutsText a o p → PutsText b p q → PutsText c q r → PutsText d r t → PutsText (((a ++ b) ++ c) ++ d) o t
+all_four a b c d o p q r t e f g h = puts_more o r t ((a ++ b) ++ c) d (puts_more o q r (a ++ b) c (puts_more o p q a b e f) g) h

@@ -2,3 +2,4 @@ pub mod Fronts
 pub mod Halting
 pub mod Going
 pub mod ReadBack
+pub mod Tails

@@ -8,18 +8,21 @@ use Rattle.std.proofs.lemmas.List.{append-nil, take_all, take_more, take-append-
 use Rattle.nv_base.specs.Streams.{PutsFront, PutsText, Stream}
 use Rattle.kernel_model.specs.Effects.{Objects}
 use Rattle.set_model.specs.Sets.{ObjPart, object_at}
-use Rattle.report_text.specs.Lines.{object_text}
+use Rattle.report_text.specs.Lines.{end_text, object_text, open_text}
 use Rattle.report_text.specs.Report.{objects_text}
 use Rattle.set_model.specs.Limits.{IsTaskSet}
 use Rattle.set_model.specs.Sets.{TaskSet}
 use Rattle.device_model.specs.Words.{Words}
+use Rattle.device_model.specs.IndexWords.{Index}
+use Rattle.set_model.specs.Views.{task_of}
+use Rattle.nv_base.specs.declared.lines.TaskRec.{TaskRec}
 use Rattle.device_model.specs.Keeping.{KeepsIn}
 use Rattle.device_model.specs.Devices.{layout_on}
 use Rattle.shadow_index.specs.declared.state.State.{State}
 use Rattle.recovery.specs.Images.{device_at}
 use Rattle.recovery.specs.Reading.{IsRead}
 use Rattle.kernel_turns.proofs.Opened.{kept_on}
-use Rattle.simulation.specs.Runs.{IsHalted, read_at}
+use Rattle.simulation.specs.Runs.{IsHalted, numbers_part, open_part, read_at}
 use Rattle.simulation.specs.declared.halt.Halt.{Halt}
 use Rattle.simulation.proofs.Halting.{halted_middle}
 use Rattle.simulation.proofs.Fronts.{front_here, front_later, front_next, puts_more}
@@ -113,3 +116,25 @@ read_slot set words state o limits r l = subst (λ x. slice_index x.slots o < (o
 -- the next of the first words of an object
 pub next_word : (all items : List ℕ) (i word : ℕ) → i < length all → items ≡ take i all → word ≡ slice_index all i → items ++ word ∷ [] ≡ take (i + 1) all
 next_word all items i word l e f = ap₂ (λ (x : List ℕ) (w : ℕ). x ++ w ∷ []) e f ∙ sym (take_more all i 0 l)
+
+-- the numbers and the open tasks that were read
+pub numbers_same : (set : TaskSet) (words : Words) (state : State) → IsRead set words state → end_text state.clock.0 state.number.0 state.next.0 state.boots ≡ numbers_part set words
+numbers_same set words state r =
+    let h = read_at set words in
+    ap (λ (x : Index). end_text x.clock x.number x.next state.boots) r.state.index ∙ ap (λ (n : ℕ). end_text h.index.clock h.index.number h.index.next n) r.state.boots
+
+pub open_same : (set : TaskSet) (words : Words) (state : State) → IsRead set words state → flat_map (open_text set) (map task_of state.tasks.items) ≡ open_part set words
+open_same set words state r = ap (λ (x : Index). flat_map (open_text set) x.tasks) r.state.index
+
+all_mapped : {A B : Type 0} → (P : B → Type 0) (f : A → B) (xs : List A) → AllByRecursion P (map f xs) → AllByRecursion (λ x. P (f x)) xs
+all_mapped P f [] h = tt
+all_mapped P f (x ∷ xs) h = (h.0, all_mapped P f xs h.1)
+
+-- their programs are of the set
+pub read_programs : (set : TaskSet) (words : Words) (state : State) → IsTaskSet set → IsRead set words state → AllByRecursion (λ t. t.program.0 < length set.programs) state.tasks.items
+read_programs set words state limits r =
+    all_mapped (λ t. t.program < length set.programs) task_of state.tasks.items
+    (subst (λ (x : Index). AllByRecursion (λ t. t.program < length set.programs) x.tasks) (sym r.state.index) (read_keeps set words state limits r).held.index.programs)
+
+pub tasks_same : (set : TaskSet) (xs ys : List TaskRec) → xs ≡ ys → flat_map (open_text set) (map task_of xs) ≡ flat_map (open_text set) (map task_of ys)
+tasks_same set xs ys e = ap (λ (ts : List TaskRec). flat_map (open_text set) (map task_of ts)) e
