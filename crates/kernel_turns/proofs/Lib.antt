@@ -22,3 +22,4 @@ pub mod MayJoin
 pub mod Joined
 pub mod Stepping
 pub mod BegunAgain
+pub mod Moving

@@ -1,22 +1,23 @@
--- What a kernel has before it begins on a device. This project's own.
-use Rattle.std.specs.Prelude.{◌≡◌, ℕ, ◌≤◌, List, [], length, vec_capacity, true, false, None}
+-- What a kernel has before it begins on a device, how it begins there, and why it does not. This project's own.
+use Rattle.std.specs.Prelude.{◌≡◌, ◌⊎◌, ℕ, ◌<◌, ◌≤◌, ◌==◌, nat_le, Bool, not, ◌&&◌, ◌||◌, List, [], ◌++◌, length, vec_capacity, true, false, None, if◌then◌else◌}
 use Rattle.std.specs.List.{AllByRecursion}
 use Rattle.rv_core.specs.State.{MachineState}
 use Rattle.nv_base.specs.Streams.{FaultCounted}
 use Rattle.kernel_model.specs.Events.{On, Boot}
 use Rattle.set_model.specs.Sets.{TaskSet}
 use Rattle.set_model.specs.Limits.{IsTaskSet}
-use Rattle.device_model.specs.Words.{Words}
+use Rattle.device_model.specs.Words.{Change, Words}
 use Rattle.device_model.specs.IndexWords.{Index}
-use Rattle.device_model.specs.Layouts.{boot_turns_of}
+use Rattle.device_model.specs.Layouts.{Plain, Paged, Migrated, boot_turns_of, magic_of}
 use Rattle.device_model.specs.Decoding.{Held, decode, durable_of, is_worn}
 use Rattle.device_model.specs.Decoding as stored
-use Rattle.device_model.specs.Devices.{HoldsOn, held_on, layout_on}
+use Rattle.device_model.specs.Migrations.{migration_writes, moved_held}
+use Rattle.device_model.specs.Devices.{HoldsOn, first_on, format_on, held_on, layout_on, migrated, need_on, plain}
 use Rattle.shadow_index.specs.States.{HasTaken}
 use Rattle.shadow_index.specs.Tells.{IsLayoutOf, device_of}
 use Rattle.table_machine.specs.Tables.{Tables, Vacant}
 use Rattle.table_machine.specs.Simulates.{opened_tables}
-use Rattle.recovery.specs.Images.{device_at}
+use Rattle.recovery.specs.Images.{IsOwn, device_at}
 use Rattle.commit_writer.specs.Rooms.{IsFor as HasTables}
 use Rattle.vol_copy.specs.Tries.{IsFor}
 use Rattle.committed_state.specs.Committed.{HasRooms}
@@ -26,6 +27,8 @@ use Rattle.kernel_turns.specs.Commits.{setting_on}
 use Rattle.kernel_turns.specs.Keeping.{IsLawful, Keeps}
 use Rattle.kernel_turns.specs.declared.kernel.Kernel.{Kernel}
 use Rattle.kernel_turns.specs.declared.kernel.Power.TheVariants as power
+use Rattle.kernel_turns.specs.declared.open.How.{How}
+use Rattle.kernel_turns.specs.declared.open.How.TheVariants.{Fresh, Again}
 use Rattle.kernel_turns.specs.declared.open.OpenRefusal.{OpenRefusal}
 use Rattle.kernel_turns.specs.declared.open.OpenRefusal.TheVariants.{Small, NoMemory, Lost, Blank, Damaged, Worn}
 
@@ -55,6 +58,10 @@ pub record HasRoomFor (set : TaskSet) (room : ℕ) (k : Kernel) : Type 0 where
   pub power : k.power ≡ power.On
   pub lost : k.lost ≡ false
 
+-- the kernel stands, on these words, for tables, and these for a state of the event machine: so it may turn
+abbrev pub Stands : Kernel → Words → Type 0
+Stands k words = (t : Tables MachineState) × Keeps k words t × IsLawful k words t
+
 -- with its power on the kernel stands for the tables of a state that its device holds, and these for the event machine before its first event
 pub record IsOpenedOn (k : Kernel) (words : Words) (h : Held) : Type 0 where
   pub keeps : Keeps k words (opened_tables (setting_on k.set words) h k.set.cores On)
@@ -77,6 +84,12 @@ pub record IsBootOn (k : Kernel) (words : Words) : Type 0 where
   pub keeps : Keeps k words (booting_tables k words)
   pub lawful : IsLawful k words (booting_tables k words)
 
+-- they hold a state, and it is worn
+abbrev pub HoldsWorn : TaskSet → Words → Type 0
+HoldsWorn set words =
+    HoldsOn (device_at set words) (held_on (device_at set words) words) words
+    × (is_worn (durable_of (held_on (device_at set words) words)) ≡ true)
+
 -- why a kernel does not begin on what a device holds
 abbrev pub IsNotBooted : TaskSet → Words → (old new : ℕ) → OpenRefusal → Type 0
 IsNotBooted set words old new (Small need len) = ⊥
@@ -84,4 +97,78 @@ IsNotBooted set words old new NoMemory = ⊥
 IsNotBooted set words old new Lost = FaultCounted old new
 IsNotBooted set words old new Blank = decode set words ≡ stored.Blank
 IsNotBooted set words old new (Damaged place) = decode set words ≡ stored.Damaged place
-IsNotBooted set words old new Worn = HoldsOn (device_at set words) (held_on (device_at set words) words) words × (is_worn (durable_of (held_on (device_at set words) words)) ≡ true)
+IsNotBooted set words old new Worn = HoldsWorn set words
+
+-- ---- how a kernel begins
+
+-- the writes of a migration of what stands on a device: of a state of format 1, for a set of format 2, that is not worn
+abbrev pub migration_of : TaskSet → stored.Stored → List Change
+migration_of set stored.Blank = []
+migration_of set (stored.Damaged place) = []
+migration_of set (stored.Holds Plain h) =
+    if (set.format == 2) && not (is_worn (durable_of h)) then migration_writes set h else []
+migration_of set (stored.Holds Paged h) = []
+migration_of set (stored.Holds Migrated h) = []
+
+-- what is written before the first event
+abbrev pub opening_writes : How → TaskSet → Words → List Change
+opening_writes Fresh set words = format_on (device_of set 0)
+opening_writes Again set words = migration_of set (decode set words)
+
+-- the later words hold the state of the earlier ones, perhaps in another format
+pub record HoldsSame (set : TaskSet) (words later : Words) : Type 0 where
+  pub held : HoldsFresh set words
+  pub same : durable_of (held_on (device_at set later) later)
+      ≡ durable_of (held_on (device_at set words) words)
+
+-- the kernel begins with power on, on the first state; or in a boot, on what was there
+abbrev pub Begins : How → TaskSet → (words later : Words) → Kernel → Type 0
+Begins Fresh set words later k = IsOpenedOn k later (first_on (device_of set 0))
+Begins Again set words later k = IsBootOn k later × HoldsSame set words later
+
+-- a kernel of a set and so many finishes was opened on some words of a device, and has left later ones
+pub record IsOpened (how : How) (set : TaskSet) (room : ℕ) (words : Words) (log : List Change) (later : Words) (grown : List Change) (k : Kernel) : Type 0 where
+  pub set_is : k.set ≡ set
+  pub room_is : k.room ≡ room
+  pub live : k.lost ≡ false
+  pub begins : Begins how set words later k
+  pub written : grown ≡ log ++ opening_writes how set words
+
+-- ---- why it does not
+
+-- word 0 names a kind that a migration for this set reads or writes
+abbrev pub is_of_migration : TaskSet → Words → Bool
+is_of_migration set words =
+    (set.format == 2) && ((words 0 == magic_of Plain) || (words 0 == magic_of Migrated))
+
+-- how many words a device must have: as many as its set needs; where it has these, as many as its migration needs
+abbrev pub need_for : How → TaskSet → Words → (len : ℕ) → ℕ
+need_for Fresh set words len = need_on (device_of set 0)
+need_for Again set words len =
+    if nat_le (need_on (device_of set 0)) len && is_of_migration set words
+    then need_on (migrated set) else need_on (device_of set 0)
+
+-- why no kernel begins on a device of so many words
+abbrev pub IsNotOpened : How → TaskSet → Words → (len old new : ℕ) → OpenRefusal → Type 0
+IsNotOpened how set words len old new (Small need most) =
+    (need ≡ need_for how set words len) × (most ≡ len) × (len < need)
+IsNotOpened how set words len old new NoMemory = new ≡ old
+IsNotOpened how set words len old new Lost = FaultCounted old new
+IsNotOpened how set words len old new Blank = (how ≡ Again) × (decode set words ≡ stored.Blank)
+IsNotOpened how set words len old new (Damaged place) =
+    (how ≡ Again) × (decode set words ≡ stored.Damaged place)
+IsNotOpened how set words len old new Worn = (how ≡ Again) × HoldsWorn set words
+
+-- ---- within
+
+-- a state of format 1 was moved
+pub record IsMoved (set : TaskSet) (words later : Words) : Type 0 where
+  pub held : HoldsOn (plain set) (held_on (plain set) words) words
+  pub fresh : is_worn (durable_of (held_on (plain set) words)) ≡ false
+  pub moved : HoldsOn (migrated set) (moved_held set (held_on (plain set) words)) later
+
+-- a boot may begin: the words are none that wait for a migration, and there are enough of them
+pub record IsReady (set : TaskSet) (len : ℕ) (words later : Words) : Type 0 where
+  pub own : IsOwn set later
+  pub long : need_on (device_at set later) ≤ len
+  pub same : ((later ≡ words) × (opening_writes Again set words ≡ [])) ⊎ IsMoved set words later

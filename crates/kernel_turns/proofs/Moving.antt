@@ -1,0 +1,264 @@
+-- A kernel that goes on from what a device holds, once a state of format 1 was moved.
+use Rattle.std.proofs.Common.{◌≡◌, ◌≢◌, ◌⊎◌, inl, inr, ⊎_elim, ℕ, ◌+◌, ◌<◌, ◌≤◌, ◌&&◌, ◌||◌, ◌++◌, ◌==◌, nat_le, Bool, true, false, cond, not, List, [], length, take, Result, Ok, Err, refl, sym, ap, ap₂, ◌∙◌, subst, arith}
+use Rattle.std.specs.Result.{OnErr, OnOk}
+use Rattle.std.proofs.lemmas.Bool.{cases_eq, eq-eqb, le-leb, ne_eqb}
+use Rattle.std.proofs.lemmas.List.{append-nil}
+use Rattle.std.proofs.Math.Seq.{take-length}
+use Rattle.nv_base.specs.Streams.{FaultCounted}
+use Rattle.set_model.specs.Sets.{TaskSet}
+use Rattle.set_model.specs.Limits.{IsTaskSet}
+use Rattle.device_model.specs.Words.{Change, Words}
+use Rattle.device_model.specs.Layouts.{Plain, Paged, Migrated, magic_of}
+use Rattle.device_model.specs.Decoding.{Held, Stored, Blank, Damaged, Holds, decode, durable_of, is_worn}
+use Rattle.device_model.specs.Migrations.{migration_writes, moved_held}
+use Rattle.device_model.specs.Devices.{Device, HoldsOn, held_on, migrated, need_on, plain}
+use Rattle.device_format.specs.Puts.{HasFront}
+use Rattle.shadow_index.specs.Tells.{device_of}
+use Rattle.recovery.specs.Images.{IsOwn, IsUnmoved, device_at}
+use Rattle.recovery.specs.Migrating.{CanMove, HasBegun, HasMoved, IsMigrated, IsMovedKind, IsUnmigrated}
+use Rattle.recovery.specs.declared.refusals.MigrateRefusal.{MigrateRefusal}
+use Rattle.recovery.specs.declared.refusals.MigrateRefusal.TheVariants as moving
+use Rattle.recovery.proofs.KindLaws.{named_magic}
+use Rattle.recovery.proofs.MovedState.{moved_at, moved_own, plain_at, plain_named}
+use Rattle.recovery.proofs.ObjectRead.{held_once}
+use Rattle.recovery.proofs.ShiftLaws.{held_device, held_named, unmoved_device}
+use Rattle.kernel_turns.specs.Opening.{HoldsFresh, HoldsSame, HoldsWorn, IsMoved, IsNotBooted, IsNotOpened, IsReady, is_of_migration, migration_of, need_for, opening_writes}
+use Rattle.kernel_turns.specs.declared.open.How.TheVariants.{Again}
+use Rattle.kernel_turns.specs.declared.open.OpenRefusal.{OpenRefusal}
+use Rattle.kernel_turns.specs.declared.open.OpenRefusal.TheVariants as refusal
+use Rattle.kernel_turns.proofs.Opened.{counted_later}
+
+-- ---- which writes a migration makes
+
+-- none, where word 0 is not that of format 1 for a set of format 2
+no_writes : (set : TaskSet) (words : Words) → IsOwn set words → opening_writes Again set words ≡ []
+no_writes set words own = at (decode set words) refl
+  where
+    at : (s : Stored) → decode set words ≡ s → migration_of set s ≡ []
+    at Blank e = refl
+    at (Damaged place) e = refl
+    at (Holds Plain h) e = ⊎_elim
+        (λ two. absurd (own two (plain_named set h words e)))
+        (λ n. rw (ne_eqb set.format 2 n) refl)
+        (cases_eq set.format 2)
+    at (Holds Paged h) e = refl
+    at (Holds Migrated h) e = refl
+
+-- those of the state of format 1
+all_writes : (set : TaskSet) (words : Words) → set.format ≡ 2 → HoldsOn (plain set) (held_on (plain set) words) words → is_worn (durable_of (held_on (plain set) words)) ≡ false
+    → opening_writes Again set words ≡ migration_writes set (held_on (plain set) words)
+all_writes set words two held fresh = ap (migration_of set) held ∙ ap₂ (λ (a b : Bool). cond (a && not b) (migration_writes set (held_on (plain set) words)) []) (eq-eqb set.format 2 two) fresh
+
+-- ---- how many words are asked for
+
+first_kept : (a m : Bool) (x y : ℕ) → m ≡ false → cond (a && m) x y ≡ y
+first_kept true m x y e = ap (λ (b : Bool). cond b x y) e
+first_kept false m x y e = refl
+
+need_first : (set : TaskSet) (words : Words) (len : ℕ) → is_of_migration set words ≡ false → need_for Again set words len ≡ need_on (device_of set 0)
+need_first set words len e = first_kept (nat_le (need_on (device_of set 0)) len) (is_of_migration set words) (need_on (migrated set)) (need_on (device_of set 0)) e
+
+need_moved : (set : TaskSet) (words : Words) (len : ℕ) → need_on (device_of set 0) ≤ len → is_of_migration set words ≡ true → need_for Again set words len ≡ need_on (migrated set)
+need_moved set words len l e = ap₂ (λ (a b : Bool). cond (a && b) (need_on (migrated set)) (need_on (device_of set 0))) (le-leb (need_on (device_of set 0)) len l) e
+
+other_format : (set : TaskSet) (words : Words) → set.format ≢ 2 → is_of_migration set words ≡ false
+other_format set words n = ap (λ (b : Bool). b && ((words 0 == magic_of Plain) || (words 0 == magic_of Migrated))) (ne_eqb set.format 2 n)
+
+unmoved_kind : (set : TaskSet) (words : Words) → set.format ≡ 2 → IsUnmoved set words → is_of_migration set words ≡ false
+unmoved_kind set words two u = ap₂ (λ (a b : Bool). a && b) (eq-eqb set.format 2 two) (ap₂ (λ (a b : Bool). a || b) (ne_eqb (words 0) (magic_of Plain) (u.0 two)) (ne_eqb (words 0) (magic_of Migrated) u.1))
+
+or_true : (a : Bool) → (a || true) ≡ true
+or_true true = refl
+or_true false = refl
+
+moved_kind : (set : TaskSet) (words : Words) → set.format ≡ 2 → IsMovedKind words → is_of_migration set words ≡ true
+moved_kind set words two m = ap₂ (λ (a b : Bool). a && b) (eq-eqb set.format 2 two) (⊎_elim
+    (λ e. ap (λ (b : Bool). b || (words 0 == magic_of Migrated)) (eq-eqb (words 0) (magic_of Plain) e))
+    (λ e. ap (λ (b : Bool). (words 0 == magic_of Plain) || b) (eq-eqb (words 0) (magic_of Migrated) e) ∙ or_true (words 0 == magic_of Plain))
+    m)
+
+-- ---- a device of a set of format 1
+
+pub other_own : (set : TaskSet) (words : Words) → set.format ≢ 2 → IsOwn set words
+other_own set words n = λ two. absurd (n two)
+
+-- ---- after a migration
+
+-- what a migration has left
+pub record HasLeft (set : TaskSet) (len : ℕ) (words later : Words) (log grown : List Change) : Type 0 where
+  pub ready : IsReady set len words later
+  pub written : grown ≡ log ++ opening_writes Again set words
+  pub enough : need_for Again set words len ≤ len
+
+left_same : (set : TaskSet) (len : ℕ) (words later : Words) (log grown : List Change) → IsOwn set words → need_on (device_at set words) ≤ len → need_for Again set words len ≤ len → later ≡ words → grown ≡ log → HasLeft set len words later log grown
+left_same set len words later log grown own long enough e f = record {
+  ready = record {
+    own = subst (IsOwn set) (sym e) own;
+    long = subst (λ (w : Words). need_on (device_at set w) ≤ len) (sym e) long;
+    same = inl (e, no_writes set words own);
+  };
+  written = f ∙ sym (append-nil log) ∙ ap (λ (l : List Change). log ++ l) (sym (no_writes set words own));
+  enough = enough;
+}
+
+left_moved : (set : TaskSet) (len : ℕ) (words later : Words) (log grown : List Change) → set.format ≡ 2 → need_on (device_of set 0) ≤ len → CanMove set words len → HasMoved set words log grown → HoldsOn (migrated set) (moved_held set (held_on (plain set) words)) later → HasLeft set len words later log grown
+left_moved set len words later log grown two long can moved holds =
+    let h = moved_held set (held_on (plain set) words) in
+    let named = named_magic set.format (later 0) Migrated (held_named set.format Migrated set h later holds) in
+    let room = can.old.room in
+    record {
+      ready = record {
+        own = moved_own set later named;
+        long = subst (λ (d : Device). need_on d ≤ len) (sym (moved_at set later two named)) room;
+        same = inr (record { held = can.held; fresh = can.fresh; moved = holds });
+      };
+      written = moved ∙ ap (λ (l : List Change). log ++ l) (sym (all_writes set words two can.held can.fresh));
+      enough = subst (λ (n : ℕ). n ≤ len) (sym (need_moved set words len long (moved_kind set words two (inl can.old.named)))) room;
+    }
+
+-- where there was nothing to do for the format
+pub left_other : (set : TaskSet) (len : ℕ) (words : Words) (log : List Change) → IsTaskSet set → set.format ≢ 2 → device_at set words ≡ device_of set 0 → need_on (device_of set 0) ≤ len → HasLeft set len words words log log
+left_other set len words log t n e long =
+    left_same set len words words log log (other_own set words n) (subst (λ (d : Device). need_on d ≤ len) (sym e) long) (subst (λ (m : ℕ). m ≤ len) (sym (need_first set words len (other_format set words n))) long) refl refl
+
+-- where a migration went well
+pub left : (set : TaskSet) (len : ℕ) (words later : Words) (log grown : List Change) → IsTaskSet set → set.format ≡ 2 → need_on (device_of set 0) ≤ len → (grown ≡ log → later ≡ words) → IsMigrated set words len log grown
+    → ((h : Held) → HoldsOn (plain set) h words → HoldsOn (migrated set) (moved_held set h) later) → HasLeft set len words later log grown
+left set len words later log grown t two long same m moved = ⊎_elim unmoved (⊎_elim before now) m
+  where
+    unmoved : IsUnmoved set words × (grown ≡ log) → HasLeft set len words later log grown
+    unmoved u = left_same set len words later log grown u.0.0 (subst (λ (d : Device). need_on d ≤ len) (sym (unmoved_device set words t u.0)) long)
+        (subst (λ (n : ℕ). n ≤ len) (sym (need_first set words len (unmoved_kind set words two u.0))) long) (same u.1) u.1
+
+    before : (words 0 ≡ magic_of Migrated) × (need_on (migrated set) ≤ len) × (grown ≡ log) → HasLeft set len words later log grown
+    before b = left_same set len words later log grown (moved_own set words b.0) (subst (λ (d : Device). need_on d ≤ len) (sym (moved_at set words two b.0)) b.1.0)
+        (subst (λ (n : ℕ). n ≤ len) (sym (need_moved set words len long (moved_kind set words two (inr b.0)))) b.1.0) (same b.1.1) b.1.1
+
+    now : CanMove set words len × HasMoved set words log grown → HasLeft set len words later log grown
+    now c = left_moved set len words later log grown two long c.0 c.1 (moved (held_on (plain set) words) c.0.held)
+
+-- ---- why a device is not migrated
+
+pub front_none : (writes log grown : List Change) → grown ≡ log → HasFront writes log grown
+front_none writes log grown e = (0, omega arith, e ∙ sym (append-nil log))
+
+pub front_all : (writes log grown : List Change) → grown ≡ log ++ writes → HasFront writes log grown
+front_all writes log grown e = (length writes, omega arith, e ∙ ap (λ (l : List Change). log ++ l) (sym (take-length writes)))
+
+pub front_begun : {X : Type 0} (set : TaskSet) (len : ℕ) (words : Words) (log grown : List Change) → set.format ≡ 2 → (grown ≡ log) ⊎ (X × CanMove set words len × HasBegun set words log grown) → HasFront (opening_writes Again set words) log grown
+front_begun set len words log grown two = ⊎_elim
+    (front_none (opening_writes Again set words) log grown)
+    (λ b. subst (λ (writes : List Change). HasFront writes log grown) (sym (all_writes set words two b.1.0.held b.1.0.fresh)) b.1.1)
+
+-- the same refusal
+pub record TellsMove (from : MigrateRefusal) (to : OpenRefusal) : Type 0 where
+  pub small : (need len : ℕ) → from ≡ moving.Small need len → to ≡ refusal.Small need len
+  pub damaged : (place : ℕ) → from ≡ moving.Damaged place → to ≡ refusal.Damaged place
+  pub worn : from ≡ moving.Worn → to ≡ refusal.Worn
+  pub lost : from ≡ moving.Lost → to ≡ refusal.Lost
+
+worn_at : (set : TaskSet) (words : Words) → HoldsOn (plain set) (held_on (plain set) words) words → is_worn (durable_of (held_on (plain set) words)) ≡ true → HoldsWorn set words
+worn_at set words held worn =
+    let e = held_device (plain set) (held_on (plain set) words) words held in
+    subst (λ (d : Device). HoldsOn d (held_on d words) words × (is_worn (durable_of (held_on d words)) ≡ true)) (sym e) (held, worn)
+
+pub not_moved : (set : TaskSet) (words : Words) (len old new : ℕ) (from : MigrateRefusal) (to : OpenRefusal) → set.format ≡ 2 → need_on (device_of set 0) ≤ len → TellsMove from to → IsUnmigrated set words len old new from → IsNotOpened Again set words len old new to
+not_moved set words len old new (moving.Small need most) to two long tells h =
+    let is = need_moved set words len long (moved_kind set words two h.0) in
+    subst (IsNotOpened Again set words len old new) (sym (tells.small need most refl)) (h.1.0 ∙ sym is, h.1.1.0, subst (λ (n : ℕ). len < n) (sym h.1.0) h.1.1.1)
+not_moved set words len old new (moving.Damaged place) to two long tells h = subst (IsNotOpened Again set words len old new) (sym (tells.damaged place refl)) (refl, h.1)
+not_moved set words len old new moving.Worn to two long tells h = subst (IsNotOpened Again set words len old new) (sym (tells.worn refl)) (refl, worn_at set words h.held h.worn)
+not_moved set words len old new moving.Lost to two long tells h = subst (IsNotOpened Again set words len old new) (sym (tells.lost refl)) h
+
+-- where the device is too small, this is told, or a call was lost
+pub too_small : (set : TaskSet) (words : Words) (len old new : ℕ) (from : MigrateRefusal) (to : OpenRefusal) → set.format ≡ 2 → need_on (device_of set 0) ≤ len → TellsMove from to → IsUnmigrated set words len old new from → len < need_for Again set words len
+    → (to ≡ refusal.Small (need_for Again set words len) len) ⊎ (to ≡ refusal.Lost)
+too_small set words len old new (moving.Small need most) to two long tells h l =
+    let is = need_moved set words len long (moved_kind set words two h.0) in
+    inl (tells.small need most refl ∙ ap₂ refusal.Small (h.1.0 ∙ sym is) h.1.1.0)
+too_small set words len old new (moving.Damaged place) to two long tells h l =
+    let is = need_moved set words len long (moved_kind set words two (inl h.0.named)) in
+    let room = h.0.room in
+    absurd (omega (arith, is, room, l))
+too_small set words len old new moving.Worn to two long tells h l =
+    let is = need_moved set words len long (moved_kind set words two (inl h.old.named)) in
+    let room = h.old.room in
+    absurd (omega (arith, is, room, l))
+too_small set words len old new moving.Lost to two long tells h l = inr (tells.lost refl)
+
+-- ---- the state stays the same
+
+moved_same : (set : TaskSet) (words later : Words) → IsMoved set words later → HoldsOn (device_at set later) (held_on (device_at set later) later) later → durable_of (held_on (device_at set later) later) ≡ durable_of (held_on (plain set) words)
+moved_same set words later m held =
+    let h = moved_held set (held_on (plain set) words) in
+    let d : device_at set later ≡ migrated set = held_device (migrated set) h later m.moved in
+    let holds = subst (λ (e : Device). HoldsOn e (held_on e later) later) d held in
+    let one : held_on (migrated set) later ≡ h = held_once (migrated set) (held_on (migrated set) later) h later holds m.moved in
+    ap (λ (e : Device). durable_of (held_on e later)) d ∙ ap durable_of one
+
+plain_device : (set : TaskSet) (words later : Words) → IsMoved set words later → device_at set words ≡ plain set
+plain_device set words later m = held_device (plain set) (held_on (plain set) words) words m.held
+
+pub holds_same : (set : TaskSet) (len : ℕ) (words later : Words) → IsReady set len words later → HoldsFresh set later → HoldsSame set words later
+holds_same set len words later r f = ⊎_elim stays moved r.same
+  where
+    stays : (later ≡ words) × (opening_writes Again set words ≡ []) → HoldsSame set words later
+    stays e = record { held = subst (HoldsFresh set) e.0 f; same = ap (λ (w : Words). durable_of (held_on (device_at set w) w)) e.0 }
+
+    moved : IsMoved set words later → HoldsSame set words later
+    moved m =
+        let d = plain_device set words later m in record {
+          held = record {
+            holds = subst (λ (e : Device). HoldsOn e (held_on e words) words) (sym d) m.held;
+            fresh = subst (λ (e : Device). is_worn (durable_of (held_on e words)) ≡ false) (sym d) m.fresh;
+          };
+          same = moved_same set words later m f.holds ∙ ap (λ (e : Device). durable_of (held_on e words)) (sym d);
+        }
+
+-- ---- why no boot begins after it
+
+-- a state that was moved is read, but for a call that is lost
+moved_is_lost : (set : TaskSet) (words later : Words) (old new : ℕ) (r : OpenRefusal) → IsMoved set words later → IsNotBooted set later old new r → r ≡ refusal.Lost
+moved_is_lost set words later old new (refusal.Small need len) m h = absurd h
+moved_is_lost set words later old new refusal.NoMemory m h = absurd h
+moved_is_lost set words later old new refusal.Lost m h = refl
+moved_is_lost set words later old new refusal.Blank m h = let u : Holds Migrated (moved_held set (held_on (plain set) words)) ≡ Blank = sym m.moved ∙ h in absurd (cc u)
+moved_is_lost set words later old new (refusal.Damaged place) m h = let u : Holds Migrated (moved_held set (held_on (plain set) words)) ≡ Damaged place = sym m.moved ∙ h in absurd (cc u)
+moved_is_lost set words later old new refusal.Worn m h = let u : true ≡ false = sym h.1 ∙ ap is_worn (moved_same set words later m h.0) ∙ m.fresh in absurd (cc u)
+
+same_refused : (set : TaskSet) (words : Words) (len old new : ℕ) (r : OpenRefusal) → IsNotBooted set words old new r → IsNotOpened Again set words len old new r
+same_refused set words len old new (refusal.Small need most) h = absurd h
+same_refused set words len old new refusal.NoMemory h = absurd h
+same_refused set words len old new refusal.Lost h = h
+same_refused set words len old new refusal.Blank h = (refl, h)
+same_refused set words len old new (refusal.Damaged place) h = (refl, h)
+same_refused set words len old new refusal.Worn h = (refl, h)
+
+lost_counts : (set : TaskSet) (later : Words) (old new : ℕ) (r : OpenRefusal) → r ≡ refusal.Lost → IsNotBooted set later old new r → FaultCounted old new
+lost_counts set later old new r e h = let f : IsNotBooted set later old new refusal.Lost = subst (IsNotBooted set later old new) e h in f
+
+later_refused : (set : TaskSet) (words : Words) (len old mid new : ℕ) (r : OpenRefusal) → old ≤ mid → mid ≤ new → IsNotBooted set words mid new r → IsNotBooted set words old new r
+later_refused set words len old mid new (refusal.Small need most) l g h = absurd h
+later_refused set words len old mid new refusal.NoMemory l g h = absurd h
+later_refused set words len old mid new refusal.Lost l g h = counted_later old mid new l h
+later_refused set words len old mid new refusal.Blank l g h = h
+later_refused set words len old mid new (refusal.Damaged place) l g h = h
+later_refused set words len old mid new refusal.Worn l g h = h
+
+pub not_begun : (set : TaskSet) (len : ℕ) (words later : Words) (old mid new : ℕ) (r : OpenRefusal) → IsReady set len words later → old ≤ mid → mid ≤ new → IsNotBooted set later mid new r → IsNotOpened Again set words len old new r
+not_begun set len words later old mid new r ready l g h = ⊎_elim stays moved ready.same
+  where
+    stays : (later ≡ words) × (opening_writes Again set words ≡ []) → IsNotOpened Again set words len old new r
+    stays e = same_refused set words len old new r (later_refused set words len old mid new r l g (subst (λ (w : Words). IsNotBooted set w mid new r) e.0 h))
+
+    moved : IsMoved set words later → IsNotOpened Again set words len old new r
+    moved m =
+        let e = moved_is_lost set words later mid new r m h in
+        subst (IsNotOpened Again set words len old new) (sym e) (counted_later old mid new l (lost_counts set later mid new r e h))
+
+-- so nothing was written before another refusal
+pub not_written : (set : TaskSet) (len : ℕ) (words later : Words) (log mid : List Change) (old new : ℕ) (r : OpenRefusal) → IsReady set len words later → mid ≡ log ++ opening_writes Again set words → IsNotBooted set later old new r → r ≢ refusal.Lost → mid ≡ log
+not_written set len words later log mid old new r ready e h n = ⊎_elim
+    (λ s. e ∙ ap (λ (l : List Change). log ++ l) s.1 ∙ append-nil log)
+    (λ m. absurd (n (moved_is_lost set words later old new r m h)))
+    ready.same
