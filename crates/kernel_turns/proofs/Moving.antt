@@ -131,8 +131,8 @@ left set len words later log grown t two long same m moved = ⊎_elim unmoved (�
         (subst (λ (n : ℕ). n ≤ len) (sym (need_first set words len (unmoved_kind set words two u.0))) long) (same u.1) u.1
 
     before : (words 0 ≡ magic_of Migrated) × (need_on (migrated set) ≤ len) × (grown ≡ log) → HasLeft set len words later log grown
-    before b = left_same set len words later log grown (moved_own set words b.0) (subst (λ (d : Device). need_on d ≤ len) (sym (moved_at set words two b.0)) b.1.0)
-        (subst (λ (n : ℕ). n ≤ len) (sym (need_moved set words len long (moved_kind set words two (inr b.0)))) b.1.0) (same b.1.1) b.1.1
+    before b = left_same set len words later log grown (moved_own set words b.0) (subst (λ (d : Device). need_on d ≤ len) (sym (moved_at set words two b.0)) b.1)
+        (subst (λ (n : ℕ). n ≤ len) (sym (need_moved set words len long (moved_kind set words two (inr b.0)))) b.1) (same b.2) b.2
 
     now : CanMove set words len × HasMoved set words log grown → HasLeft set len words later log grown
     now c = left_moved set len words later log grown two long c.0 c.1 (moved (held_on (plain set) words) c.0.held)
@@ -148,7 +148,7 @@ front_all writes log grown e = (length writes, omega arith, e ∙ ap (λ (l : Li
 pub front_begun : {X : Type 0} (set : TaskSet) (len : ℕ) (words : Words) (log grown : List Change) → set.format ≡ 2 → (grown ≡ log) ⊎ (X × CanMove set words len × HasBegun set words log grown) → HasFront (opening_writes Again set words) log grown
 front_begun set len words log grown two = ⊎_elim
     (front_none (opening_writes Again set words) log grown)
-    (λ b. subst (λ (writes : List Change). HasFront writes log grown) (sym (all_writes set words two b.1.0.held b.1.0.fresh)) b.1.1)
+    (λ b. subst (λ (writes : List Change). HasFront writes log grown) (sym (all_writes set words two b.1.held b.1.fresh)) b.2)
 
 -- the same refusal
 pub record TellsMove (from : MigrateRefusal) (to : OpenRefusal) : Type 0 where
@@ -165,7 +165,7 @@ worn_at set words held worn =
 pub not_moved : (set : TaskSet) (words : Words) (len old new : ℕ) (from : MigrateRefusal) (to : OpenRefusal) → set.format ≡ 2 → need_on (device_of set 0) ≤ len → TellsMove from to → IsUnmigrated set words len old new from → IsNotOpened Again set words len old new to
 not_moved set words len old new (moving.Small need most) to two long tells h =
     let is = need_moved set words len long (moved_kind set words two h.0) in
-    subst (IsNotOpened Again set words len old new) (sym (tells.small need most refl)) (h.1.0 ∙ sym is, h.1.1.0, subst (λ (n : ℕ). len < n) (sym h.1.0) h.1.1.1)
+    subst (IsNotOpened Again set words len old new) (sym (tells.small need most refl)) (h.1 ∙ sym is, h.2, subst (λ (n : ℕ). len < n) (sym h.1) h.3)
 not_moved set words len old new (moving.Damaged place) to two long tells h = subst (IsNotOpened Again set words len old new) (sym (tells.damaged place refl)) (refl, h.1)
 not_moved set words len old new moving.Worn to two long tells h = subst (IsNotOpened Again set words len old new) (sym (tells.worn refl)) (refl, worn_at set words h.held h.worn)
 not_moved set words len old new moving.Lost to two long tells h = subst (IsNotOpened Again set words len old new) (sym (tells.lost refl)) h
@@ -175,7 +175,7 @@ pub too_small : (set : TaskSet) (words : Words) (len old new : ℕ) (from : Migr
     → (to ≡ refusal.Small (need_for Again set words len) len) ⊎ (to ≡ refusal.Lost)
 too_small set words len old new (moving.Small need most) to two long tells h l =
     let is = need_moved set words len long (moved_kind set words two h.0) in
-    inl (tells.small need most refl ∙ ap₂ refusal.Small (h.1.0 ∙ sym is) h.1.1.0)
+    inl (tells.small need most refl ∙ ap₂ refusal.Small (h.1 ∙ sym is) h.2)
 too_small set words len old new (moving.Damaged place) to two long tells h l =
     let is = need_moved set words len long (moved_kind set words two (inl h.0.named)) in
     let room = h.0.room in
