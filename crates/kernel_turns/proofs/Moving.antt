@@ -77,11 +77,6 @@ moved_kind set words two m = ap₂ (λ (a b : Bool). a && b) (eq-eqb set.format 
     (λ e. ap (λ (b : Bool). (words 0 == magic_of Plain) || b) (eq-eqb (words 0) (magic_of Migrated) e) ∙ or_true (words 0 == magic_of Plain))
     m)
 
--- ---- a device of a set of format 1
-
-pub other_own : (set : TaskSet) (words : Words) → set.format ≢ 2 → IsOwn set words
-other_own set words n = λ two. absurd (n two)
-
 -- ---- after a migration
 
 -- what a migration has left
@@ -116,11 +111,6 @@ left_moved set len words later log grown two long can moved holds =
       enough = subst (λ (n : ℕ). n ≤ len) (sym (need_moved set words len long (moved_kind set words two (inl can.old.named)))) room;
     }
 
--- where there was nothing to do for the format
-pub left_other : (set : TaskSet) (len : ℕ) (words : Words) (log : List Change) → IsTaskSet set → set.format ≢ 2 → device_at set words ≡ device_of set 0 → need_on (device_of set 0) ≤ len → HasLeft set len words words log log
-left_other set len words log t n e long =
-    left_same set len words words log log (other_own set words n) (subst (λ (d : Device). need_on d ≤ len) (sym e) long) (subst (λ (m : ℕ). m ≤ len) (sym (need_first set words len (other_format set words n))) long) refl refl
-
 -- where a migration went well
 pub left : (set : TaskSet) (len : ℕ) (words later : Words) (log grown : List Change) → IsTaskSet set → set.format ≡ 2 → need_on (device_of set 0) ≤ len → (grown ≡ log → later ≡ words) → IsMigrated set words len log grown
     → ((h : Held) → HoldsOn (plain set) h words → HoldsOn (migrated set) (moved_held set h) later) → HasLeft set len words later log grown
@@ -149,42 +139,6 @@ pub front_begun : {X : Type 0} (set : TaskSet) (len : ℕ) (words : Words) (log 
 front_begun set len words log grown two = ⊎_elim
     (front_none (opening_writes Again set words) log grown)
     (λ b. subst (λ (writes : List Change). HasFront writes log grown) (sym (all_writes set words two b.1.held b.1.fresh)) b.2)
-
--- the same refusal
-pub record TellsMove (from : MigrateRefusal) (to : OpenRefusal) : Type 0 where
-  pub small : (need len : ℕ) → from ≡ moving.Small need len → to ≡ refusal.Small need len
-  pub damaged : (place : ℕ) → from ≡ moving.Damaged place → to ≡ refusal.Damaged place
-  pub worn : from ≡ moving.Worn → to ≡ refusal.Worn
-  pub lost : from ≡ moving.Lost → to ≡ refusal.Lost
-
-worn_at : (set : TaskSet) (words : Words) → HoldsOn (plain set) (held_on (plain set) words) words → is_worn (durable_of (held_on (plain set) words)) ≡ true → HoldsWorn set words
-worn_at set words held worn =
-    let e = held_device (plain set) (held_on (plain set) words) words held in
-    subst (λ (d : Device). HoldsOn d (held_on d words) words × (is_worn (durable_of (held_on d words)) ≡ true)) (sym e) (held, worn)
-
-pub not_moved : (set : TaskSet) (words : Words) (len old new : ℕ) (from : MigrateRefusal) (to : OpenRefusal) → set.format ≡ 2 → need_on (device_of set 0) ≤ len → TellsMove from to → IsUnmigrated set words len old new from → IsNotOpened Again set words len old new to
-not_moved set words len old new (moving.Small need most) to two long tells h =
-    let is = need_moved set words len long (moved_kind set words two h.0) in
-    subst (IsNotOpened Again set words len old new) (sym (tells.small need most refl)) (h.1 ∙ sym is, h.2, subst (λ (n : ℕ). len < n) (sym h.1) h.3)
-not_moved set words len old new (moving.Damaged place) to two long tells h = subst (IsNotOpened Again set words len old new) (sym (tells.damaged place refl)) (refl, h.1)
-not_moved set words len old new moving.Worn to two long tells h = subst (IsNotOpened Again set words len old new) (sym (tells.worn refl)) (refl, worn_at set words h.held h.worn)
-not_moved set words len old new moving.Lost to two long tells h = subst (IsNotOpened Again set words len old new) (sym (tells.lost refl)) h
-
--- where the device is too small, this is told, or a call was lost
-pub too_small : (set : TaskSet) (words : Words) (len old new : ℕ) (from : MigrateRefusal) (to : OpenRefusal) → set.format ≡ 2 → need_on (device_of set 0) ≤ len → TellsMove from to → IsUnmigrated set words len old new from → len < need_for Again set words len
-    → (to ≡ refusal.Small (need_for Again set words len) len) ⊎ (to ≡ refusal.Lost)
-too_small set words len old new (moving.Small need most) to two long tells h l =
-    let is = need_moved set words len long (moved_kind set words two h.0) in
-    inl (tells.small need most refl ∙ ap₂ refusal.Small (h.1 ∙ sym is) h.2)
-too_small set words len old new (moving.Damaged place) to two long tells h l =
-    let is = need_moved set words len long (moved_kind set words two (inl h.0.named)) in
-    let room = h.0.room in
-    absurd (omega (arith, is, room, l))
-too_small set words len old new moving.Worn to two long tells h l =
-    let is = need_moved set words len long (moved_kind set words two (inl h.old.named)) in
-    let room = h.old.room in
-    absurd (omega (arith, is, room, l))
-too_small set words len old new moving.Lost to two long tells h l = inr (tells.lost refl)
 
 -- ---- the state stays the same
 
@@ -255,10 +209,3 @@ not_begun set len words later old mid new r ready l g h = ⊎_elim stays moved r
     moved m =
         let e = moved_is_lost set words later mid new r m h in
         subst (IsNotOpened Again set words len old new) (sym e) (counted_later old mid new l (lost_counts set later mid new r e h))
-
--- so nothing was written before another refusal
-pub not_written : (set : TaskSet) (len : ℕ) (words later : Words) (log mid : List Change) (old new : ℕ) (r : OpenRefusal) → IsReady set len words later → mid ≡ log ++ opening_writes Again set words → IsNotBooted set later old new r → r ≢ refusal.Lost → mid ≡ log
-not_written set len words later log mid old new r ready e h n = ⊎_elim
-    (λ s. e ∙ ap (λ (l : List Change). log ++ l) s.1 ∙ append-nil log)
-    (λ m. absurd (n (moved_is_lost set words later old new r m h)))
-    ready.same

@@ -2,7 +2,7 @@ use Rattle.std.proofs.Common.{◌≤◌, ℕ, List, length, sym, ap, ◌∙◌, 
 use Rattle.set_model.proofs.ForCallers.{few_records}
 use Rattle.device_model.specs.IndexWords.{Index}
 use Rattle.device_model.specs.Layouts.{IsKindOf}
-use Rattle.device_model.specs.Devices.{Device, HoldsOn, first_on, need_on}
+use Rattle.device_model.specs.Devices.{Device, HoldsOn, first_on, format_on, need_on}
 use Rattle.fram_dev.specs.Device.{Change}
 use Rattle.shadow_index.specs.Tells.{IsLayoutOf, IsShift, device_of}
 use Rattle.shadow_index.specs.declared.state.State.{State}
@@ -11,6 +11,7 @@ use Rattle.table_machine.specs.Events.{reopened}
 use Rattle.committed_state.specs.Committed.{HasRooms}
 use Rattle.kernel_turns.specs.Opening.{IsOpenedOn}
 use Rattle.kernel_turns.specs.declared.kernel.Kernel.{Kernel}
+use Rattle.kernel_turns.proofs.Moving.{front_all}
 use Rattle.kernel_turns.proofs.Opened.{HasBegun, begun, counted_later, first_kind_of, formatted, lost_read, own_of, read_first, read_index_fits}
 use Rattle.kernel_turns.proofs.kernel.Kernel.begin_fresh.Goals as goal
 
@@ -85,3 +86,6 @@ returns-clause-opened g c =
     let opened = begun new words h c.opened_tables_represent.ensures (c.device_is_setting.ensures.setting _ (device_at set words).kind set room.limits) (c.tasks_are_a_machine.ensures set) b in
     subst (λ (xs : List ℕ). IsOpenedOn new (words_of (g.F.Fram.log c.read_state.new.dev) xs) h) (sym c.read_state.ensures.start)
     (subst (λ (l : List Change). IsOpenedOn new (words_of l (g.F.Fram.start c.format.new.dev)) h) (sym c.read_state.ensures.log) opened)
+
+pub returns-in_default-read_state-clause-cut : goal.returns-in_default-read_state-clause-cut
+returns-in_default-read_state-clause-cut g c = front_all (format_on (device_of c.args.self.now.set 0)) (g.F.Fram.log c.args.dev.now) (g.F.Fram.log c.read_state.new.dev) (c.read_state.ensures.log ∙ c.in-Ok.ensures.whole)
