@@ -1,7 +1,6 @@
 -- A kernel that goes on from what a device holds, once a state of format 1 was moved.
-use Rattle.std.proofs.Common.{◌≡◌, ◌≢◌, ◌⊎◌, inl, inr, ⊎_elim, ℕ, ◌+◌, ◌<◌, ◌≤◌, ◌&&◌, ◌||◌, ◌++◌, ◌==◌, nat_le, Bool, true, false, cond, not, List, [], length, take, Result, Ok, Err, refl, sym, ap, ap₂, ◌∙◌, subst, arith}
-use Rattle.std.specs.Result.{OnErr, OnOk}
-use Rattle.std.proofs.lemmas.Bool.{cases_eq, eq-eqb, le-leb, ne_eqb}
+use Rattle.std.proofs.Common.{◌≡◌, ◌⊎◌, inl, inr, ⊎_elim, ℕ, ◌≤◌, ◌&&◌, ◌++◌, Bool, true, false, cond, not, List, [], length, refl, sym, ap, ap₂, ◌∙◌, subst, arith}
+use Rattle.std.proofs.lemmas.Bool.{cases_eq, eq-eqb, ne_eqb}
 use Rattle.std.proofs.lemmas.List.{append-nil}
 use Rattle.std.proofs.Math.Seq.{take-length}
 use Rattle.nv_base.specs.Streams.{FaultCounted}
@@ -15,14 +14,12 @@ use Rattle.device_model.specs.Devices.{Device, HoldsOn, held_on, migrated, need_
 use Rattle.device_format.specs.Puts.{HasFront}
 use Rattle.shadow_index.specs.Tells.{device_of}
 use Rattle.recovery.specs.Images.{IsOwn, IsUnmoved, device_at}
-use Rattle.recovery.specs.Migrating.{CanMove, HasBegun, HasMoved, IsMigrated, IsMovedKind, IsUnmigrated}
-use Rattle.recovery.specs.declared.refusals.MigrateRefusal.{MigrateRefusal}
-use Rattle.recovery.specs.declared.refusals.MigrateRefusal.TheVariants as moving
+use Rattle.recovery.specs.Migrating.{CanMove, HasBegun, HasMoved, IsMigrated}
 use Rattle.recovery.proofs.KindLaws.{named_magic}
-use Rattle.recovery.proofs.MovedState.{moved_at, moved_own, plain_at, plain_named}
+use Rattle.recovery.proofs.MovedState.{moved_at, moved_own, plain_named}
 use Rattle.recovery.proofs.ObjectRead.{held_once}
 use Rattle.recovery.proofs.ShiftLaws.{held_device, held_named, unmoved_device}
-use Rattle.kernel_turns.specs.Opening.{HoldsFresh, HoldsSame, HoldsWorn, IsMoved, IsNotBooted, IsNotOpened, IsReady, is_of_migration, migration_of, need_for, opening_writes}
+use Rattle.kernel_turns.specs.Opening.{HoldsFresh, HoldsSame, IsMoved, IsNotBooted, IsNotOpened, IsReady, migration_of, opening_writes}
 use Rattle.kernel_turns.specs.declared.open.How.TheVariants.{Again}
 use Rattle.kernel_turns.specs.declared.open.OpenRefusal.{OpenRefusal}
 use Rattle.kernel_turns.specs.declared.open.OpenRefusal.TheVariants as refusal
@@ -49,85 +46,38 @@ all_writes : (set : TaskSet) (words : Words) → set.format ≡ 2 → HoldsOn (p
     → opening_writes Again set words ≡ migration_writes set (held_on (plain set) words)
 all_writes set words two held fresh = ap (migration_of set) held ∙ ap₂ (λ (a b : Bool). cond (a && not b) (migration_writes set (held_on (plain set) words)) []) (eq-eqb set.format 2 two) fresh
 
--- ---- how many words are asked for
-
-first_kept : (a m : Bool) (x y : ℕ) → m ≡ false → cond (a && m) x y ≡ y
-first_kept true m x y e = ap (λ (b : Bool). cond b x y) e
-first_kept false m x y e = refl
-
-need_first : (set : TaskSet) (words : Words) (len : ℕ) → is_of_migration set words ≡ false → need_for Again set words len ≡ need_on (device_of set 0)
-need_first set words len e = first_kept (nat_le (need_on (device_of set 0)) len) (is_of_migration set words) (need_on (migrated set)) (need_on (device_of set 0)) e
-
-need_moved : (set : TaskSet) (words : Words) (len : ℕ) → need_on (device_of set 0) ≤ len → is_of_migration set words ≡ true → need_for Again set words len ≡ need_on (migrated set)
-need_moved set words len l e = ap₂ (λ (a b : Bool). cond (a && b) (need_on (migrated set)) (need_on (device_of set 0))) (le-leb (need_on (device_of set 0)) len l) e
-
-other_format : (set : TaskSet) (words : Words) → set.format ≢ 2 → is_of_migration set words ≡ false
-other_format set words n = ap (λ (b : Bool). b && ((words 0 == magic_of Plain) || (words 0 == magic_of Migrated))) (ne_eqb set.format 2 n)
-
-unmoved_kind : (set : TaskSet) (words : Words) → set.format ≡ 2 → IsUnmoved set words → is_of_migration set words ≡ false
-unmoved_kind set words two u = ap₂ (λ (a b : Bool). a && b) (eq-eqb set.format 2 two) (ap₂ (λ (a b : Bool). a || b) (ne_eqb (words 0) (magic_of Plain) (u.0 two)) (ne_eqb (words 0) (magic_of Migrated) u.1))
-
-or_true : (a : Bool) → (a || true) ≡ true
-or_true true = refl
-or_true false = refl
-
-moved_kind : (set : TaskSet) (words : Words) → set.format ≡ 2 → IsMovedKind words → is_of_migration set words ≡ true
-moved_kind set words two m = ap₂ (λ (a b : Bool). a && b) (eq-eqb set.format 2 two) (⊎_elim
-    (λ e. ap (λ (b : Bool). b || (words 0 == magic_of Migrated)) (eq-eqb (words 0) (magic_of Plain) e))
-    (λ e. ap (λ (b : Bool). (words 0 == magic_of Plain) || b) (eq-eqb (words 0) (magic_of Migrated) e) ∙ or_true (words 0 == magic_of Plain))
-    m)
-
 -- ---- after a migration
 
--- what a migration has left
-pub record HasLeft (set : TaskSet) (len : ℕ) (words later : Words) (log grown : List Change) : Type 0 where
-  pub ready : IsReady set len words later
-  pub written : grown ≡ log ++ opening_writes Again set words
-  pub enough : need_for Again set words len ≤ len
-
-left_same : (set : TaskSet) (len : ℕ) (words later : Words) (log grown : List Change) → IsOwn set words → need_on (device_at set words) ≤ len → need_for Again set words len ≤ len → later ≡ words → grown ≡ log → HasLeft set len words later log grown
-left_same set len words later log grown own long enough e f = record {
-  ready = record {
-    own = subst (IsOwn set) (sym e) own;
-    long = subst (λ (w : Words). need_on (device_at set w) ≤ len) (sym e) long;
-    same = inl (e, no_writes set words own);
-  };
-  written = f ∙ sym (append-nil log) ∙ ap (λ (l : List Change). log ++ l) (sym (no_writes set words own));
-  enough = enough;
+left_same : (set : TaskSet) (len : ℕ) (words later : Words) → IsOwn set words → need_on (device_at set words) ≤ len → later ≡ words → IsReady set len words later
+left_same set len words later own long e = record {
+  own = subst (IsOwn set) (sym e) own;
+  long = subst (λ (w : Words). need_on (device_at set w) ≤ len) (sym e) long;
+  same = inl (e, no_writes set words own);
 }
 
-left_moved : (set : TaskSet) (len : ℕ) (words later : Words) (log grown : List Change) → set.format ≡ 2 → need_on (device_of set 0) ≤ len → CanMove set words len → HasMoved set words log grown → HoldsOn (migrated set) (moved_held set (held_on (plain set) words)) later → HasLeft set len words later log grown
-left_moved set len words later log grown two long can moved holds =
-    let h = moved_held set (held_on (plain set) words) in
-    let named = named_magic set.format (later 0) Migrated (held_named set.format Migrated set h later holds) in
-    let room = can.old.room in
-    record {
-      ready = record {
-        own = moved_own set later named;
-        long = subst (λ (d : Device). need_on d ≤ len) (sym (moved_at set later two named)) room;
-        same = inr (record { held = can.held; fresh = can.fresh; moved = holds });
-      };
-      written = moved ∙ ap (λ (l : List Change). log ++ l) (sym (all_writes set words two can.held can.fresh));
-      enough = subst (λ (n : ℕ). n ≤ len) (sym (need_moved set words len long (moved_kind set words two (inl can.old.named)))) room;
+left_moved : (set : TaskSet) (len : ℕ) (words later : Words) → set.format ≡ 2 → CanMove set words len → HoldsOn (migrated set) (moved_held set (held_on (plain set) words)) later → IsReady set len words later
+left_moved set len words later two can holds =
+    let named = named_magic set.format (later 0) Migrated (held_named set.format Migrated set (moved_held set (held_on (plain set) words)) later holds) in record {
+      own = moved_own set later named;
+      long = subst (λ (d : Device). need_on d ≤ len) (sym (moved_at set later two named)) can.old.room;
+      same = inr (record { held = can.held; fresh = can.fresh; moved = holds });
     }
 
--- where a migration went well
+-- a boot may begin where a migration went well
 pub left : (set : TaskSet) (len : ℕ) (words later : Words) (log grown : List Change) → IsTaskSet set → set.format ≡ 2 → need_on (device_of set 0) ≤ len → (grown ≡ log → later ≡ words) → IsMigrated set words len log grown
-    → ((h : Held) → HoldsOn (plain set) h words → HoldsOn (migrated set) (moved_held set h) later) → HasLeft set len words later log grown
+    → ((h : Held) → HoldsOn (plain set) h words → HoldsOn (migrated set) (moved_held set h) later) → IsReady set len words later
 left set len words later log grown t two long same m moved = ⊎_elim unmoved (⊎_elim before now) m
   where
-    unmoved : IsUnmoved set words × (grown ≡ log) → HasLeft set len words later log grown
-    unmoved u = left_same set len words later log grown u.0.0 (subst (λ (d : Device). need_on d ≤ len) (sym (unmoved_device set words t u.0)) long)
-        (subst (λ (n : ℕ). n ≤ len) (sym (need_first set words len (unmoved_kind set words two u.0))) long) (same u.1) u.1
+    unmoved : IsUnmoved set words × (grown ≡ log) → IsReady set len words later
+    unmoved u = left_same set len words later u.0.0 (subst (λ (d : Device). need_on d ≤ len) (sym (unmoved_device set words t u.0)) long) (same u.1)
 
-    before : (words 0 ≡ magic_of Migrated) × (need_on (migrated set) ≤ len) × (grown ≡ log) → HasLeft set len words later log grown
-    before b = left_same set len words later log grown (moved_own set words b.0) (subst (λ (d : Device). need_on d ≤ len) (sym (moved_at set words two b.0)) b.1)
-        (subst (λ (n : ℕ). n ≤ len) (sym (need_moved set words len long (moved_kind set words two (inr b.0)))) b.1) (same b.2) b.2
+    before : (words 0 ≡ magic_of Migrated) × (need_on (migrated set) ≤ len) × (grown ≡ log) → IsReady set len words later
+    before b = left_same set len words later (moved_own set words b.0) (subst (λ (d : Device). need_on d ≤ len) (sym (moved_at set words two b.0)) b.1) (same b.2)
 
-    now : CanMove set words len × HasMoved set words log grown → HasLeft set len words later log grown
-    now c = left_moved set len words later log grown two long c.0 c.1 (moved (held_on (plain set) words) c.0.held)
+    now : CanMove set words len × HasMoved set words log grown → IsReady set len words later
+    now c = left_moved set len words later two c.0 (moved (held_on (plain set) words) c.0.held)
 
--- ---- why a device is not migrated
+-- ---- the first writes of a list
 
 pub front_none : (writes log grown : List Change) → grown ≡ log → HasFront writes log grown
 front_none writes log grown e = (0, omega arith, e ∙ sym (append-nil log))

@@ -1,10 +1,8 @@
-use Rattle.std.proofs.Common.{◌≡◌, ◌≤◌, ◌++◌, length, ap, ap₂, sym, ◌∙◌, subst}
+use Rattle.std.proofs.Common.{◌≡◌, length, ap₂, sym, ◌∙◌, subst}
 use Rattle.std.proofs.lemmas.Result.{IfErr-weaker, on_ok_weaker}
-use Rattle.device_model.specs.Words.{Words}
 use Rattle.recovery.specs.Images.{words_of}
 use Rattle.kernel_turns.specs.Opening.{HoldsFresh, HoldsSame, IsBootOn, IsNotBooted, IsNotOpened, opening_writes}
 use Rattle.kernel_turns.specs.declared.open.How.TheVariants.{Again}
-use Rattle.kernel_turns.specs.declared.kernel.Kernel.{Kernel}
 use Rattle.kernel_turns.proofs.Stepping.{on_err_here}
 use Rattle.kernel_turns.proofs.Moving.{front_all, holds_same, not_begun}
 use Rattle.kernel_turns.proofs.kernel.Kernel.go_on.Goals as goal
@@ -23,7 +21,7 @@ returns-clause-begins g c =
     let same : last ≡ later = ap₂ words_of c.begin_again.ensures.log c.begin_again.ensures.start in
     let k = c.begin_again.new.self in
     let is : k.set ≡ set = c.begin_again.ensures.rest.set ∙ c.move_first.ensures.rest.set in
-    on_ok_weaker c.begin_again.result (λ boot. (
+    on_ok_weaker {Q = IsBootOn k last × HoldsSame set words last} c.begin_again.result (λ boot. (
       boot,
       subst (HoldsSame set words) (sym same) (holds_same set _ words later c.in_default.ensures.ready (subst (λ w. HoldsFresh set w) same (subst (λ s. HoldsFresh s last) is boot.held))),
     )) c.begin_again.ensures.booting

@@ -1,5 +1,4 @@
 use Rattle.std.proofs.Common.{◌≡◌, ap₂, arith}
-use Rattle.device_model.specs.Words.{Words}
 use Rattle.recovery.specs.Images.{words_of}
 use Rattle.kernel_turns.proofs.Moving.{front_begun, left}
 use Rattle.kernel_turns.proofs.kernel.Kernel.move_first.Goals as goal
@@ -12,7 +11,7 @@ returns-in-Ok-clause-ready g c =
     let words = words_of log (g.F.Fram.start c.args.dev.now) in
     let later = words_of grown (g.F.Fram.start c.migrate.new.dev) in
     let two : set.format ≡ 2 = omega (arith, c.format.ensures.exact, c.format.ensures.limits.format, c.if-format-eq1.false) in
-    (left set _ words later log grown c.format.ensures.limits two c.requires.long (λ e. ap₂ words_of e c.migrate.ensures.start) c.in-Ok.ensures.migrated c.in-Ok.ensures.moved).ready
+    left set _ words later log grown c.format.ensures.limits two c.requires.long (λ e. ap₂ words_of e c.migrate.ensures.start) c.in-Ok.ensures.migrated c.in-Ok.ensures.moved
 
 pub returns-in-Err-clause-cut : goal.returns-in-Err-clause-cut
 returns-in-Err-clause-cut g c =
