@@ -10,20 +10,21 @@ use Rattle.device_model.specs.Words.{Change, Words}
 use Rattle.device_model.specs.Layouts.{Plain, Paged, Migrated, magic_of}
 use Rattle.device_model.specs.Decoding.{Held, Stored, Blank, Damaged, Holds, decode, durable_of, is_worn}
 use Rattle.device_model.specs.Migrations.{migration_writes, moved_held}
-use Rattle.device_model.specs.Devices.{Device, HoldsOn, held_on, migrated, need_on, plain}
+use Rattle.device_model.specs.Devices.{Device, HoldsOn, IsKindOn, first_on, format_on, held_on, migrated, need_on, plain}
 use Rattle.device_format.specs.Puts.{HasFront}
 use Rattle.shadow_index.specs.Tells.{device_of}
-use Rattle.recovery.specs.Images.{IsOwn, IsUnmoved, device_at}
+use Rattle.recovery.specs.Images.{IsOwn, IsUnmoved, device_at, words_of}
 use Rattle.recovery.specs.Migrating.{CanMove, HasBegun, HasMoved, IsMigrated}
 use Rattle.recovery.proofs.KindLaws.{named_magic}
 use Rattle.recovery.proofs.MovedState.{moved_at, moved_own, plain_named}
 use Rattle.recovery.proofs.ObjectRead.{held_once}
 use Rattle.recovery.proofs.ShiftLaws.{held_device, held_named, unmoved_device}
-use Rattle.kernel_turns.specs.Opening.{HoldsFresh, HoldsSame, IsMoved, IsNotBooted, IsNotOpened, IsReady, migration_of, opening_writes}
-use Rattle.kernel_turns.specs.declared.open.How.TheVariants.{Again}
+use Rattle.kernel_turns.specs.Opening.{IsMoved, IsNotBooted, IsLeft, IsNotOpened, IsReady, durable_stored, migration_of, opening_writes}
+use Rattle.kernel_turns.specs.declared.open.How.{How}
+use Rattle.kernel_turns.specs.declared.open.How.TheVariants.{Fresh, Again}
 use Rattle.kernel_turns.specs.declared.open.OpenRefusal.{OpenRefusal}
 use Rattle.kernel_turns.specs.declared.open.OpenRefusal.TheVariants as refusal
-use Rattle.kernel_turns.proofs.Opened.{counted_later}
+use Rattle.kernel_turns.proofs.Opened.{counted_later, first_kind_of}
 
 -- ---- which writes a migration makes
 
@@ -90,6 +91,15 @@ front_begun set len words log grown two = ⊎_elim
     (front_none (opening_writes Again set words) log grown)
     (λ b. subst (λ (writes : List Change). HasFront writes log grown) (sym (all_writes set words two b.1.held b.1.fresh)) b.2)
 
+-- ---- what a format leaves, whole or cut
+
+abbrev CutLaw : Type 0
+CutLaw = (d : Device) (start : List ℕ) (old new : List Change) → IsTaskSet d.set → IsKindOn d → need_on d ≤ length start → HasFront (format_on d) old new
+    → (words_of new start ≡ words_of old start) ⊎ (decode d.set (words_of new start) ≡ Blank) ⊎ HoldsOn d (first_on d) (words_of new start)
+
+pub format_left : (set : TaskSet) (start same : List ℕ) (old new : List Change) → CutLaw → IsTaskSet set → need_on (device_of set 0) ≤ length start → same ≡ start → HasFront (format_on (device_of set 0)) old new → IsLeft Fresh set (words_of old start) (words_of new same)
+format_left set start same old new law t long e front = subst (λ (xs : List ℕ). IsLeft Fresh set (words_of old start) (words_of new xs)) (sym e) (law (device_of set 0) start old new t (first_kind_of set.format t.format) long front)
+
 -- ---- the state stays the same
 
 moved_same : (set : TaskSet) (words later : Words) → IsMoved set words later → HoldsOn (device_at set later) (held_on (device_at set later) later) later → durable_of (held_on (device_at set later) later) ≡ durable_of (held_on (plain set) words)
@@ -100,24 +110,25 @@ moved_same set words later m held =
     let one : held_on (migrated set) later ≡ h = held_once (migrated set) (held_on (migrated set) later) h later holds m.moved in
     ap (λ (e : Device). durable_of (held_on e later)) d ∙ ap durable_of one
 
-plain_device : (set : TaskSet) (words later : Words) → IsMoved set words later → device_at set words ≡ plain set
-plain_device set words later m = held_device (plain set) (held_on (plain set) words) words m.held
+pub ready_holds : (set : TaskSet) (len : ℕ) (words later : Words) → IsReady set len words later → IsLeft Again set words later
+ready_holds set len words later r = ⊎_elim
+    (λ e. ap (λ (w : Words). durable_stored (decode set w)) e.0)
+    (λ m. ap durable_stored m.moved ∙ sym (ap durable_stored m.held))
+    r.same
 
-pub holds_same : (set : TaskSet) (len : ℕ) (words later : Words) → IsReady set len words later → HoldsFresh set later → HoldsSame set words later
-holds_same set len words later r f = ⊎_elim stays moved r.same
-  where
-    stays : (later ≡ words) × (opening_writes Again set words ≡ []) → HoldsSame set words later
-    stays e = record { held = subst (HoldsFresh set) e.0 f; same = ap (λ (w : Words). durable_of (held_on (device_at set w) w)) e.0 }
+-- also where a migration was cut
+pub cut_holds : {X : Type 0} (set : TaskSet) (len : ℕ) (words later : Words) (log grown : List Change) → (grown ≡ log → later ≡ words) → (grown ≡ log) ⊎ (X × CanMove set words len × HasBegun set words log grown)
+    → ((h : Held) → HoldsOn (plain set) h words → HoldsOn (plain set) h later ⊎ HoldsOn (migrated set) (moved_held set h) later) → IsLeft Again set words later
+cut_holds set len words later log grown same unwritten cut = ⊎_elim
+    (λ e. ap (λ (w : Words). durable_stored (decode set w)) (same e))
+    (λ b. ⊎_elim
+    (λ old. ap durable_stored old ∙ sym (ap durable_stored b.1.held))
+    (λ new. ap durable_stored new ∙ sym (ap durable_stored b.1.held))
+    (cut (held_on (plain set) words) b.1.held))
+    unwritten
 
-    moved : IsMoved set words later → HoldsSame set words later
-    moved m =
-        let d = plain_device set words later m in record {
-          held = record {
-            holds = subst (λ (e : Device). HoldsOn e (held_on e words) words) (sym d) m.held;
-            fresh = subst (λ (e : Device). is_worn (durable_of (held_on e words)) ≡ false) (sym d) m.fresh;
-          };
-          same = moved_same set words later m f.holds ∙ ap (λ (e : Device). durable_of (held_on e words)) (sym d);
-        }
+pub left_later : (how : How) (set : TaskSet) (words later last : Words) → last ≡ later → IsLeft how set words later → IsLeft how set words last
+left_later how set words later last e h = subst (IsLeft how set words) (sym e) h
 
 -- ---- why no boot begins after it
 

@@ -1,8 +1,9 @@
 -- What a kernel has before it begins on a device, how it begins there, and why it does not. This project's own.
-use Rattle.std.specs.Prelude.{◌≡◌, ◌⊎◌, ℕ, ◌<◌, ◌≤◌, ◌==◌, nat_le, Bool, not, ◌&&◌, ◌||◌, List, [], ◌++◌, length, vec_capacity, true, false, None, if◌then◌else◌}
+use Rattle.std.specs.Prelude.{◌≡◌, ◌⊎◌, ℕ, ◌<◌, ◌≤◌, ◌==◌, nat_le, Bool, not, ◌&&◌, ◌||◌, List, [], ◌++◌, length, vec_capacity, true, false, Option, Some, None, if◌then◌else◌}
 use Rattle.std.specs.List.{AllByRecursion}
 use Rattle.rv_core.specs.State.{MachineState}
 use Rattle.nv_base.specs.Streams.{FaultCounted}
+use Rattle.kernel_model.specs.Durable.{Durable}
 use Rattle.kernel_model.specs.Events.{On, Boot}
 use Rattle.set_model.specs.Sets.{TaskSet}
 use Rattle.set_model.specs.Limits.{IsTaskSet}
@@ -115,24 +116,34 @@ abbrev pub opening_writes : How → TaskSet → Words → List Change
 opening_writes Fresh set words = format_on (device_of set 0)
 opening_writes Again set words = migration_of set (decode set words)
 
--- the later words hold the state of the earlier ones, perhaps in another format
-pub record HoldsSame (set : TaskSet) (words later : Words) : Type 0 where
-  pub held : HoldsFresh set words
-  pub same : durable_of (held_on (device_at set later) later)
-      ≡ durable_of (held_on (device_at set words) words)
-
--- the kernel begins with power on, on the first state; or in a boot, on what was there
-abbrev pub Begins : How → TaskSet → (words later : Words) → Kernel → Type 0
-Begins Fresh set words later k = IsOpenedOn k later (first_on (device_of set 0))
-Begins Again set words later k = IsBootOn k later × HoldsSame set words later
+-- the kernel begins on these words: with power on, on the first state; or in a boot of what they hold
+abbrev pub Begins : How → TaskSet → Words → Kernel → Type 0
+Begins Fresh set later k = IsOpenedOn k later (first_on (device_of set 0))
+Begins Again set later k = IsBootOn k later
 
 -- a kernel of a set and so many finishes was opened on some words of a device, and has left later ones
 pub record IsOpened (how : How) (set : TaskSet) (room : ℕ) (words : Words) (log : List Change) (later : Words) (grown : List Change) (k : Kernel) : Type 0 where
   pub set_is : k.set ≡ set
   pub room_is : k.room ≡ room
   pub live : k.lost ≡ false
-  pub begins : Begins how set words later k
+  pub begins : Begins how set later k
   pub written : grown ≡ log ++ opening_writes how set words
+
+-- ---- what stands on the device then, whether it begins or not
+
+-- the durable state, if one stands there
+abbrev pub durable_stored : stored.Stored → Option Durable
+durable_stored stored.Blank = None
+durable_stored (stored.Damaged place) = None
+durable_stored (stored.Holds kind h) = Some (durable_of h)
+
+-- of a format its words at entry, no state, or the first one; and else the state at entry, perhaps in another format
+abbrev pub IsLeft : How → TaskSet → (words later : Words) → Type 0
+IsLeft Fresh set words later =
+    (later ≡ words) ⊎ (decode set later ≡ stored.Blank)
+    ⊎ HoldsOn (device_of set 0) (first_on (device_of set 0)) later
+IsLeft Again set words later =
+    durable_stored (decode set later) ≡ durable_stored (decode set words)
 
 -- ---- why it does not
 

@@ -5,7 +5,7 @@ ghost use Rattle.device_model.specs.Devices.{need_on};
 ghost use Rattle.device_format.specs.Puts.{HasFront};
 ghost use Rattle.shadow_index.specs.Tells.{device_of};
 ghost use Rattle.recovery.specs.Images.{IsOwn, device_at, words_of};
-ghost use Rattle.kernel_turns.specs.Opening.{Begins, HasRoomFor, IsBootOn, IsNotBooted, IsNotOpened, IsReady, need_for, opening_writes};
+ghost use Rattle.kernel_turns.specs.Opening.{Begins, HasRoomFor, IsBootOn, IsLeft, IsNotBooted, IsNotOpened, IsReady, need_for, opening_writes};
 ghost use Rattle.kernel_turns.specs.Steps.{KeepsSet};
 
 use crate::kernel::{Kernel, Power};
@@ -27,9 +27,8 @@ impl Kernel {
     pub(crate) fn go_on<F: Fram>(&mut self, dev: &mut F) -> Result<(), OpenRefusal>
         requires room { (room : ℕ) × (room ≤ MAX_EVENTS) × HasRoomFor self.old.set room self.old }
         requires long { need_on (device_of self.old.set 0) ≤ length (F.start dev.old) }
-        ensures begins { let words = words_of (F.log dev.old) (F.start dev.old) in
-            let later = words_of (F.log dev.new) (F.start dev.new) in
-            OnOk result (Begins How.Again self.old.set words later self.new) }
+        ensures begins { let later = words_of (F.log dev.new) (F.start dev.new) in
+            OnOk result (Begins How.Again self.old.set later self.new) }
         ensures written { let words = words_of (F.log dev.old) (F.start dev.old) in OnOk result
             (F.log dev.new ≡ F.log dev.old ++ opening_writes How.Again self.old.set words) }
         ensures refused { let words = words_of (F.log dev.old) (F.start dev.old) in
@@ -43,6 +42,8 @@ impl Kernel {
             → OnErr result (F.log dev.new ≡ F.log dev.old) }
         ensures cut { let words = words_of (F.log dev.old) (F.start dev.old) in OnErr result
             (HasFront (opening_writes How.Again self.old.set words) (F.log dev.old) (F.log dev.new)) }
+        ensures left { let words = words_of (F.log dev.old) (F.start dev.old) in
+            IsLeft How.Again self.old.set words (words_of (F.log dev.new) (F.start dev.new)) }
         ensures rest { KeepsSet self.old self.new }
         ensures live { self.new.lost ≡ self.old.lost }
         ensures start { F.start dev.new ≡ F.start dev.old }
@@ -74,6 +75,8 @@ impl Kernel {
             → OnErr result (F.log dev.new ≡ F.log dev.old) }
         ensures cut { let words = words_of (F.log dev.old) (F.start dev.old) in OnErr result
             (HasFront (opening_writes How.Again self.old.set words) (F.log dev.old) (F.log dev.new)) }
+        ensures left { let words = words_of (F.log dev.old) (F.start dev.old) in
+            IsLeft How.Again self.old.set words (words_of (F.log dev.new) (F.start dev.new)) }
         ensures room { (room : ℕ) → HasRoomFor self.old.set room self.old
             → HasRoomFor self.new.set room self.new }
         ensures rest { KeepsSet self.old self.new }

@@ -10,7 +10,7 @@ ghost use Rattle.device_model.specs.IndexWords.{Index};
 ghost use Rattle.table_machine.specs.Tables.{Vacant};
 ghost use Rattle.vol_copy.specs.Tries.{IsFor};
 ghost use Rattle.core_seats.specs.Holding.{StandsFor};
-ghost use Rattle.kernel_turns.specs.Opening.{AreIdle, Begins, HasRoomFor, IsNotOpened, IsOpened, IsOpenedOn, need_for, opening_writes};
+ghost use Rattle.kernel_turns.specs.Opening.{AreIdle, Begins, HasRoomFor, IsLeft, IsNotOpened, IsOpened, IsOpenedOn, need_for, opening_writes};
 ghost use Rattle.kernel_turns.specs.Steps.{KeepsSet};
 
 use crate::kernel::{Kernel, Power};
@@ -18,7 +18,7 @@ use commit_writer::Writer;
 use committed_state::Committed;
 use core_seats::Seat;
 use device_format::format;
-use device_format::laws::whole_format_holds_first;
+use device_format::laws::{cut_format_is_old_blank_or_first, whole_format_holds_first};
 use fram_dev::{Fram, Lost};
 use nv_base::NoMemory;
 use nv_base::limits::MAX_EVENTS;
@@ -97,6 +97,8 @@ impl Kernel {
             → OnErr result (F.log dev.new ≡ F.log dev.old) }
         ensures cut { let words = words_of (F.log dev.old) (F.start dev.old) in
             OnErr result (HasFront (opening_writes how set words) (F.log dev.old) (F.log dev.new)) }
+        ensures left { let words = words_of (F.log dev.old) (F.start dev.old) in
+            IsLeft how set words (words_of (F.log dev.new) (F.start dev.new)) }
         ensures start { F.start dev.new ≡ F.start dev.old }
         ensures never_falls { F.lost dev.old ≤ F.lost dev.new }
     {
@@ -118,9 +120,8 @@ impl Kernel {
     fn begin<F: Fram>(&mut self, dev: &mut F, how: How) -> Result<(), OpenRefusal>
         requires room { (room : ℕ) × (room ≤ MAX_EVENTS) × HasRoomFor self.old.set room self.old }
         requires long { need_on (device_of self.old.set 0) ≤ length (F.start dev.old) }
-        ensures begins { let words = words_of (F.log dev.old) (F.start dev.old) in
-            let later = words_of (F.log dev.new) (F.start dev.new) in
-            OnOk result (Begins how self.old.set words later self.new) }
+        ensures begins { let later = words_of (F.log dev.new) (F.start dev.new) in
+            OnOk result (Begins how self.old.set later self.new) }
         ensures written { let words = words_of (F.log dev.old) (F.start dev.old) in OnOk result
             (F.log dev.new ≡ F.log dev.old ++ opening_writes how self.old.set words) }
         ensures refused { let words = words_of (F.log dev.old) (F.start dev.old) in
@@ -134,6 +135,8 @@ impl Kernel {
             → OnErr result (F.log dev.new ≡ F.log dev.old) }
         ensures cut { let words = words_of (F.log dev.old) (F.start dev.old) in OnErr result
             (HasFront (opening_writes how self.old.set words) (F.log dev.old) (F.log dev.new)) }
+        ensures left { let words = words_of (F.log dev.old) (F.start dev.old) in
+            IsLeft how self.old.set words (words_of (F.log dev.new) (F.start dev.new)) }
         ensures rest { KeepsSet self.old self.new }
         ensures live { self.new.lost ≡ self.old.lost }
         ensures start { F.start dev.new ≡ F.start dev.old }
@@ -186,10 +189,13 @@ impl Kernel {
         ensures start { F.start dev.new ≡ F.start dev.old }
         ensures cut { OnErr result
             (HasFront (format_on (device_of self.old.set 0)) (F.log dev.old) (F.log dev.new)) }
+        ensures left { let words = words_of (F.log dev.old) (F.start dev.old) in
+            IsLeft How.Fresh self.old.set words (words_of (F.log dev.new) (F.start dev.new)) }
         ensures failed { OnErr result (FaultCounted (F.lost dev.old) (F.lost dev.new)) }
         ensures never_falls { F.lost dev.old ≤ F.lost dev.new }
     {
         whole_format_holds_first();
+        cut_format_is_old_blank_or_first();
         words_hold_one_state();
         let Ok(()) = format(dev, &self.set) else {
             return Err(Lost);

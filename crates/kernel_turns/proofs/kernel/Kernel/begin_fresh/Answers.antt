@@ -11,7 +11,7 @@ use Rattle.table_machine.specs.Events.{reopened}
 use Rattle.committed_state.specs.Committed.{HasRooms}
 use Rattle.kernel_turns.specs.Opening.{IsOpenedOn}
 use Rattle.kernel_turns.specs.declared.kernel.Kernel.{Kernel}
-use Rattle.kernel_turns.proofs.Moving.{front_all}
+use Rattle.kernel_turns.proofs.Moving.{format_left, front_all}
 use Rattle.kernel_turns.proofs.Opened.{HasBegun, begun, counted_later, first_kind_of, formatted, lost_read, own_of, read_first, read_index_fits}
 use Rattle.kernel_turns.proofs.kernel.Kernel.begin_fresh.Goals as goal
 
@@ -89,3 +89,24 @@ returns-clause-opened g c =
 
 pub returns-in_default-read_state-clause-cut : goal.returns-in_default-read_state-clause-cut
 returns-in_default-read_state-clause-cut g c = front_all (format_on (device_of c.args.self.now.set 0)) (g.F.Fram.log c.args.dev.now) (g.F.Fram.log c.read_state.new.dev) (c.read_state.ensures.log ∙ c.in-Ok.ensures.whole)
+
+pub returns-in_default-clause-left : goal.returns-in_default-clause-left
+returns-in_default-clause-left g c =
+    format_left c.args.self.now.set (g.F.Fram.start c.args.dev.now) (g.F.Fram.start c.format.new.dev) (g.F.Fram.log c.args.dev.now) (g.F.Fram.log c.format.new.dev) c.cut_format_is_old_blank_or_first.ensures c.requires.room.2.limits c.requires.long c.format.ensures.same
+    (c.in_default.ensures.front (c.in_default.ensures.large c.requires.long))
+
+pub returns-in_default-read_state-clause-left : goal.returns-in_default-read_state-clause-left
+returns-in_default-read_state-clause-left g c =
+    let set = c.args.self.now.set in
+    let old = g.F.Fram.log c.args.dev.now in
+    let new = g.F.Fram.log c.read_state.new.dev in
+    format_left set (g.F.Fram.start c.args.dev.now) (g.F.Fram.start c.read_state.new.dev) old new c.cut_format_is_old_blank_or_first.ensures c.requires.room.2.limits c.requires.long (c.read_state.ensures.start ∙ c.format.ensures.same)
+    (front_all (format_on (device_of set 0)) old new (c.read_state.ensures.log ∙ c.in-Ok.ensures.whole))
+
+pub returns-clause-left : goal.returns-clause-left
+returns-clause-left g c =
+    let set = c.args.self.now.set in
+    let old = g.F.Fram.log c.args.dev.now in
+    let new = g.F.Fram.log c.read_state.new.dev in
+    format_left set (g.F.Fram.start c.args.dev.now) (g.F.Fram.start c.read_state.new.dev) old new c.cut_format_is_old_blank_or_first.ensures c.requires.room.2.limits c.requires.long (c.read_state.ensures.start ∙ c.format.ensures.same)
+    (front_all (format_on (device_of set 0)) old new (c.read_state.ensures.log ∙ c.in-Ok.ensures.whole))
