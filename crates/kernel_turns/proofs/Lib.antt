@@ -23,3 +23,4 @@ pub mod MayJoin
 pub mod Joined
 pub mod Stepping
 pub mod BegunAgain
+pub mod Moving

@@ -30,6 +30,10 @@ pub record IsAt (o : Origin) (k : Kernel) (words : Words) (s : State MachineStat
   pub numbers : o.base.number + k.room + 1 < 4294967295
   pub room : length s.history ≤ k.room
 
+-- at some state of some run: so it may turn
+abbrev pub Stands : Kernel → Words → Type 0
+Stands k words = (o : Origin) × (s : State MachineState) × IsAt o k words s
+
 -- the state of the event machine after an event
 abbrev pub state_by : Origin → State MachineState → Event → State MachineState
 state_by o s e = (event_step (world_from o) s (event_of e)).0

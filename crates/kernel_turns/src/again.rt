@@ -1,16 +1,18 @@
-//! A kernel begins in a boot of a device that holds a state.
+//! A kernel begins in a boot of a device that holds a state, which is migrated first where the set has another format.
 
-ghost use Rattle.std.specs.Prelude.{◌≡◌, ◌≢◌, ℕ, ◌≤◌, IfErr, IfOk, OnOk, false, length};
+ghost use Rattle.std.specs.Prelude.{◌≡◌, ◌≢◌, ◌⊎◌, ℕ, ◌<◌, ◌≤◌, ◌++◌, IfErr, OnErr, OnOk, length};
 ghost use Rattle.device_model.specs.Devices.{need_on};
+ghost use Rattle.device_format.specs.Puts.{HasFront};
+ghost use Rattle.shadow_index.specs.Tells.{device_of};
 ghost use Rattle.recovery.specs.Images.{IsOwn, device_at, words_of};
-ghost use Rattle.kernel_turns.specs.Opening.{HasRoomFor, IsBootOn, IsNotBooted};
+ghost use Rattle.kernel_turns.specs.Opening.{Begins, HasRoomFor, IsBootOn, IsLeft, IsNotBooted, IsNotOpened, IsReady, need_for, opening_writes};
 ghost use Rattle.kernel_turns.specs.Steps.{KeepsSet};
 
 use crate::kernel::{Kernel, Power};
-use crate::open::OpenRefusal;
+use crate::open::{How, OpenRefusal};
 use fram_dev::Fram;
 use nv_base::limits::MAX_EVENTS;
-use recovery::{Boot, BootRefusal, is_worn, read_state};
+use recovery::{Boot, BootRefusal, MigrateRefusal, is_worn, migrate, read_state};
 use rv_core::Machine;
 use shadow_index::Layout;
 use std::alloc::Global;
@@ -19,34 +21,76 @@ use task_model::laws::tasks_are_a_machine;
 use task_set::TaskSet;
 
 impl Kernel {
-    /// Begins in a boot of a device that holds a state, with room for so many finishes. All memory is taken here; `NoMemory`
-    /// where there is not enough. `Blank` where word 0 is 0, `Damaged` at the place of the first faulty word, `Worn` where
-    /// numbers could run out, `Lost` where the device lost a call. Nothing is written.
-    pub fn open_again<F: Fram>(
-        alloc: Global,
-        dev: &mut F,
-        set: TaskSet,
-        room: u32,
-    ) -> Result<Kernel, OpenRefusal>
-        requires room { room ≤ MAX_EVENTS }
-        requires own { IsOwn set (words_of (F.log dev.old) (F.start dev.old)) }
-        requires long { let words = words_of (F.log dev.old) (F.start dev.old) in
-            need_on (device_at set words) ≤ length (F.start dev.old) }
-        ensures booting { let words = words_of (F.log dev.new) (F.start dev.new) in
-            IfOk result (λ k. IsBootOn k words) }
-        ensures set { IfOk result (λ k. (k.set ≡ set) × (k.room ≡ room) × (k.lost ≡ false)) }
+    /// Goes on from what the device holds. Words of format 1 are moved first where the set has format 2. `Small` where the
+    /// device has fewer words than a migration reads or wrote; else `Blank`, `Damaged` and `Worn` by the words at entry, and
+    /// `Lost` where the device lost a call. But at `Lost` nothing was written.
+    pub(crate) fn go_on<F: Fram>(&mut self, dev: &mut F) -> Result<(), OpenRefusal>
+        requires room { (room : ℕ) × (room ≤ MAX_EVENTS) × HasRoomFor self.old.set room self.old }
+        requires long { need_on (device_of self.old.set 0) ≤ length (F.start dev.old) }
+        ensures begins { let later = words_of (F.log dev.new) (F.start dev.new) in
+            OnOk result (Begins How.Again self.old.set later self.new) }
+        ensures written { let words = words_of (F.log dev.old) (F.start dev.old) in OnOk result
+            (F.log dev.new ≡ F.log dev.old ++ opening_writes How.Again self.old.set words) }
         ensures refused { let words = words_of (F.log dev.old) (F.start dev.old) in
-            result ≢ Err OpenRefusal.NoMemory
-            → IfErr result (IsNotBooted set words (F.lost dev.old) (F.lost dev.new)) }
-        ensures log { F.log dev.new ≡ F.log dev.old }
+            let len = length (F.start dev.old) in IfErr result
+            (IsNotOpened How.Again self.old.set words len (F.lost dev.old) (F.lost dev.new)) }
+        ensures small { let words = words_of (F.log dev.old) (F.start dev.old) in
+            let len = length (F.start dev.old) in
+            let need = need_for How.Again self.old.set words len in len < need
+            → (result ≡ Err (OpenRefusal.Small need len)) ⊎ (result ≡ Err OpenRefusal.Lost) }
+        ensures unwritten { result ≢ Err OpenRefusal.Lost
+            → OnErr result (F.log dev.new ≡ F.log dev.old) }
+        ensures cut { let words = words_of (F.log dev.old) (F.start dev.old) in OnErr result
+            (HasFront (opening_writes How.Again self.old.set words) (F.log dev.old) (F.log dev.new)) }
+        ensures left { let words = words_of (F.log dev.old) (F.start dev.old) in
+            IsLeft How.Again self.old.set words (words_of (F.log dev.new) (F.start dev.new)) }
+        ensures rest { KeepsSet self.old self.new }
+        ensures live { self.new.lost ≡ self.old.lost }
         ensures start { F.start dev.new ≡ F.start dev.old }
         ensures never_falls { F.lost dev.old ≤ F.lost dev.new }
     {
-        let Ok(mut kernel) = Kernel::with_room(alloc, set, room) else {
-            return Err(OpenRefusal::NoMemory);
-        };
-        kernel.begin_again(dev)?;
-        Ok(kernel)
+        if let Err(refusal) = self.move_first(dev) {
+            return Err(refusal);
+        }
+        self.begin_again(dev)
+    }
+
+    // Moves the state of a device of format 1 for a set of format 2. Nothing is done where there is none.
+    fn move_first<F: Fram>(&mut self, dev: &mut F) -> Result<(), OpenRefusal>
+        requires room { (room : ℕ) × HasRoomFor self.old.set room self.old }
+        requires long { need_on (device_of self.old.set 0) ≤ length (F.start dev.old) }
+        ensures ready { let words = words_of (F.log dev.old) (F.start dev.old) in
+            let later = words_of (F.log dev.new) (F.start dev.new) in
+            OnOk result (IsReady self.old.set (length (F.start dev.old)) words later) }
+        ensures written { let words = words_of (F.log dev.old) (F.start dev.old) in OnOk result
+            (F.log dev.new ≡ F.log dev.old ++ opening_writes How.Again self.old.set words) }
+        ensures refused { let words = words_of (F.log dev.old) (F.start dev.old) in
+            let len = length (F.start dev.old) in IfErr result
+            (IsNotOpened How.Again self.old.set words len (F.lost dev.old) (F.lost dev.new)) }
+        ensures small { let words = words_of (F.log dev.old) (F.start dev.old) in
+            let len = length (F.start dev.old) in
+            let need = need_for How.Again self.old.set words len in len < need
+            → (result ≡ Err (OpenRefusal.Small need len)) ⊎ (result ≡ Err OpenRefusal.Lost) }
+        ensures unwritten { result ≢ Err OpenRefusal.Lost
+            → OnErr result (F.log dev.new ≡ F.log dev.old) }
+        ensures cut { let words = words_of (F.log dev.old) (F.start dev.old) in OnErr result
+            (HasFront (opening_writes How.Again self.old.set words) (F.log dev.old) (F.log dev.new)) }
+        ensures left { let words = words_of (F.log dev.old) (F.start dev.old) in
+            IsLeft How.Again self.old.set words (words_of (F.log dev.new) (F.start dev.new)) }
+        ensures room { (room : ℕ) → HasRoomFor self.old.set room self.old
+            → HasRoomFor self.new.set room self.new }
+        ensures rest { KeepsSet self.old self.new }
+        ensures live { self.new.lost ≡ self.old.lost }
+        ensures start { F.start dev.new ≡ F.start dev.old }
+        ensures never_falls { F.lost dev.old ≤ F.lost dev.new }
+    {
+        if self.set.format() == 1 {
+            return Ok(());
+        }
+        match migrate(dev, &self.set, &mut self.committed.after) {
+            Ok(()) => Ok(()),
+            Err(refusal) => Err(unmoved(refusal)),
+        }
     }
 
     /// Looks at what the device holds, and begins in a boot of it. `Blank` where word 0 is 0, `Damaged` at the place of the
@@ -92,5 +136,22 @@ fn told(refusal: BootRefusal) -> OpenRefusal
         BootRefusal::Blank => OpenRefusal::Blank,
         BootRefusal::Damaged(place) => OpenRefusal::Damaged(place),
         BootRefusal::Lost => OpenRefusal::Lost,
+    }
+}
+
+// Why no kernel begins on a device that is not migrated.
+fn unmoved(refusal: MigrateRefusal) -> OpenRefusal
+    ensures small { (need len : ℕ) → refusal ≡ MigrateRefusal.Small need len
+        → result ≡ OpenRefusal.Small need len }
+    ensures damaged { (place : ℕ) → refusal ≡ MigrateRefusal.Damaged place
+        → result ≡ OpenRefusal.Damaged place }
+    ensures worn { refusal ≡ MigrateRefusal.Worn → result ≡ OpenRefusal.Worn }
+    ensures lost { refusal ≡ MigrateRefusal.Lost → result ≡ OpenRefusal.Lost }
+{
+    match refusal {
+        MigrateRefusal::Small { need, len } => OpenRefusal::Small { need, len },
+        MigrateRefusal::Damaged(place) => OpenRefusal::Damaged(place),
+        MigrateRefusal::Worn => OpenRefusal::Worn,
+        MigrateRefusal::Lost => OpenRefusal::Lost,
     }
 }

@@ -15,4 +15,7 @@ mod turn;
 mod verdict;
 
 pub use kernel::Kernel;
-pub use open::OpenRefusal;
+pub use open::{How, OpenRefusal};
+
+#[cfg(test)]
+mod tests;

@@ -3,16 +3,14 @@
 ghost use Rattle.std.specs.Prelude.{◌≡◌, ◌<◌, ◌≤◌, IfOk, OnErr, OnOk, length, true, false};
 ghost use Rattle.nv_base.specs.Streams.{FaultCounted};
 ghost use Rattle.rv_core.specs.State.{MachineState};
-ghost use Rattle.kernel_model.specs.Events.{State};
 ghost use Rattle.schedule_model.specs.Parts.{IsOfCores};
 ghost use Rattle.power_trace.specs.Events.{event_of};
 ghost use Rattle.device_model.specs.Devices.{need_on};
 ghost use Rattle.table_machine.specs.Tables.{Tables};
 ghost use Rattle.recovery.specs.Images.{device_at, words_of};
-ghost use Rattle.headline.specs.Runs.{Origin};
 ghost use Rattle.kernel_turns.specs.Keeping.{IsLawful, Keeps};
 ghost use Rattle.kernel_turns.specs.Steps.{HasImage, HasWritten, KeepsSet, MayHaveWritten, Steps};
-ghost use Rattle.kernel_turns.specs.Events.{CutsEvent, IsAt, SimulatesEvent};
+ghost use Rattle.kernel_turns.specs.Events.{CutsEvent, SimulatesEvent, Stands};
 ghost use Rattle.kernel_turns.specs.Turns.{IsAtStage, TurnsOn};
 
 use crate::kernel::{Kernel, Power};
@@ -25,8 +23,7 @@ impl Kernel {
     /// One event, with one write to the device at most: its line. `Lost` where the device lost the call: then its write is
     /// made, or it is not, and the kernel takes no event any more.
     pub fn turn<F: Fram>(&mut self, dev: &mut F, event: Event) -> Result<Line, Lost>
-        requires at { let words = words_of (F.log dev.old) (F.start dev.old) in
-            (o : Origin) × (s : State MachineState) × IsAt o self.old words s }
+        requires at { Stands self.old (words_of (F.log dev.old) (F.start dev.old)) }
         requires core { IsOfCores self.old.set.cores (event_of event) }
         requires few { length self.old.listing.items < self.old.room }
         requires room { let words = words_of (F.log dev.old) (F.start dev.old) in

@@ -2,7 +2,7 @@ use Rattle.std.proofs.Common.{◌≤◌, ℕ, List, length, sym, ap, ◌∙◌, 
 use Rattle.set_model.proofs.ForCallers.{few_records}
 use Rattle.device_model.specs.IndexWords.{Index}
 use Rattle.device_model.specs.Layouts.{IsKindOf}
-use Rattle.device_model.specs.Devices.{Device, HoldsOn, first_on, need_on}
+use Rattle.device_model.specs.Devices.{Device, HoldsOn, first_on, format_on, need_on}
 use Rattle.fram_dev.specs.Device.{Change}
 use Rattle.shadow_index.specs.Tells.{IsLayoutOf, IsShift, device_of}
 use Rattle.shadow_index.specs.declared.state.State.{State}
@@ -13,6 +13,7 @@ use Rattle.headline.specs.Runs.{first_state, formatted_origin}
 use Rattle.kernel_turns.specs.Events.{IsAt}
 use Rattle.kernel_turns.specs.Opening.{IsOpenedOn}
 use Rattle.kernel_turns.specs.declared.kernel.Kernel.{Kernel}
+use Rattle.kernel_turns.proofs.Moving.{format_left, front_all}
 use Rattle.kernel_turns.proofs.Opened.{HasBegun, begun, counted_later, first_kind_of, formatted, lost_read, own_of, read_first, read_index_fits}
 use Rattle.kernel_turns.proofs.kernel.Kernel.begin_fresh.Goals as goal
 
@@ -88,3 +89,27 @@ returns-clause-opened g c =
     let on_device = subst (λ (d : Device). IsAt (formatted_origin d) new words (first_state (formatted_origin d))) f.device opened in
     subst (λ (xs : List ℕ). IsOpenedOn new (words_of (g.F.Fram.log c.read_state.new.dev) xs)) (sym c.read_state.ensures.start)
     (subst (λ (l : List Change). IsOpenedOn new (words_of l (g.F.Fram.start c.format.new.dev))) (sym c.read_state.ensures.log) on_device)
+
+pub returns-in_default-read_state-clause-cut : goal.returns-in_default-read_state-clause-cut
+returns-in_default-read_state-clause-cut g c = front_all (format_on (device_of c.args.self.now.set 0)) (g.F.Fram.log c.args.dev.now) (g.F.Fram.log c.read_state.new.dev) (c.read_state.ensures.log ∙ c.in-Ok.ensures.whole)
+
+pub returns-in_default-clause-left : goal.returns-in_default-clause-left
+returns-in_default-clause-left g c =
+    format_left c.args.self.now.set (g.F.Fram.start c.args.dev.now) (g.F.Fram.start c.format.new.dev) (g.F.Fram.log c.args.dev.now) (g.F.Fram.log c.format.new.dev) c.cut_format_is_old_blank_or_first.ensures c.requires.room.2.limits c.requires.long c.format.ensures.same
+    (c.in_default.ensures.front (c.in_default.ensures.large c.requires.long))
+
+pub returns-in_default-read_state-clause-left : goal.returns-in_default-read_state-clause-left
+returns-in_default-read_state-clause-left g c =
+    let set = c.args.self.now.set in
+    let old = g.F.Fram.log c.args.dev.now in
+    let new = g.F.Fram.log c.read_state.new.dev in
+    format_left set (g.F.Fram.start c.args.dev.now) (g.F.Fram.start c.read_state.new.dev) old new c.cut_format_is_old_blank_or_first.ensures c.requires.room.2.limits c.requires.long (c.read_state.ensures.start ∙ c.format.ensures.same)
+    (front_all (format_on (device_of set 0)) old new (c.read_state.ensures.log ∙ c.in-Ok.ensures.whole))
+
+pub returns-clause-left : goal.returns-clause-left
+returns-clause-left g c =
+    let set = c.args.self.now.set in
+    let old = g.F.Fram.log c.args.dev.now in
+    let new = g.F.Fram.log c.read_state.new.dev in
+    format_left set (g.F.Fram.start c.args.dev.now) (g.F.Fram.start c.read_state.new.dev) old new c.cut_format_is_old_blank_or_first.ensures c.requires.room.2.limits c.requires.long (c.read_state.ensures.start ∙ c.format.ensures.same)
+    (front_all (format_on (device_of set 0)) old new (c.read_state.ensures.log ∙ c.in-Ok.ensures.whole))
