@@ -1,7 +1,7 @@
 -- How the program ends. This project's own.
 use Rattle.std.specs.Prelude.{◌≡◌, ℕ, Option}
-use Rattle.sim_run.specs.Answers.{Answered, Exchange, HasReadFew, IsComplete, NeverFalls, TellsReadFault}
-use Rattle.sim_run.specs.Promises.{KeepsHeadline}
+use Rattle.sim_run.specs.Answers.{Answered, Exchange, HasReadFew, IsComplete, LeavesDevice, NeverFalls, TellsReadFault}
+use Rattle.sim_run.specs.Promises.{KeepsHeadline, KeepsImages}
 use Rattle.answers.specs.Exits.{exit_of}
 use Rattle.answers.specs.declared.status.Status.{Status}
 use Rattle.sim_run.specs.declared.command.Command.{Command}
@@ -12,6 +12,8 @@ pub record EndsAs (command : Option Command) (x : Exchange) (exit : ℕ) : Type 
   pub exits : exit ≡ exit_of status
   pub answer : Answered command x status
   pub headline : KeepsHeadline command x status
+  pub images : KeepsImages command x
+  pub device : LeavesDevice command x
   pub complete : IsComplete command x status
   pub few : HasReadFew x.source x.source_now status
   pub told : TellsReadFault x.source x.source_now status

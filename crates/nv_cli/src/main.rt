@@ -1,19 +1,23 @@
-//! The program: its words, standard input and standard output are handed to the simulator, and the answer is its exit status.
+//! The program: its words, standard input, standard output and a new device are handed to the simulator, and the answer is
+//! its exit status.
 //! What std says of the process is taken on trust: its words, what is read and written, and the status that it ends with.
 #![tactic(auto)]
 
-ghost use Rattle.std.specs.Prelude.{◌≡◌, ◌↔◌, [], IfErr, IfOk, IsErr, OnErr, drop, map, string_bytes};
+ghost use Rattle.std.specs.Prelude.{◌≡◌, ◌↔◌, [], IfErr, IfOk, IsErr, OnErr, drop, map, replicate, string_bytes};
 ghost use Rattle.std.specs.IoError.{error_kind};
 ghost use Rattle.std.specs.declared.io.ErrorKind.TheVariants.{OutOfMemory};
 ghost use Rattle.std.specs.Process.{exit_status};
 ghost use Rattle.std.specs.Rc.{rc_str_bytes};
 ghost use Rattle.std.specs.Vec.Iter.{into_iter_items};
 ghost use Rattle.answers.specs.Exits.{exit_of};
+ghost use Rattle.fram_dev.specs.Memory.{IsNew, Passes};
+ghost use Rattle.simulation.specs.Stores.{store};
 ghost use Rattle.sim_run.specs.Answers.{exchange};
 ghost use Rattle.sim_run.specs.Commands.{command_of};
 ghost use Rattle.nv_cli.specs.Calls.{EndsAs};
 
 use answers::Status;
+use fram_dev::{Fram, MemFram};
 use nv_base::{NoMemory, Sink, Source, StdSink, StdSource};
 use sim_run::simulate;
 use std::alloc::Global;
@@ -21,6 +25,12 @@ use std::env::Args;
 use std::process::ExitCode;
 use std::rc::RcStr;
 use std::{env, io};
+
+/// How many words the device of a call has.
+const DEVICE_WORDS: u32 = 65_536;
+
+/// How many writes it passes: a format makes one for each word at most, and an event one.
+const DEVICE_WRITES: u32 = 1_100_000;
 
 /// The words of a call: the arguments behind the program's name.
 fn command_words(alloc: Global, mut arguments: Args) -> Result<Vec<RcStr>, NoMemory>
@@ -58,32 +68,51 @@ fn exit_code(status: Status) -> ExitCode
 }
 
 /// The exit status of a call with these words, or of one whose words found no memory, and then nothing is read or put.
-fn call<S: Source, K: Sink>(
+fn call<S: Source, K: Sink, F: Fram>(
     alloc: Global,
     words: Result<Vec<RcStr>, NoMemory>,
     src: &mut S,
     out: &mut K,
+    dev: &mut F,
 ) -> ExitCode
-    ensures answered { let x = exchange S.seen K.seen src.old src.new out.old out.new in
+    ensures answered { let seen = store F.start F.log F.lost in
+        let x = exchange S.seen K.seen seen src.old src.new out.old out.new dev.old dev.new in
         IfOk words (λ ws. EndsAs (command_of (map rc_str_bytes ws.items)) x (exit_status result)) }
     ensures no_memory { OnErr words (exit_status result ≡ exit_of Status.NoMemory) }
     ensures nothing_read { OnErr words (S.seen src.new ≡ S.seen src.old) }
     ensures nothing_put { OnErr words (K.seen out.new ≡ K.seen out.old) }
 {
     match words {
-        Ok(words) => exit_code(simulate(alloc, words.as_slice(), src, out)),
+        Ok(words) => exit_code(simulate(alloc, words.as_slice(), src, out, dev)),
         Err(_) => exit_code(Status::NoMemory),
     }
 }
 
+/// A device of zeros, with room for all writes of a run: those of a format, and one at each event.
+fn new_device(alloc: Global) -> Result<MemFram, NoMemory>
+    ensures zeros { IfOk result (IsNew (replicate DEVICE_WORDS 0)) }
+    ensures writes { IfOk result (Passes DEVICE_WRITES) }
+{
+    let zeros = vec![in alloc; 0u32; DEVICE_WORDS as usize]?;
+    MemFram::new(alloc, zeros.as_slice(), DEVICE_WRITES)
+}
+
+/// Tells that no memory was found. A failure to say so changes no status.
+fn tell_no_memory(rt: &HostRuntime) {
+    let _ = rt.eprintln("error memory");
+}
+
 fn main(rt: HostRuntime) -> ExitCode {
+    let Ok(mut device) = new_device(rt.alloc()) else {
+        tell_no_memory(&rt);
+        return exit_code(Status::NoMemory);
+    };
     let words = given_words(rt.alloc(), env::args(&rt));
     if words.is_err() {
-        // a failure to say so changes no status
-        let _ = rt.eprintln("error memory");
+        tell_no_memory(&rt);
     }
     // both go straight to the system: no byte waits in the program
     let mut source = StdSource::new(rt.stdin());
     let mut sink = StdSink::new(rt.stdout());
-    call(rt.alloc(), words, &mut source, &mut sink)
+    call(rt.alloc(), words, &mut source, &mut sink, &mut device)
 }

@@ -1,14 +1,14 @@
 -- From what a call has done, and the line that names its answer, to the answer.
 use Rattle.std.proofs.Common.{◌≡◌, ℕ, ◌≤◌, ◌⊎◌, List, [], Option, Some, None, inl, inr, refl, ap, sym, ◌∙◌, subst, arith}
 use Rattle.nv_base.specs.Streams.{PutsFront, PutsText, FaultCounted, Stream}
-use Rattle.sim_run.specs.Replies.{Refuses, Reply, reply, status_of}
+use Rattle.sim_run.specs.Replies.{Refuses, Reply, status_of}
 use Rattle.answers.specs.Names.{PutsName}
-use Rattle.sim_run.specs.Answers.{Answered, AnsweredTo, Exchange, IsComplete, IsCutOff, IsDone, NoFault, OfInput}
+use Rattle.sim_run.specs.Answers.{Answered, AnsweredTo, Exchange, IsComplete, IsCutOff, IsDone, IsStopped, NoFault, OfInput, reply_in}
 use Rattle.sim_run.specs.BeforeAnswerLine.{BeforeAnswerLine, PutReply}
 use Rattle.sim_run.specs.declared.command.Command.{Command}
 use Rattle.answers.specs.declared.status.Status.{Status}
-use Rattle.answers.specs.declared.status.Status.TheVariants.{Done, Usage, ReadFault, WriteFault, NoMemory, NotBuilt, Script, Packed}
-use Rattle.sim_run.proofs.Fronts.{nothing_cut, nothing_put}
+use Rattle.answers.specs.declared.status.Status.TheVariants.{Done, Usage, ReadFault, WriteFault, NoMemory, DeviceLost, Small, Script, Packed}
+use Rattle.simulation.proofs.Fronts.{nothing_cut, nothing_put}
 
 -- ---- counts
 
@@ -24,7 +24,8 @@ reply_counts r o q Usage h = absurd h
 reply_counts r o q ReadFault h = absurd h
 reply_counts r o q WriteFault h = h.2.counted.0
 reply_counts r o q NoMemory h = same_count o q h
-reply_counts r o q NotBuilt h = same_count o q h.1
+reply_counts r o q DeviceLost h = stood o.faults q.faults h.2.put.still
+reply_counts r o q (Small need len) h = same_count o q h.1
 reply_counts r o q (Script e) h = same_count o q h.1
 reply_counts r o q (Packed p) h = same_count o q h.1
 
@@ -57,56 +58,68 @@ still_done c x new input e d = record { text = d.text; replies = d.replies; put 
 still_cut : (c : Command) (x : Exchange) (new : Stream) (input : List ℕ) → new ≡ x.sink_now → IsCutOff c x input → IsCutOff c (later x new) input
 still_cut c x new input e d = record { text = d.text; replies = d.replies; put = subst (λ s. PutsFront d.text x.sink s) (sym e) d.put }
 
-abbrev Unnamed : Exchange → Status → Type 0
-Unnamed x status = x.sink_now ≡ x.sink
+still_stopped : (c : Command) (x : Exchange) (new : Stream) (input : List ℕ) → PutsName DeviceLost x.sink_now new → IsStopped (λ from status. x.sink_now ≡ from) c x input → IsStopped (λ from status. PutsName status from new) c (later x new) input
+still_stopped c x new input name d = record {
+  text = d.text;
+  replies = d.replies;
+  middle = d.middle;
+  put = d.put;
+  named = subst (λ (s : Stream). PutsName DeviceLost s new) d.named name;
+}
 
-abbrev Named : Exchange → Stream → Status → Type 0
-Named x new status = PutsName status x.sink new
+abbrev Unnamed : Exchange → Stream → Status → Type 0
+Unnamed x from status = x.sink_now ≡ from
+
+abbrev Named : Stream → Stream → Status → Type 0
+Named new from status = PutsName status from new
 
 answered_to : (c : Command) (x : Exchange) (new : Stream) (status : Status)
-    → PutsName status x.sink_now new → AnsweredTo (Unnamed x) c x status → AnsweredTo (Named x new) c (later x new) status
+    → PutsName status x.sink_now new → AnsweredTo (Unnamed x) c x status → AnsweredTo (Named new) c (later x new) status
 answered_to c x new Done name h =
     (h.0, on_input x.source.bytes (IsDone c x) (IsDone c (later x new)) (λ input d. still_done c x new input (no_line x.sink_now new name) d) h.1)
 answered_to c x new Usage name h = h
-answered_to c x new ReadFault name h = (h.0, named x new ReadFault h.1 name)
+answered_to c x new ReadFault name h = (h.0, h.1, named x new ReadFault h.2 name)
 answered_to c x new WriteFault name h =
     let e : new ≡ x.sink_now = no_line x.sink_now new name in (
       subst (λ s. FaultCounted x.sink.faults s.faults) (sym e) h.0,
       h.1,
       on_input x.source.bytes (IsCutOff c x) (IsCutOff c (later x new)) (λ input d. still_cut c x new input e d) h.2,
     )
-answered_to c x new NoMemory name h = named x new NoMemory h name
-answered_to c x new NotBuilt name h = (h.0, h.1, named x new NotBuilt h.2 name)
-answered_to c x new (Script e) name h = (h.0, h.1, named x new (Script e) h.2 name)
-answered_to c x new (Packed place) name h = (h.0, h.1, named x new (Packed place) h.2 name)
+answered_to c x new NoMemory name h = (h.0, named x new NoMemory h.1 name)
+answered_to c x new DeviceLost name h =
+    (h.0, h.1, on_input x.source.bytes (IsStopped (Unnamed x) c x) (IsStopped (Named new) c (later x new)) (λ input d. still_stopped c x new input name d) h.2)
+answered_to c x new (Small need len) name h = (h.0, h.1, h.2, named x new (Small need len) h.3 name)
+answered_to c x new (Script e) name h = (h.0, h.1, h.2, named x new (Script e) h.3 name)
+answered_to c x new (Packed place) name h = (h.0, h.1, h.2, named x new (Packed place) h.3 name)
 
 pub answered : (command : Option Command) (x : Exchange) (new : Stream) (status : Status)
     → PutsName status x.sink_now new → BeforeAnswerLine command x status → Answered command (later x new) status
 answered (Some c) x new status name h = answered_to c x new status name h
-answered None x new status name h = (h.0, h.1, named x new Usage h.2 (subst (λ s. PutsName s x.sink_now new) h.0 name))
+answered None x new status name h = (h.0, h.1, h.2, named x new Usage h.3 (subst (λ s. PutsName s x.sink_now new) h.0 name))
 
 -- ---- what a reply names
 
-abbrev IsReplied : Command → Status → List ℕ → Type 0
-IsReplied c status input = (status ≡ status_of (reply c input)) ⊎ (status ≡ NoMemory)
+abbrev IsReplied : Exchange → Command → Status → List ℕ → Type 0
+IsReplied x c status input = (status ≡ status_of (reply_in x c input)) ⊎ (status ≡ NoMemory)
 
-out_of_memory : (c : Command) (left : Option (List ℕ)) → OfInput left (IsReplied c NoMemory)
-out_of_memory c None = tt
-out_of_memory c (Some input) = inr refl
+out_of_memory : (x : Exchange) (c : Command) (left : Option (List ℕ)) → OfInput left (IsReplied x c NoMemory)
+out_of_memory x c None = tt
+out_of_memory x c (Some input) = inr refl
 
-refused : (c : Command) (x : Exchange) (status : Status) → OfInput x.source.bytes (λ input. reply c input ≡ Refuses status) → OfInput x.source.bytes (IsReplied c status)
-refused c x status h = on_input x.source.bytes (λ input. reply c input ≡ Refuses status) (IsReplied c status) (λ input d. inl (sym (ap status_of d))) h
+refused : (c : Command) (x : Exchange) (status : Status) → OfInput x.source.bytes (λ input. reply_in x c input ≡ Refuses status) → OfInput x.source.bytes (IsReplied x c status)
+refused c x status h = on_input x.source.bytes (λ input. reply_in x c input ≡ Refuses status) (IsReplied x c status) (λ input d. inl (sym (ap status_of d))) h
 
-complete_to : (Names : Status → Type 0) (c : Command) (x : Exchange) (status : Status) → AnsweredTo Names c x status → NoFault x → OfInput x.source.bytes (IsReplied c status)
-complete_to Names c x Done h ok = on_input x.source.bytes (IsDone c x) (IsReplied c Done) (λ input d. inl (sym (ap status_of d.replies))) h.1
+complete_to : (Names : Stream → Status → Type 0) (c : Command) (x : Exchange) (status : Status) → AnsweredTo Names c x status → NoFault x → OfInput x.source.bytes (IsReplied x c status)
+complete_to Names c x Done h ok = on_input x.source.bytes (IsDone c x) (IsReplied x c Done) (λ input d. inl (sym (ap status_of d.replies))) h.1
 complete_to Names c x Usage h ok = absurd h
 complete_to Names c x ReadFault h ok = absurd (ok.0 h.0)
 complete_to Names c x WriteFault h ok = absurd (ok.1 h.0)
-complete_to Names c x NoMemory h ok = out_of_memory c x.source.bytes
-complete_to Names c x NotBuilt h ok = refused c x NotBuilt h.1
-complete_to Names c x (Script e) h ok = refused c x (Script e) h.1
-complete_to Names c x (Packed p) h ok = refused c x (Packed p) h.1
+complete_to Names c x NoMemory h ok = out_of_memory x c x.source.bytes
+complete_to Names c x DeviceLost h ok = absurd (ok.2 h.0)
+complete_to Names c x (Small need len) h ok = refused c x (Small need len) h.2
+complete_to Names c x (Script e) h ok = refused c x (Script e) h.2
+complete_to Names c x (Packed p) h ok = refused c x (Packed p) h.2
 
 pub complete : (command : Option Command) (x : Exchange) (status : Status) → Answered command x status → IsComplete command x status
-complete (Some c) x status h = complete_to (λ named. PutsName named x.sink x.sink_now) c x status h
+complete (Some c) x status h = complete_to (λ from named. PutsName named from x.sink_now) c x status h
 complete None x status h = h.0

@@ -3,36 +3,38 @@ use Rattle.std.proofs.Common.{◌≡◌, ℕ, ◌+◌, ◌≤◌, cond, true, Li
 use Rattle.std.proofs.lemmas.Bool.{lt-ltb}
 use Rattle.nv_base.specs.Streams.{AreGone, GaveAll, ReadsAll, Stream}
 use Rattle.sim_run.specs.Replies.{Refuses, reply, reply_within, too_long, most_input}
-use Rattle.sim_run.specs.Answers.{Exchange, HasReadFew, IsCutOff, IsDone, OfInput, TellsReadFault}
-use Rattle.sim_run.specs.BeforeAnswerLine.{BeforeAnswerLine, PutReply, Unread}
+use Rattle.sim_run.specs.Answers.{Exchange, HasReadFew, IsCutOff, IsDone, IsStopped, OfInput, TellsReadFault, reply_in}
+use Rattle.sim_run.specs.BeforeAnswerLine.{BeforeAnswerLine, LeavesStore, PutReply, Unread}
 use Rattle.sim_run.specs.declared.command.Command.{Command}
 use Rattle.answers.specs.declared.status.Status.{Status}
-use Rattle.answers.specs.declared.status.Status.TheVariants.{Done, Usage, ReadFault, WriteFault, NoMemory, NotBuilt, Script, Packed}
+use Rattle.answers.specs.declared.status.Status.TheVariants.{Done, Usage, ReadFault, WriteFault, NoMemory, DeviceLost, Small, Script, Packed}
 use Rattle.sim_run.proofs.Answering.{stood}
 use Rattle.sim_run.proofs.Gone.{all_gone}
 
 -- ---- an input that was not read
 
 -- more bytes than a call reads
-refuses_long : (c : Command) (input : List ℕ) → most_input + 1 ≤ length input → reply c input ≡ Refuses (Script too_long)
+refuses_long : (c : Command) (len : ℕ) (input : List ℕ) → most_input + 1 ≤ length input → reply c len input ≡ Refuses (Script too_long)
 unfolding reply
-refuses_long c input h =
+refuses_long c len input h =
     let long : ltb most_input (length input) ≡ true = lt-ltb _ _ (omega arith) in
-    ap (λ b. cond b (Refuses (Script too_long)) (reply_within c input)) long
+    ap (λ b. cond b (Refuses (Script too_long)) (reply_within c len input)) long
 
-long_input : (c : Command) (left now : Option (List ℕ)) → AreGone left now (most_input + 1) → OfInput left (λ input. reply c input ≡ Refuses (Script too_long))
-long_input c None now h = tt
-long_input c (Some input) now h = refuses_long c input h.0
+long_input : (c : Command) (len : ℕ) (left now : Option (List ℕ)) → AreGone left now (most_input + 1) → OfInput left (λ input. reply c len input ≡ Refuses (Script too_long))
+long_input c len None now h = tt
+long_input c len (Some input) now h = refuses_long c len input h.0
 
-pub unread : (c : Command) (x : Exchange) (status : Status) → x.sink_now ≡ x.sink → Unread x.source x.source_now status → BeforeAnswerLine (Some c) x status
-unread c x ReadFault e h = (h.1, e)
-unread c x (Script s) e h = (inr h.1.0, subst (λ t. OfInput x.source.bytes (λ input. reply c input ≡ Refuses (Script t))) (sym h.0) (long_input c x.source.bytes x.source_now.bytes h.1.0), e)
-unread c x NoMemory e h = e
-unread c x Done e h = absurd h
-unread c x Usage e h = absurd h
-unread c x WriteFault e h = absurd h
-unread c x NotBuilt e h = absurd h
-unread c x (Packed p) e h = absurd h
+pub unread : (c : Command) (x : Exchange) (status : Status) → x.sink_now ≡ x.sink → x.device_now ≡ x.device → Unread x.source x.source_now status → BeforeAnswerLine (Some c) x status
+unread c x ReadFault e f h = (h.1, f, e)
+unread c x (Script s) e f h =
+    (inr h.1.0, f, subst (λ t. OfInput x.source.bytes (λ input. reply_in x c input ≡ Refuses (Script t))) (sym h.0) (long_input c (length x.device.start) x.source.bytes x.source_now.bytes h.1.0), e)
+unread c x NoMemory e f h = (f, e)
+unread c x Done e f h = absurd h
+unread c x Usage e f h = absurd h
+unread c x WriteFault e f h = absurd h
+unread c x DeviceLost e f h = absurd h
+unread c x (Small need len) e f h = absurd h
+unread c x (Packed p) e f h = absurd h
 
 pub unread_few : (old new : Stream) (status : Status) → Unread old new status → HasReadFew old new status
 unread_few old new ReadFault h = inl h.0
@@ -41,7 +43,8 @@ unread_few old new NoMemory h = inl h.0
 unread_few old new Done h = absurd h
 unread_few old new Usage h = absurd h
 unread_few old new WriteFault h = absurd h
-unread_few old new NotBuilt h = absurd h
+unread_few old new DeviceLost h = absurd h
+unread_few old new (Small need len) h = absurd h
 unread_few old new (Packed p) h = absurd h
 
 pub unread_told : (old new : Stream) (status : Status) → Unread old new status → TellsReadFault old new status
@@ -51,7 +54,8 @@ unread_told old new NoMemory h = inl h.1
 unread_told old new Done h = absurd h
 unread_told old new Usage h = absurd h
 unread_told old new WriteFault h = absurd h
-unread_told old new NotBuilt h = absurd h
+unread_told old new DeviceLost h = absurd h
+unread_told old new (Small need len) h = absurd h
 unread_told old new (Packed p) h = absurd h
 
 pub unread_counts : (old new : Stream) (status : Status) → Unread old new status → old.faults ≤ new.faults
@@ -61,7 +65,8 @@ unread_counts old new NoMemory h = stood old.faults new.faults h.1
 unread_counts old new Done h = absurd h
 unread_counts old new Usage h = absurd h
 unread_counts old new WriteFault h = absurd h
-unread_counts old new NotBuilt h = absurd h
+unread_counts old new DeviceLost h = absurd h
+unread_counts old new (Small need len) h = absurd h
 unread_counts old new (Packed p) h = absurd h
 
 -- ---- an input that was read
@@ -74,25 +79,27 @@ of_given : (left now : Option (List ℕ)) (bytes : List ℕ) (P : List ℕ → T
 of_given None now bytes P h p = tt
 of_given (Some input) now bytes P h p = subst P (sym h.0) p
 
-refused : (c : Command) (x : Exchange) (bytes : List ℕ) (status : Status) → GaveAll x.source.bytes x.source_now.bytes bytes → reply c bytes ≡ Refuses status
-    → OfInput x.source.bytes (λ input. reply c input ≡ Refuses status)
-refused c x bytes status g e = of_given x.source.bytes x.source_now.bytes bytes (λ input. reply c input ≡ Refuses status) g e
+refused : (c : Command) (x : Exchange) (bytes : List ℕ) (status : Status) → GaveAll x.source.bytes x.source_now.bytes bytes → reply_in x c bytes ≡ Refuses status
+    → OfInput x.source.bytes (λ input. reply_in x c input ≡ Refuses status)
+refused c x bytes status g e = of_given x.source.bytes x.source_now.bytes bytes (λ input. reply_in x c input ≡ Refuses status) g e
 
-replied_to : (c : Command) (x : Exchange) (bytes : List ℕ) (status : Status) → GaveAll x.source.bytes x.source_now.bytes bytes → PutReply (reply c bytes) x.sink x.sink_now status
-    → BeforeAnswerLine (Some c) x status
-replied_to c x bytes Done g h = (all_read _ _ _ g, of_given x.source.bytes x.source_now.bytes bytes (IsDone c x) g (record { text = h.0; replies = h.1; put = h.2 }))
-replied_to c x bytes Usage g h = absurd h
-replied_to c x bytes ReadFault g h = absurd h
-replied_to c x bytes WriteFault g h =
+replied_to : (c : Command) (x : Exchange) (bytes : List ℕ) (status : Status) → GaveAll x.source.bytes x.source_now.bytes bytes → PutReply (reply_in x c bytes) x.sink x.sink_now status
+    → LeavesStore x.device x.device_now status → BeforeAnswerLine (Some c) x status
+replied_to c x bytes Done g h f = (all_read _ _ _ g, of_given x.source.bytes x.source_now.bytes bytes (IsDone c x) g (record { text = h.0; replies = h.1; put = h.2 }))
+replied_to c x bytes Usage g h f = absurd h
+replied_to c x bytes ReadFault g h f = absurd h
+replied_to c x bytes WriteFault g h f =
     (h.2.counted, all_read _ _ _ g, of_given x.source.bytes x.source_now.bytes bytes (IsCutOff c x) g (record { text = h.0; replies = h.1; put = h.2 }))
-replied_to c x bytes NoMemory g h = h
-replied_to c x bytes NotBuilt g h = (inl (all_read _ _ _ g), refused c x bytes NotBuilt g h.0, h.1)
-replied_to c x bytes (Script s) g h = (inl (all_read _ _ _ g), refused c x bytes (Script s) g h.0, h.1)
-replied_to c x bytes (Packed p) g h = (inl (all_read _ _ _ g), refused c x bytes (Packed p) g h.0, h.1)
+replied_to c x bytes NoMemory g h f = (f, h)
+replied_to c x bytes DeviceLost g h f =
+    (f, all_read _ _ _ g, of_given x.source.bytes x.source_now.bytes bytes (IsStopped (λ from status. x.sink_now ≡ from) c x) g (record { text = h.0; replies = h.1; middle = x.sink_now; put = h.2; named = refl }))
+replied_to c x bytes (Small need len) g h f = (inl (all_read _ _ _ g), f, refused c x bytes (Small need len) g h.0, h.1)
+replied_to c x bytes (Script s) g h f = (inl (all_read _ _ _ g), f, refused c x bytes (Script s) g h.0, h.1)
+replied_to c x bytes (Packed p) g h f = (inl (all_read _ _ _ g), f, refused c x bytes (Packed p) g h.0, h.1)
 
-pub replied : (c : Command) (x : Exchange) (bytes : List ℕ) (status : Status) → ReadsAll bytes x.source x.source_now → PutReply (reply c bytes) x.sink x.sink_now status
+pub replied : (c : Command) (x : Exchange) (bytes : List ℕ) (status : Status) → ReadsAll bytes x.source x.source_now → PutReply (reply_in x c bytes) x.sink x.sink_now status → LeavesStore x.device x.device_now status
     → BeforeAnswerLine (Some c) x status
-replied c x bytes status g h = replied_to c x bytes status g.gave h
+replied c x bytes status g h f = replied_to c x bytes status g.gave h f
 
 pub read_few : (old new : Stream) (bytes : List ℕ) (status : Status) → ReadsAll bytes old new → length bytes ≤ most_input → HasReadFew old new status
 read_few old new bytes status g l = inl (all_gone old.bytes new.bytes bytes most_input g.gave l)

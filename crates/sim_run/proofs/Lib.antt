@@ -1,9 +1,7 @@
-pub mod Fronts
-pub mod ReadBack
-pub mod Runs
 pub mod OneWord
 pub mod Answering
 pub mod SameCores
 pub mod Promising
 pub mod Inputs
 pub mod Gone
+pub mod Starting

@@ -2,8 +2,8 @@
 use Rattle.std.specs.Prelude.{◌≡◌, ℕ, ◌+◌, ◌≤◌, ◌⊎◌, List, [], length, Option, Some, None}
 use Rattle.nv_base.specs.Streams.{AreGone, AtMostGone, PutsFront, PutsText, FaultCounted, Stream}
 use Rattle.sim_run.specs.Replies.{Puts, Refuses, Reply, reply, status_of, most_input, too_long}
-use Rattle.sim_run.specs.Runs.{PutsStart}
-use Rattle.sim_run.specs.Stores.{Store}
+use Rattle.simulation.specs.Runs.{PutsStart}
+use Rattle.simulation.specs.Stores.{Store}
 use Rattle.answers.specs.Names.{PutsName}
 use Rattle.sim_run.specs.declared.command.Command.{Command}
 use Rattle.answers.specs.declared.status.Status.{Status}

@@ -5,8 +5,8 @@ use Rattle.nv_base.specs.WholeInputs.{Stops}
 use Rattle.nv_base.specs.declared.whole.ReadRefusal.TheVariants as reading
 use Rattle.sim_run.specs.Replies.{Reply, Puts, Refuses, too_long, most_input}
 use Rattle.sim_run.specs.Answers.{AnsweredBy, Exchange}
-use Rattle.sim_run.specs.Runs.{PutsStart}
-use Rattle.sim_run.specs.Stores.{Store}
+use Rattle.simulation.specs.Runs.{PutsStart}
+use Rattle.simulation.specs.Stores.{Store}
 use Rattle.sim_run.specs.declared.command.Command.{Command}
 use Rattle.answers.specs.declared.status.Status.{Status}
 use Rattle.answers.specs.declared.status.Status.TheVariants.{Done, Usage, ReadFault, WriteFault, NoMemory, DeviceLost, Script}

@@ -8,6 +8,7 @@ use Rattle.rv_isa.specs.Texts.{hexadecimal}
 use Rattle.rv_asm.specs.Assembly.{assembled}
 use Rattle.rv_asm.specs.Causes.{AsmError}
 use Rattle.set_model.specs.Sets.{TaskSet}
+use Rattle.kernel_model.specs.Events.{Event}
 use Rattle.schedule_model.specs.Failures.{events_of}
 use Rattle.device_model.specs.Devices.{Device, need_on}
 use Rattle.shadow_index.specs.Tells.{device_of}
@@ -51,15 +52,15 @@ device_for set = device_of set 0
 abbrev pub fresh_run : TaskSet → Origin
 fresh_run set = formatted_origin (device_for set)
 
--- a device of so many words
-abbrev pub script_reply : (len : ℕ) → scripts.Script → Reply
-script_reply len s =
-    if nat_lt len (need_on (device_for s.set)) then Refuses (Small (need_on (device_for s.set)) len)
-    else Puts (report_text (fresh_run s.set) (events_of s.schedule))
+-- on a device of so many words
+abbrev pub fresh_reply : (len : ℕ) → TaskSet → List Event → Reply
+fresh_reply len set events =
+    if nat_lt len (need_on (device_for set)) then Refuses (Small (need_on (device_for set)) len)
+    else Puts (report_text (fresh_run set) events)
 
 abbrev pub run_reply : (len : ℕ) → Result scripts.Script ScriptError → Reply
 run_reply len (Err e) = Refuses (Script e)
-run_reply len (Ok s) = script_reply len s
+run_reply len (Ok s) = fresh_reply len s.set (events_of s.schedule)
 
 -- ---- `asm`: the words of a text, each a line of 8 hexadecimal digits
 

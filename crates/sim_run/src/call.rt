@@ -1,14 +1,18 @@
 //! The call that a program makes.
 
-ghost use Rattle.std.specs.Prelude.{◌≡◌, ◌≤◌, Some, length, map};
+ghost use Rattle.std.specs.Prelude.{◌≡◌, ◌≤◌, Ok, Some, length, map};
 ghost use Rattle.std.specs.Rc.{rc_str_bytes};
 ghost use Rattle.sim_run.specs.Commands.{command_of};
 ghost use Rattle.sim_run.specs.Replies.{reply};
-ghost use Rattle.sim_run.specs.Answers.{Answered, HasReadFew, IsComplete, NeverFalls, OfInput, TellsReadFault, exchange};
+ghost use Rattle.schedule_model.specs.Failures.{events_of};
+ghost use Rattle.script.specs.Parts.{Script};
+ghost use Rattle.script.specs.Reading.{read};
+ghost use Rattle.simulation.specs.Stores.{store};
+ghost use Rattle.sim_run.specs.Answers.{Answered, HasReadFew, IsComplete, LeavesDevice, NeverFalls, OfInput, TellsReadFault, exchange};
 ghost use Rattle.answers.specs.declared.status.Status.TheVariants as Status;
 ghost use Rattle.sim_run.specs.declared.command.Command.TheVariants as Command;
-ghost use Rattle.sim_run.specs.Promises.{IsPromised, KeepsHeadline};
-ghost use Rattle.sim_run.specs.BeforeAnswerLine.{BeforeAnswerLine, PutReply};
+ghost use Rattle.sim_run.specs.Promises.{HasRun, IsPromised, KeepsHeadline, KeepsImages};
+ghost use Rattle.sim_run.specs.BeforeAnswerLine.{BeforeAnswerLine, LeavesStore, PutReply};
 
 use crate::assembly::asm;
 use crate::command::{Command, words_of};
@@ -16,6 +20,7 @@ use crate::input::read_input;
 use crate::packing::{dis, pack};
 use crate::run::run;
 use answers::{Status, put_name};
+use fram_dev::Fram;
 use nv_base::limits::MAX_INPUT;
 use nv_base::{Sink, Source};
 use std::alloc::Global;
@@ -23,13 +28,30 @@ use std::rc::RcStr;
 
 /// What a command replies to an input.
 #[tactic(auto, unfolding(crate::specs::Replies::reply))]
-fn answer<K: Sink>(alloc: Global, command: Command, input: &[u8], out: &mut K) -> Status
+fn answer<K: Sink, F: Fram>(
+    alloc: Global,
+    command: Command,
+    input: &[u8],
+    out: &mut K,
+    dev: &mut F,
+) -> Status
     requires { length input.now ≤ MAX_INPUT }
-    ensures replied { PutReply (reply command input.now) (K.seen out.old) (K.seen out.new) result }
+    ensures replied { let reply = reply command (length (F.start dev.old)) input.now in
+        PutReply reply (K.seen out.old) (K.seen out.new) result }
+    ensures store { let old = store F.start F.log F.lost dev.old in
+        LeavesStore old (store F.start F.log F.lost dev.new) result }
     ensures headline { command ≡ Command.Run → result ≡ Status.Done → IsPromised input.now }
+    ensures images { let old = store F.start F.log F.lost dev.old in
+        let new = store F.start F.log F.lost dev.new in
+        command ≡ Command.Run → (s : Script) → read input.now ≡ Ok s
+        → HasRun s.set (events_of s.schedule) old new }
+    ensures others { let old = store F.start F.log F.lost dev.old in
+        (command ≡ Command.Run → ⊥) → store F.start F.log F.lost dev.new ≡ old }
+    ensures start { F.start dev.new ≡ F.start dev.old }
+    ensures never_falls { F.lost dev.old ≤ F.lost dev.new }
 {
     match command {
-        Command::Run => run(alloc, input, out),
+        Command::Run => run(alloc, input, out, dev),
         Command::Asm => asm(alloc, input, out),
         Command::Dis => dis(alloc, input, out),
         Command::Pack => pack(alloc, input, out),
@@ -38,46 +60,72 @@ fn answer<K: Sink>(alloc: Global, command: Command, input: &[u8], out: &mut K) -
 
 /// All of a call but the line that names its answer.
 #[tactic(auto, using(crate::proofs::Gone::none_gone))]
-fn carry_out<S: Source, K: Sink>(alloc: Global, words: &[RcStr], src: &mut S, out: &mut K) -> Status
-    ensures answer { let x = exchange S.seen K.seen src.old src.new out.old out.new in
+fn carry_out<S: Source, K: Sink, F: Fram>(
+    alloc: Global,
+    words: &[RcStr],
+    src: &mut S,
+    out: &mut K,
+    dev: &mut F,
+) -> Status
+    ensures answer { let seen = store F.start F.log F.lost in
+        let x = exchange S.seen K.seen seen src.old src.new out.old out.new dev.old dev.new in
         BeforeAnswerLine (command_of (map rc_str_bytes words.now)) x result }
     ensures headline { let command = command_of (map rc_str_bytes words.now) in
         command ≡ Some Command.Run → result ≡ Status.Done
         → OfInput (S.seen src.old).bytes IsPromised }
+    ensures images { let seen = store F.start F.log F.lost in
+        let x = exchange S.seen K.seen seen src.old src.new out.old out.new dev.old dev.new in
+        KeepsImages (command_of (map rc_str_bytes words.now)) x }
+    ensures device { let seen = store F.start F.log F.lost in
+        let x = exchange S.seen K.seen seen src.old src.new out.old out.new dev.old dev.new in
+        LeavesDevice (command_of (map rc_str_bytes words.now)) x }
     ensures few { HasReadFew (S.seen src.old) (S.seen src.new) result }
     ensures told { TellsReadFault (S.seen src.old) (S.seen src.new) result }
-    ensures never_falls { NeverFalls (exchange S.seen K.seen src.old src.new out.old out.new) }
+    ensures never_falls { let seen = store F.start F.log F.lost in NeverFalls
+        (exchange S.seen K.seen seen src.old src.new out.old out.new dev.old dev.new) }
 {
     let Ok(command) = words_of(words) else {
         return Status::Usage;
     };
     match read_input(alloc, src) {
-        Ok(input) => answer(alloc, command, input.as_slice(), out),
+        Ok(input) => answer(alloc, command, input.as_slice(), out, dev),
         Err(status) => status,
     }
 }
 
 /// Carries out a command: reads the source to its end, and puts what the command replies to the input. Every other
-/// answer is named by a line, and then nothing else was put, but for a sink that failed on the way. `run` puts the
-/// event machine's report, of which the headline holds. It waits for nobody, and takes all its memory before
-/// anything is put.
-pub fn simulate<S: Source, K: Sink>(
+/// answer is named by a line, and then nothing else was put, but for a sink that failed on the way, or a device that lost
+/// a call. `run` formats the device and puts the event machine's report, of which the headline holds; what the device
+/// holds is known at each of its writes. No other command touches it. It waits for nobody, and takes all its memory before
+/// anything is put or written.
+pub fn simulate<S: Source, K: Sink, F: Fram>(
     alloc: Global,
     words: &[RcStr],
     src: &mut S,
     out: &mut K,
+    dev: &mut F,
 ) -> Status
-    ensures answer { let x = exchange S.seen K.seen src.old src.new out.old out.new in
+    ensures answer { let seen = store F.start F.log F.lost in
+        let x = exchange S.seen K.seen seen src.old src.new out.old out.new dev.old dev.new in
         Answered (command_of (map rc_str_bytes words.now)) x result }
-    ensures headline { let x = exchange S.seen K.seen src.old src.new out.old out.new in
+    ensures headline { let seen = store F.start F.log F.lost in
+        let x = exchange S.seen K.seen seen src.old src.new out.old out.new dev.old dev.new in
         KeepsHeadline (command_of (map rc_str_bytes words.now)) x result }
-    ensures complete { let x = exchange S.seen K.seen src.old src.new out.old out.new in
+    ensures images { let seen = store F.start F.log F.lost in
+        let x = exchange S.seen K.seen seen src.old src.new out.old out.new dev.old dev.new in
+        KeepsImages (command_of (map rc_str_bytes words.now)) x }
+    ensures device { let seen = store F.start F.log F.lost in
+        let x = exchange S.seen K.seen seen src.old src.new out.old out.new dev.old dev.new in
+        LeavesDevice (command_of (map rc_str_bytes words.now)) x }
+    ensures complete { let seen = store F.start F.log F.lost in
+        let x = exchange S.seen K.seen seen src.old src.new out.old out.new dev.old dev.new in
         IsComplete (command_of (map rc_str_bytes words.now)) x result }
     ensures few { HasReadFew (S.seen src.old) (S.seen src.new) result }
     ensures told { TellsReadFault (S.seen src.old) (S.seen src.new) result }
-    ensures never_falls { NeverFalls (exchange S.seen K.seen src.old src.new out.old out.new) }
+    ensures never_falls { let seen = store F.start F.log F.lost in NeverFalls
+        (exchange S.seen K.seen seen src.old src.new out.old out.new dev.old dev.new) }
 {
-    let status = carry_out(alloc, words, src, out);
+    let status = carry_out(alloc, words, src, out, dev);
     put_name(out, status);
     status
 }

@@ -6,7 +6,6 @@ mod call;
 mod command;
 mod input;
 mod packing;
-mod read_back;
 pub mod rows;
 mod run;
 mod texts;
