@@ -1,7 +1,8 @@
 // The call over memory: each answer, with the bytes that it puts. `tables/` has many more texts, which the program answers.
 
 use crate::{Status, simulate};
-use nv_base::{MemSink, MemSource};
+use fram_dev::{Fram, Lost, MemFram};
+use nv_base::{MemSink, MemSource, NoMemory};
 use std::rc::RcStr;
 use std::test::Fail;
 
@@ -9,12 +10,13 @@ use std::test::Fail;
 const ADDING_SET: &str =
     "nvk 1\ncores 1\nmemory 1024\nrecords 1\nobject x 1 2 5\ncode add 100\n00050413 00000513 20000593 00100893\n00000073 20002283 008282b3 20502023\n00200893 00000073 00400893 00000073\nend\n";
 
-/// How a call on this input ends, and what it puts.
-fn ends(
+/// How a call on this input and this device ends, and what it puts.
+fn ends_on<F: Fram>(
     rt: &HostRuntime,
     words: &[&str],
     input: &[u8],
     fails: (&[u32], &[u32]),
+    dev: &mut F,
 ) -> Result<(Status, Vec<u8>), Fail> {
     let mut all = Vec::new(rt.alloc());
     for word in words {
@@ -22,8 +24,25 @@ fn ends(
     }
     let mut src = MemSource::new(rt.alloc(), input, fails.0)?;
     let mut out = MemSink::new(rt.alloc(), 4096, fails.1)?;
-    let status = simulate(rt.alloc(), all.as_slice(), &mut src, &mut out);
+    let status = simulate(rt.alloc(), all.as_slice(), &mut src, &mut out, dev);
     Ok((status, Vec::from_slice(rt.alloc(), out.bytes())?))
+}
+
+/// A device of so many words, all 0.
+fn zeros(rt: &HostRuntime, words: u32) -> Result<MemFram, NoMemory> {
+    let zeros = vec![in rt.alloc(); 0u32; (words % 4096) as usize]?;
+    MemFram::new(rt.alloc(), zeros.as_slice(), 4096)
+}
+
+/// How a call on this input ends on a device of 1,024 words, and what it puts.
+fn ends(
+    rt: &HostRuntime,
+    words: &[&str],
+    input: &[u8],
+    fails: (&[u32], &[u32]),
+) -> Result<(Status, Vec<u8>), Fail> {
+    let mut dev = zeros(rt, 1024)?;
+    ends_on(rt, words, input, fails, &mut dev)
 }
 
 /// Whether a command on this text ends with that exit status, and puts that.
@@ -65,7 +84,8 @@ const TWO: &str = "nvk 1\ncores 2\nmemory 1024\nrecords 1\nobject x 1 2\nprogram
 
 #[test]
 fn other_inputs_and_words_are_named(rt: HostRuntime) -> Result<(), Fail> {
-    assert!(rt; answers(&rt, &["run"], TWO, 11, "error notbuilt\n")?);
+    let report = "end clock 0 number 0 next 1 boots 0\nobject x 0\ndone\n";
+    assert!(rt; answers(&rt, &["run"], TWO, 0, report)?);
     assert!(rt; answers(&rt, &["run"], "", 3, "error script 1 end\n")?);
     assert!(rt; answers(&rt, &["pack"], "nvk 3\n", 3, "error script 1 range\n")?);
     assert!(rt;
@@ -120,5 +140,95 @@ fn faults_are_named(rt: HostRuntime) -> Result<(), Fail> {
     let (status, put) = ends(&rt, &[], b"", (&[], &[1]))?;
     assert!(rt; status == Status::Usage);
     assert!(rt; put.as_slice() == b"".as_slice());
+    Ok(())
+}
+
+/// A run of two tasks on two cores, which needs 83 turns for a boot: each reads an object and writes another.
+const TWO_CORES: &str = "nvk 1\ncores 2\nmemory 1024\nrecords 4\nobject x 1 2 5\nobject y 1 2 8\nprogram cp 100\nsrli t1, a0, 4\nandi a0, a0, 15\nli a1, 512\nli a7, 1\necall\nmv a0, t1\nlw t0, 512(zero)\naddi t0, t0, 1\nsw t0, 512(zero)\nli a7, 2\necall\nli a7, 4\necall\nend\ntask cp 16\ntask cp 1\n";
+
+/// A device that counts its reads.
+#[derive(Drop)]
+struct Counted {
+    memory: MemFram,
+    reads: u64,
+}
+
+impl Fram for Counted {
+    ghost start = { λ c. c.memory.start.items };
+
+    ghost log = { λ c. c.memory.log.items };
+
+    ghost lost = { λ c. c.memory.lost };
+
+    fn len(&self) -> u32 {
+        self.memory.len()
+    }
+
+    fn read(&mut self, at: u32) -> Result<u32, Lost> {
+        self.reads = self.reads.saturating_add(1);
+        self.memory.read(at)
+    }
+
+    fn write(&mut self, at: u32, word: u32) -> Result<(), Lost> {
+        self.memory.write(at, word)
+    }
+
+    fn losses(&self) -> u64 {
+        self.memory.losses()
+    }
+}
+
+/// How often a run of these steps reads its device.
+fn reads_of(rt: &HostRuntime, steps: &str) -> Result<u64, Fail> {
+    let text = format!(in rt.alloc(); "{TWO_CORES}{steps}run\n")?;
+    let mut dev = Counted {
+        memory: zeros(rt, 1024)?,
+        reads: 0,
+    };
+    let (status, _) = ends_on(rt, &["run"], text.as_str().as_bytes(), (&[], &[]), &mut dev)?;
+    assert!(rt; status == Status::Done);
+    Ok(dev.reads)
+}
+
+#[test]
+fn each_copied_word_is_read_from_the_device(rt: HostRuntime) -> Result<(), Fail> {
+    let none = reads_of(&rt, "")?;
+    // both tries have copied their word
+    let two = reads_of(&rt, "steps 0*7 1*7\n")?;
+    assert!(rt; none > 0 && two >= none + 2);
+    Ok(())
+}
+
+#[test]
+fn a_small_device_is_told(rt: HostRuntime) -> Result<(), Fail> {
+    let text = format!(in rt.alloc(); "{ADDING_SET}run\n")?;
+    let input = text.as_str().as_bytes();
+    let mut dev = zeros(&rt, 49)?;
+    let (status, put) = ends_on(&rt, &["run"], input, (&[], &[]), &mut dev)?;
+    assert!(rt; status == Status::Small { need: 50, len: 49 });
+    assert!(rt; put.as_slice() == b"error small 50 49\n".as_slice());
+    Ok(())
+}
+
+/// What a run of one task puts where the device passes so many writes, and makes the lost one or not.
+fn put_before_loss(rt: &HostRuntime, writes: u32, made: bool) -> Result<Vec<u8>, Fail> {
+    let text = format!(in rt.alloc(); "{ADDING_SET}task add 7\nsteps 0*40\nrun\n")?;
+    let words = [0u32; 64];
+    let mut dev = MemFram::fused(rt.alloc(), words.as_slice(), writes, made)?;
+    let (status, put) = ends_on(rt, &["run"], text.as_str().as_bytes(), (&[], &[]), &mut dev)?;
+    assert!(rt; status == Status::DeviceLost);
+    Ok(put)
+}
+
+#[test]
+fn a_lost_call_is_told_behind_the_lines_before(rt: HostRuntime) -> Result<(), Fail> {
+    for made in [false, true] {
+        // within the format
+        let put = put_before_loss(&rt, 9, made)?;
+        assert!(rt; put.as_slice() == b"error device\n".as_slice());
+        // the last write of the finish
+        let put = put_before_loss(&rt, 65, made)?;
+        assert!(rt; put.as_slice() == b"start core 0 task 1 at 0\nerror device\n".as_slice());
+    }
     Ok(())
 }
