@@ -29,6 +29,8 @@ impl Kernel {
         requires long { need_on (device_of self.old.set 0) ≤ length (F.start dev.old) }
         ensures begins { let later = words_of (F.log dev.new) (F.start dev.new) in
             OnOk result (Begins How.Again self.old.set later self.new) }
+        ensures long { let later = words_of (F.log dev.new) (F.start dev.new) in
+            OnOk result (need_on (device_at self.old.set later) ≤ length (F.start dev.new)) }
         ensures written { let words = words_of (F.log dev.old) (F.start dev.old) in OnOk result
             (F.log dev.new ≡ F.log dev.old ++ opening_writes How.Again self.old.set words) }
         ensures refused { let words = words_of (F.log dev.old) (F.start dev.old) in

@@ -5,7 +5,7 @@ ghost use Rattle.nv_base.specs.Streams.{FaultCounted};
 ghost use Rattle.device_model.specs.Devices.{format_on, need_on};
 ghost use Rattle.device_format.specs.Puts.{HasFront};
 ghost use Rattle.shadow_index.specs.Tells.{device_of};
-ghost use Rattle.recovery.specs.Images.{words_of};
+ghost use Rattle.recovery.specs.Images.{device_at, words_of};
 ghost use Rattle.device_model.specs.IndexWords.{Index};
 ghost use Rattle.table_machine.specs.Tables.{Vacant};
 ghost use Rattle.vol_copy.specs.Tries.{IsFor};
@@ -82,6 +82,8 @@ impl Kernel {
         ensures opened { let words = words_of (F.log dev.old) (F.start dev.old) in
             let later = words_of (F.log dev.new) (F.start dev.new) in
             IfOk result (IsOpened how set room words (F.log dev.old) later (F.log dev.new)) }
+        ensures long { let later = words_of (F.log dev.new) (F.start dev.new) in
+            OnOk result (need_on (device_at set later) ≤ length (F.start dev.new)) }
         ensures refused { let words = words_of (F.log dev.old) (F.start dev.old) in
             let len = length (F.start dev.old) in
             IfErr result (IsNotOpened how set words len (F.lost dev.old) (F.lost dev.new)) }
@@ -122,6 +124,8 @@ impl Kernel {
         requires long { need_on (device_of self.old.set 0) ≤ length (F.start dev.old) }
         ensures begins { let later = words_of (F.log dev.new) (F.start dev.new) in
             OnOk result (Begins how self.old.set later self.new) }
+        ensures long { let later = words_of (F.log dev.new) (F.start dev.new) in
+            OnOk result (need_on (device_at self.old.set later) ≤ length (F.start dev.new)) }
         ensures written { let words = words_of (F.log dev.old) (F.start dev.old) in OnOk result
             (F.log dev.new ≡ F.log dev.old ++ opening_writes how self.old.set words) }
         ensures refused { let words = words_of (F.log dev.old) (F.start dev.old) in
@@ -182,6 +186,8 @@ impl Kernel {
         requires long { need_on (device_of self.old.set 0) ≤ length (F.start dev.old) }
         ensures opened { let words = words_of (F.log dev.new) (F.start dev.new) in
             OnOk result (IsOpenedOn self.new words) }
+        ensures long { let later = words_of (F.log dev.new) (F.start dev.new) in
+            OnOk result (need_on (device_at self.old.set later) ≤ length (F.start dev.new)) }
         ensures rest { KeepsSet self.old self.new }
         ensures live { self.new.lost ≡ self.old.lost }
         ensures written { OnOk result

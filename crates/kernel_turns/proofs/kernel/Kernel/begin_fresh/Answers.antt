@@ -113,3 +113,11 @@ returns-clause-left g c =
     let new = g.F.Fram.log c.read_state.new.dev in
     format_left set (g.F.Fram.start c.args.dev.now) (g.F.Fram.start c.read_state.new.dev) old new c.cut_format_is_old_blank_or_first.ensures c.requires.room.2.limits c.requires.long (c.read_state.ensures.start ∙ c.format.ensures.same)
     (front_all (format_on (device_of set 0)) old new (c.read_state.ensures.log ∙ c.in-Ok.ensures.whole))
+
+pub returns-clause-long : goal.returns-clause-long
+returns-clause-long g c =
+    let set = c.args.self.now.set in
+    let mid = g.F.Fram.start c.format.new.dev in
+    let f = formatted set (g.F.Fram.start c.args.dev.now) mid _ _ c.whole_format_holds_first.ensures c.words_hold_one_state.ensures.device c.requires.room.2.limits c.requires.long c.format.ensures.same c.in-Ok.ensures.whole in
+    subst (λ (xs : List ℕ). need_on (device_at set (words_of (g.F.Fram.log c.read_state.new.dev) xs)) ≤ length xs) (sym c.read_state.ensures.start)
+    (subst (λ (l : List Change). need_on (device_at set (words_of l mid)) ≤ length mid) (sym c.read_state.ensures.log) (subst (λ (d : Device). need_on d ≤ length mid) (sym f.device) f.long))

@@ -1,9 +1,11 @@
-use Rattle.std.proofs.Common.{length, ap₂, ◌∙◌, subst}
+use Rattle.std.proofs.Common.{◌≤◌, ℕ, List, length, ap₂, sym, ◌∙◌, subst}
 use Rattle.std.proofs.lemmas.Result.{IfErr-weaker}
-use Rattle.recovery.specs.Images.{words_of}
+use Rattle.device_model.specs.Words.{Words}
+use Rattle.device_model.specs.Devices.{need_on}
+use Rattle.recovery.specs.Images.{device_at, words_of}
 use Rattle.kernel_turns.specs.Opening.{IsNotBooted, IsNotOpened, opening_writes}
 use Rattle.kernel_turns.specs.declared.open.How.TheVariants.{Again}
-use Rattle.kernel_turns.proofs.Stepping.{on_err_here}
+use Rattle.kernel_turns.proofs.Stepping.{on_err_here, on_ok_here}
 use Rattle.kernel_turns.proofs.Moving.{front_all, left_later, not_begun}
 use Rattle.kernel_turns.proofs.kernel.Kernel.go_on.Goals as goal
 
@@ -37,3 +39,15 @@ returns-clause-left g c =
     let start = g.F.Fram.start in
     left_later Again c.args.self.now.set (words_of (log c.args.dev.now) (start c.args.dev.now)) (words_of (log c.move_first.new.dev) (start c.move_first.new.dev)) (words_of (log c.begin_again.new.dev) (start c.begin_again.new.dev))
     (ap₂ words_of c.begin_again.ensures.log c.begin_again.ensures.start) c.move_first.ensures.left
+
+pub returns-clause-long : goal.returns-clause-long
+returns-clause-long g c =
+    let log = g.F.Fram.log in
+    let start = g.F.Fram.start in
+    let last = c.begin_again.new.dev in
+    let set = c.args.self.now.set in
+    let later = words_of (log c.move_first.new.dev) (start c.move_first.new.dev) in
+    let kept = c.begin_again.ensures.start ∙ c.move_first.ensures.start in
+    on_ok_here c.begin_again.result
+    (subst (λ (w : Words). need_on (device_at set w) ≤ length (start last)) (sym (ap₂ words_of c.begin_again.ensures.log c.begin_again.ensures.start))
+    (subst (λ (xs : List ℕ). need_on (device_at set later) ≤ length xs) (sym kept) c.in_default.ensures.ready.long))
