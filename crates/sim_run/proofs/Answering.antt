@@ -4,7 +4,8 @@ use Rattle.nv_base.specs.Streams.{PutsFront, PutsText, FaultCounted, Stream}
 use Rattle.sim_run.specs.Replies.{Refuses, Reply, status_of}
 use Rattle.answers.specs.Names.{PutsName}
 use Rattle.sim_run.specs.Answers.{Answered, AnsweredTo, Exchange, IsComplete, IsCutOff, IsDone, IsStopped, NoFault, OfInput, reply_in}
-use Rattle.sim_run.specs.BeforeAnswerLine.{BeforeAnswerLine, PutReply}
+use Rattle.sim_run.specs.BeforeAnswerLine.{BeforeAnswerLine, LeavesStore, PutOrLost, PutReply}
+use Rattle.simulation.specs.Stores.{Store}
 use Rattle.sim_run.specs.declared.command.Command.{Command}
 use Rattle.answers.specs.declared.status.Status.{Status}
 use Rattle.answers.specs.declared.status.Status.TheVariants.{Done, Usage, ReadFault, WriteFault, NoMemory, DeviceLost, Small, Script, Packed}
@@ -18,7 +19,7 @@ stood m n e = omega (arith, e)
 same_count : (o q : Stream) → q ≡ o → o.faults ≤ q.faults
 same_count o q e = stood o.faults q.faults (ap (λ s. s.faults) e)
 
-pub reply_counts : (r : Reply) (o q : Stream) (status : Status) → PutReply r o q status → o.faults ≤ q.faults
+pub reply_counts : (r : Reply) (o q : Stream) (status : Status) → PutOrLost r o q status → o.faults ≤ q.faults
 reply_counts r o q Done h = stood o.faults q.faults h.2.still
 reply_counts r o q Usage h = absurd h
 reply_counts r o q ReadFault h = absurd h
@@ -28,6 +29,29 @@ reply_counts r o q DeviceLost h = stood o.faults q.faults h.2.put.still
 reply_counts r o q (Small need len) h = same_count o q h.1
 reply_counts r o q (Script e) h = same_count o q h.1
 reply_counts r o q (Packed p) h = same_count o q h.1
+
+-- a command that uses no device
+pub none_lost : (r : Reply) (o q : Stream) (status : Status) → PutReply r o q status → PutOrLost r o q status
+none_lost r o q Done h = h
+none_lost r o q Usage h = h
+none_lost r o q ReadFault h = h
+none_lost r o q WriteFault h = h
+none_lost r o q NoMemory h = h
+none_lost r o q DeviceLost h = absurd h
+none_lost r o q (Small need len) h = h
+none_lost r o q (Script e) h = h
+none_lost r o q (Packed p) h = h
+
+pub none_left : (r : Reply) (o q : Stream) (s : Store) (status : Status) → PutReply r o q status → LeavesStore s s status
+none_left r o q s Done h = tt
+none_left r o q s Usage h = refl
+none_left r o q s ReadFault h = refl
+none_left r o q s WriteFault h = tt
+none_left r o q s NoMemory h = refl
+none_left r o q s DeviceLost h = absurd h
+none_left r o q s (Small need len) h = refl
+none_left r o q s (Script e) h = refl
+none_left r o q s (Packed p) h = refl
 
 pub name_counts : (status : Status) (o q : Stream) → PutsName status o q → o.faults ≤ q.faults
 name_counts status o q (inl h) = stood o.faults q.faults h.still

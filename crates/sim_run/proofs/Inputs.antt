@@ -4,7 +4,7 @@ use Rattle.std.proofs.lemmas.Bool.{lt-ltb}
 use Rattle.nv_base.specs.Streams.{AreGone, GaveAll, ReadsAll, Stream}
 use Rattle.sim_run.specs.Replies.{Refuses, reply, reply_within, too_long, most_input}
 use Rattle.sim_run.specs.Answers.{Exchange, HasReadFew, IsCutOff, IsDone, IsStopped, OfInput, TellsReadFault, reply_in}
-use Rattle.sim_run.specs.BeforeAnswerLine.{BeforeAnswerLine, LeavesStore, PutReply, Unread}
+use Rattle.sim_run.specs.BeforeAnswerLine.{BeforeAnswerLine, LeavesStore, PutOrLost, Unread}
 use Rattle.sim_run.specs.declared.command.Command.{Command}
 use Rattle.answers.specs.declared.status.Status.{Status}
 use Rattle.answers.specs.declared.status.Status.TheVariants.{Done, Usage, ReadFault, WriteFault, NoMemory, DeviceLost, Small, Script, Packed}
@@ -83,7 +83,7 @@ refused : (c : Command) (x : Exchange) (bytes : List ℕ) (status : Status) → 
     → OfInput x.source.bytes (λ input. reply_in x c input ≡ Refuses status)
 refused c x bytes status g e = of_given x.source.bytes x.source_now.bytes bytes (λ input. reply_in x c input ≡ Refuses status) g e
 
-replied_to : (c : Command) (x : Exchange) (bytes : List ℕ) (status : Status) → GaveAll x.source.bytes x.source_now.bytes bytes → PutReply (reply_in x c bytes) x.sink x.sink_now status
+replied_to : (c : Command) (x : Exchange) (bytes : List ℕ) (status : Status) → GaveAll x.source.bytes x.source_now.bytes bytes → PutOrLost (reply_in x c bytes) x.sink x.sink_now status
     → LeavesStore x.device x.device_now status → BeforeAnswerLine (Some c) x status
 replied_to c x bytes Done g h f = (all_read _ _ _ g, of_given x.source.bytes x.source_now.bytes bytes (IsDone c x) g (record { text = h.0; replies = h.1; put = h.2 }))
 replied_to c x bytes Usage g h f = absurd h
@@ -97,7 +97,7 @@ replied_to c x bytes (Small need len) g h f = (inl (all_read _ _ _ g), f, refuse
 replied_to c x bytes (Script s) g h f = (inl (all_read _ _ _ g), f, refused c x bytes (Script s) g h.0, h.1)
 replied_to c x bytes (Packed p) g h f = (inl (all_read _ _ _ g), f, refused c x bytes (Packed p) g h.0, h.1)
 
-pub replied : (c : Command) (x : Exchange) (bytes : List ℕ) (status : Status) → ReadsAll bytes x.source x.source_now → PutReply (reply_in x c bytes) x.sink x.sink_now status → LeavesStore x.device x.device_now status
+pub replied : (c : Command) (x : Exchange) (bytes : List ℕ) (status : Status) → ReadsAll bytes x.source x.source_now → PutOrLost (reply_in x c bytes) x.sink x.sink_now status → LeavesStore x.device x.device_now status
     → BeforeAnswerLine (Some c) x status
 replied c x bytes status g h f = replied_to c x bytes status g.gave h f
 

@@ -36,5 +36,10 @@ PutReply r old new Usage = ⊥
 PutReply r old new ReadFault = ⊥
 PutReply r old new WriteFault = (text : List ℕ) × (r ≡ Puts text) × PutsFront text old new
 PutReply r old new NoMemory = new ≡ old
-PutReply r old new DeviceLost = (text : List ℕ) × (r ≡ Puts text) × PutsStart text old new
+PutReply r old new DeviceLost = ⊥
 PutReply r old new status = (r ≡ Refuses status) × (new ≡ old)
+
+-- the same of a command that uses a device, which may lose a call
+abbrev pub PutOrLost : Reply → Stream → Stream → Status → Type 0
+PutOrLost r old new DeviceLost = (text : List ℕ) × (r ≡ Puts text) × PutsStart text old new
+PutOrLost r old new status = PutReply r old new status

@@ -12,7 +12,7 @@ ghost use Rattle.sim_run.specs.Answers.{Answered, HasReadFew, IsComplete, Leaves
 ghost use Rattle.answers.specs.declared.status.Status.TheVariants as Status;
 ghost use Rattle.sim_run.specs.declared.command.Command.TheVariants as Command;
 ghost use Rattle.sim_run.specs.Promises.{HasRun, IsPromised, KeepsHeadline, KeepsImages};
-ghost use Rattle.sim_run.specs.BeforeAnswerLine.{BeforeAnswerLine, LeavesStore, PutReply};
+ghost use Rattle.sim_run.specs.BeforeAnswerLine.{BeforeAnswerLine, LeavesStore, PutOrLost};
 
 use crate::assembly::asm;
 use crate::command::{Command, words_of};
@@ -37,7 +37,7 @@ fn answer<K: Sink, F: Fram>(
 ) -> Status
     requires { length input.now ≤ MAX_INPUT }
     ensures replied { let reply = reply command (length (F.start dev.old)) input.now in
-        PutReply reply (K.seen out.old) (K.seen out.new) result }
+        PutOrLost reply (K.seen out.old) (K.seen out.new) result }
     ensures store { let old = store F.start F.log F.lost dev.old in
         LeavesStore old (store F.start F.log F.lost dev.new) result }
     ensures headline { command ≡ Command.Run → result ≡ Status.Done → IsPromised input.now }

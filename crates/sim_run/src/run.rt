@@ -9,7 +9,7 @@ ghost use Rattle.script.specs.Reading.{read};
 ghost use Rattle.script.specs.Views.{script_of};
 ghost use Rattle.answers.specs.declared.status.Status.TheVariants as Status;
 ghost use Rattle.simulation.specs.Stores.{store};
-ghost use Rattle.sim_run.specs.BeforeAnswerLine.{LeavesStore, PutReply};
+ghost use Rattle.sim_run.specs.BeforeAnswerLine.{LeavesStore, PutOrLost};
 ghost use Rattle.sim_run.specs.Halts.{status_at};
 ghost use Rattle.sim_run.specs.Replies.{fresh_reply, fresh_run, run_reply};
 ghost use Rattle.sim_run.specs.Promises.{HasRun, IsPromised};
@@ -47,7 +47,7 @@ pub(crate) fn run_events<K: Sink, F: Fram>(
 ) -> Status
     requires cores { schedule.now.cores ≡ set.cores }
     ensures replied { let reply = fresh_reply (length (F.start dev.old)) set (events_of schedule.now) in
-        PutReply reply (K.seen out.old) (K.seen out.new) result }
+        PutOrLost reply (K.seen out.old) (K.seen out.new) result }
     ensures store { let old = store F.start F.log F.lost dev.old in
         LeavesStore old (store F.start F.log F.lost dev.new) result }
     ensures headline { let events = events_of schedule.now in result ≡ Status.Done
@@ -81,7 +81,7 @@ pub(crate) fn run_events<K: Sink, F: Fram>(
 /// Runs the script that an input is, or answers with the first line that is refused.
 pub(crate) fn run<K: Sink, F: Fram>(alloc: Global, input: &[u8], out: &mut K, dev: &mut F) -> Status
     ensures replied { let reply = run_reply (length (F.start dev.old)) (read input.now) in
-        PutReply reply (K.seen out.old) (K.seen out.new) result }
+        PutOrLost reply (K.seen out.old) (K.seen out.new) result }
     ensures store { let old = store F.start F.log F.lost dev.old in
         LeavesStore old (store F.start F.log F.lost dev.new) result }
     ensures headline { result ≡ Status.Done → IsPromised input.now }

@@ -1,12 +1,12 @@
-use Rattle.std.proofs.Common.{inl, refl, subst}
+use Rattle.std.proofs.Common.{inl, length, refl, subst}
 use Rattle.sim_run.specs.Replies.{reply}
-use Rattle.sim_run.specs.BeforeAnswerLine.{PutReply}
+use Rattle.sim_run.specs.BeforeAnswerLine.{PutOrLost}
 use Rattle.sim_run.proofs.Answering.{reply_counts, stood}
 use Rattle.sim_run.proofs.Inputs.{read_few, replied, unread, unread_counts, unread_few, unread_told}
 use Rattle.sim_run.proofs.call.carry_out.Goals as goal
 
 pub returns-in-Err-clause-answer : goal.returns-in-Err-clause-answer
-returns-in-Err-clause-answer g c = rw c.in-Ok.ensures (unread c.in-Ok.command _ c.in-Err.status refl c.in-Err.ensures.unread)
+returns-in-Err-clause-answer g c = rw c.in-Ok.ensures (unread c.in-Ok.command _ c.in-Err.status refl refl c.in-Err.ensures.unread)
 
 pub returns-in-Err-clause-few : goal.returns-in-Err-clause-few
 returns-in-Err-clause-few g c = unread_few _ _ c.in-Err.status c.in-Err.ensures.unread
@@ -15,12 +15,13 @@ pub returns-in-Err-clause-told : goal.returns-in-Err-clause-told
 returns-in-Err-clause-told g c = unread_told _ _ c.in-Err.status c.in-Err.ensures.unread
 
 pub returns-in-Err-clause-never_falls : goal.returns-in-Err-clause-never_falls
-returns-in-Err-clause-never_falls g c = record { source = unread_counts _ _ c.in-Err.status c.in-Err.ensures.unread; sink = stood _ _ refl }
+returns-in-Err-clause-never_falls g c = record { source = unread_counts _ _ c.in-Err.status c.in-Err.ensures.unread; sink = stood _ _ refl; device = stood _ _ refl }
 
 pub returns-in-Ok-read_input-clause-answer : goal.returns-in-Ok-read_input-clause-answer
 returns-in-Ok-read_input-clause-answer g c =
     rw c.in-Ok.ensures (replied c.in-Ok.command _ c.in-Ok-read_input.input.items c.answer.result c.in-Ok-read_input.ensures.given
-    (subst (λ b. PutReply (reply c.in-Ok.command b) (g.K.Sink.seen c.args.out.now) (g.K.Sink.seen c.answer.new.out) c.answer.result) c.as_slice.ensures.value c.answer.ensures.replied))
+    (subst (λ b. PutOrLost (reply c.in-Ok.command (length (g.F.Fram.start c.args.dev.now)) b) (g.K.Sink.seen c.args.out.now) (g.K.Sink.seen c.answer.new.out) c.answer.result) c.as_slice.ensures.value c.answer.ensures.replied)
+    c.answer.ensures.store)
 
 pub returns-in-Ok-read_input-clause-few : goal.returns-in-Ok-read_input-clause-few
 returns-in-Ok-read_input-clause-few g c = read_few _ _ c.in-Ok-read_input.input.items c.answer.result c.in-Ok-read_input.ensures.given c.in-Ok-read_input.ensures.within
@@ -29,4 +30,4 @@ pub returns-in-Ok-read_input-clause-told : goal.returns-in-Ok-read_input-clause-
 returns-in-Ok-read_input-clause-told g c = inl c.in-Ok-read_input.ensures.given.still
 
 pub returns-in-Ok-read_input-clause-never_falls : goal.returns-in-Ok-read_input-clause-never_falls
-returns-in-Ok-read_input-clause-never_falls g c = record { source = stood _ _ c.in-Ok-read_input.ensures.given.still; sink = reply_counts _ _ _ _ c.answer.ensures.replied }
+returns-in-Ok-read_input-clause-never_falls g c = record { source = stood _ _ c.in-Ok-read_input.ensures.given.still; sink = reply_counts _ _ _ _ c.answer.ensures.replied; device = c.answer.ensures.never_falls }

@@ -15,4 +15,4 @@ returns-clause-headline g c = keeps_headline _ _ _ c.carry_out-status.ensures.he
 pub returns-clause-never_falls : goal.returns-clause-never_falls
 returns-clause-never_falls g c =
     let named = answering.name_counts c.carry_out-status.result _ _ c.put_name.ensures in
-    record { source = c.carry_out-status.ensures.never_falls.source; sink = omega (arith, c.carry_out-status.ensures.never_falls.sink, named) }
+    record { source = c.carry_out-status.ensures.never_falls.source; sink = omega (arith, c.carry_out-status.ensures.never_falls.sink, named); device = c.carry_out-status.ensures.never_falls.device }

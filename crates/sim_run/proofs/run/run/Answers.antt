@@ -1,5 +1,11 @@
+use Rattle.simulation.specs.Stores.{store}
 use Rattle.sim_run.proofs.SameCores.{same_cores}
+use Rattle.sim_run.proofs.Starting.{same_script}
 use Rattle.sim_run.proofs.run.run.Goals as goal
 
-pub run_script-requires : goal.run_script-requires
-run_script-requires g c = same_cores c.args.input.now _ c.in-Ok.ensures.reads
+pub run_events-requires : goal.run_events-requires
+run_events-requires g c = record { cores = same_cores c.args.input.now _ c.in-Ok.ensures.reads }
+
+pub returns-in-Ok-clause-images : goal.returns-in-Ok-clause-images
+returns-in-Ok-clause-images g c = λ s e.
+    same_script _ s _ (store g.F.Fram.start g.F.Fram.log g.F.Fram.lost c.args.dev.now) (store g.F.Fram.start g.F.Fram.log g.F.Fram.lost c.run_events.new.dev) c.in-Ok.ensures.reads e c.run_events.ensures.images
