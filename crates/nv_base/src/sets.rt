@@ -61,7 +61,8 @@ impl ObjSet {
 
     /// Takes the least object out: none where the set is empty.
     pub fn take_least(&mut self) -> Option<ObjId>
-        ensures taken { MatchOption result ((self.old ≡ []) × (self.new ≡ [])) (λ o. self.old ≡ o.0 ∷ self.new) }
+        ensures taken { MatchOption result ((self.old ≡ []) × (self.new ≡ []))
+            (λ o. self.old ≡ o.0 ∷ self.new) }
         ensures increasing { IsIncreasing self.old }
         ensures below { AreBelow MAX_OBJECTS self.old }
     {
