@@ -1,5 +1,6 @@
 pub mod Raises
 pub mod Pins
+pub mod Walks
 pub mod Frees
 pub mod OutsideReads
 pub mod Fulls
