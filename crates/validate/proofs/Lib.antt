@@ -1,6 +1,5 @@
 pub mod Raises
 pub mod Pins
-pub mod Walks
 pub mod Frees
 pub mod OutsideReads
 pub mod Fulls

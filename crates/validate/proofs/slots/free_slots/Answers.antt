@@ -5,7 +5,7 @@ use Rattle.interval.specs.Ranges.{range_of}
 use Rattle.object_sets.specs.ObjectSets.{AreBelow, IsIncreasing, is_among}
 use Rattle.validate.specs.Plans.{IsFreeIn}
 use Rattle.validate.proofs.Frees.{none_found, one_slot_more, slot_found, views_moved}
-use Rattle.validate.proofs.Walks.{before_all, first_among, rest_among}
+use Rattle.ver_table.proofs.Walks.{before_all, first_among, rest_among}
 use Rattle.validate.proofs.slots.free_slots.Goals as goal
 
 pub free_slot-free-requires : goal.free_slot-free-requires
