@@ -1,5 +1,5 @@
 -- The interval of a finish is raised by the bounds of what it writes, in whatever order.
-use Rattle.std.proofs.Common.{◌≡◌, ℕ, ◌<◌, Bool, true, false, eqb, ◌||◌, List, [], ◌∷◌, map, max, Option, refl, sym, ap, ◌∙◌, subst, arith}
+use Rattle.std.proofs.Common.{◌≡◌, ℕ, ◌<◌, Bool, true, false, eqb, ◌||◌, List, [], ◌∷◌, map, max, refl, ap, ◌∙◌, subst, arith}
 use Rattle.std.proofs.lemmas.Bool.{eqb-true}
 use Rattle.object_sets.specs.ObjectSets.{AreBelow, is_among}
 use Rattle.kernel_model.specs.Effects.{Write}

@@ -1,4 +1,4 @@
-use Rattle.std.proofs.Common.{◌≡◌, ℕ, List, [], length, refl, sym, ap, ◌∙◌, subst}
+use Rattle.std.proofs.Common.{◌≡◌, ℕ, [], length, refl, sym, ap, ◌∙◌, subst}
 use Rattle.object_sets.specs.ObjectSets.{AreBelow}
 use Rattle.interval.specs.Ranges.{raised_to, range_of}
 use Rattle.table_machine.specs.Tables.{Chain, chain_at}

@@ -1,4 +1,4 @@
-use Rattle.std.proofs.Common.{◌≡◌, ◌<◌, ap, ◌∙◌, arith, length, set, sym, subst}
+use Rattle.std.proofs.Common.{◌<◌, ap, ◌∙◌, arith, length, set, sym, subst}
 use Rattle.std.specs.Prelude.{slice_index}
 use Rattle.ver_table.specs.Chains.{chain_at}
 use Rattle.committed_state.specs.Joining.{touched_by}
