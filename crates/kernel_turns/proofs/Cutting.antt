@@ -3,7 +3,7 @@ use Rattle.std.proofs.Common.{◌≡◌, ℕ, zero, suc, ◌+◌, ◌<◌, Bool,
 use Rattle.std.specs.List.{AllByRecursion}
 use Rattle.std.proofs.lemmas.Bool.{eqb-false, eqb-true}
 use Rattle.std.proofs.lemmas.List.{length-map, length-set}
-use Rattle.object_sets.specs.ObjectSets.{AreBelow, is_among}
+use Rattle.object_sets.specs.ObjectSets.{is_among}
 use Rattle.rv_core.specs.State.{MachineState}
 use Rattle.kernel_model.specs.Effects.{written}
 use Rattle.kernel_model.specs.Items.{FinishRecord}

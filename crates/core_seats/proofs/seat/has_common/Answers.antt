@@ -1,4 +1,4 @@
-use Rattle.std.proofs.Common.{◌≡◌, List, sym, ap, ◌∙◌}
+use Rattle.std.proofs.Common.{sym, ap, ◌∙◌}
 use Rattle.std.specs.List.{list_any}
 use Rattle.object_sets.specs.ObjectSets.{is_among}
 use Rattle.core_seats.proofs.Granted.{common_later, common_now}
