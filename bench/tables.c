@@ -300,13 +300,20 @@ static bool is_taken(const struct chain *c, u32 o, u32 slot, const struct beside
     return false;
 }
 
+/* Takes the least object out of a set that has one. */
+static u32 take_least(objects *set) {
+    uint64_t low = *set, high = *set >> 64;
+    u32 o = low != 0 ? __builtin_ctzll(low) : 64 + __builtin_ctzll(high);
+    *set &= *set - 1;
+    return o;
+}
+
 static bool free_slots(const struct table *t, objects written, const struct view *views, u32 count, struct verdict *v) {
     struct beside b;
     gather(&b, views, count);
     memset(v->slots, 0, sizeof v->slots);
-    for (u32 o = 0; o < t->count; o++) {
-        if (!(written >> o & 1)) continue;
-        u32 slot = 0;
+    for (objects left = written; left != 0;) {
+        u32 o = take_least(&left), slot = 0;
         while (slot < t->chain[o].slots && is_taken(&t->chain[o], o, slot, &b)) slot++;
         if (slot == t->chain[o].slots) { v->is = SLOTS, v->lo = o; return false; }
         v->slots[o] = slot;
@@ -316,8 +323,7 @@ static bool free_slots(const struct table *t, objects written, const struct view
 
 static void validate(const struct table *t, const struct queue *q, const struct attempt *a, struct interval reads,
                      const struct view *views, u32 count, u32 clock, u32 number, struct verdict *v) {
-    for (u32 o = 0; o < t->count; o++)
-        if (a->written >> o & 1) raise_to(&reads, t->chain[o].bound);
+    for (objects left = a->written; left != 0;) raise_to(&reads, t->chain[take_least(&left)].bound);
     if (is_empty(&reads)) { v->is = EMPTY, v->lo = reads.lo, v->hi = reads.hi.point; return; }
     u32 point = a->written == 0 ? reads.lo : reads.hi.some ? reads.hi.point - 1 : clock + 1;
     if (!free_slots(t, a->written, views, count, v)) return;

@@ -1,6 +1,6 @@
 //! A finish that joins, and what it makes of the table of versions.
 
-ghost use Rattle.std.specs.Prelude.{◌≡◌, ◌<◌, ◌≤◌, ℕ, true, length, slice_index, slice_set};
+ghost use Rattle.std.specs.Prelude.{◌≡◌, ◌<◌, ◌≤◌, ◌||◌, ℕ, true, length, slice_index, slice_set};
 ghost use Rattle.object_sets.specs.ObjectSets.{is_among};
 ghost use Rattle.ver_table.specs.Chains.{chain_at};
 ghost use Rattle.committed_state.specs.Joining.{AreTouchedBy, IsFreeAt, touched_by};
@@ -34,9 +34,25 @@ impl Joining {
             → IsFreeAt (slice_index slots.now o) self.now.point.0 (chain_at versions.old o) }
         ensures { AreTouchedBy self.now slots.now count versions.old versions.new }
     {
-        for o in 0..count {
-            self.touch(versions, ObjId(o), slots[usize::from(o)]);
+        let mut left = self.touched();
+        while let Some(o) = left.take_least() {
+            if o.0 < count {
+                self.touch(versions, o, slots[usize::from(o.0)]);
+            }
         }
+    }
+
+    // The objects that were read from outside or written.
+    fn touched(&self) -> ObjSet
+        ensures { (o : ℕ)
+            → is_among o result ≡ (is_among o self.now.written || is_among o self.now.reads) }
+    {
+        let mut all = self.written;
+        let mut left = self.reads;
+        while let Some(o) = left.take_least() {
+            all.add(o);
+        }
+        all
     }
 
     // One object.

@@ -1,9 +1,8 @@
 -- A finish that is granted, all of whose writes are made, and one that joins on another core.
-use Rattle.std.proofs.Common.{◌≡◌, ℕ, ◌+◌, ◌<◌, ◌||◌, ◌==◌, Bool, true, false, List, [], ◌∷◌, Option, Some, None, refl, sym, ap, ◌∙◌, subst, arith, below_more}
+use Rattle.std.proofs.Common.{◌≡◌, ℕ, ◌||◌, Bool, true, false, List, [], ◌∷◌, Option, Some, None, refl, sym, ap, ◌∙◌, subst}
 use Rattle.std.specs.Prelude.{is_some}
 use Rattle.std.specs.List.{list_any}
-use Rattle.std.proofs.lemmas.Bool.{eq-eqb, eqb-true}
-use Rattle.object_sets.specs.ObjectSets.{AreBelow, is_among}
+use Rattle.object_sets.specs.ObjectSets.{is_among}
 use Rattle.rv_core.specs.State.{MachineState}
 use Rattle.nv_base.specs.declared.lines.Entry.{Entry}
 use Rattle.kernel_model.specs.Chain.{cut}
@@ -94,32 +93,10 @@ is_cut s point objects reads law e = λ after i seat p w h. at after i seat p w 
       run = h.run;
     }
 
--- ---- a common object of two sets
+-- ---- a common object of two sets, of which the first is walked over
 
-or-true : (b : Bool) → (b || true) ≡ true
-or-true true = refl
-or-true false = refl
+pub common_now : (objects os all : List ℕ) (o : ℕ) → all ≡ o ∷ os → is_among o objects ≡ true → list_any (λ x. is_among x objects) all ≡ true
+common_now objects os all o e f = ap (list_any (λ x. is_among x objects)) e ∙ ap (λ b. b || list_any (λ x. is_among x objects) os) f
 
-pub any_some : (objects reads : List ℕ) (o : ℕ) → is_among o reads ≡ true → is_among o objects ≡ true → list_any (λ x. is_among x objects) reads ≡ true
-any_some objects [] o e f = absurd (cc e)
-any_some objects (x ∷ reads) o e f = at (x == o) refl e (λ h. any_some objects reads o h f)
-  where
-    at : (b : Bool) → (x == o) ≡ b → (b || is_among o reads) ≡ true → (is_among o reads ≡ true → list_any (λ x. is_among x objects) reads ≡ true) → (is_among x objects || list_any (λ x. is_among x objects) reads) ≡ true
-    at true g h rest = ap (λ b. b || list_any (λ x. is_among x objects) reads) (ap (λ k. is_among k objects) (eqb-true x o g) ∙ f)
-    at false g h rest = ap (λ b. is_among x objects || b) (rest h) ∙ or-true (is_among x objects)
-
--- none of those below a number is a common one
-abbrev pub NoneBelow : (count : ℕ) (objects reads : List ℕ) → Type 0
-NoneBelow count objects reads = (o : ℕ) → o < count → is_among o reads ≡ true → is_among o objects ≡ false
-
-pub none_yet : (objects reads : List ℕ) → NoneBelow 0 objects reads
-none_yet objects reads = λ o l. absurd (omega (arith, l))
-
-pub none_more : (count : ℕ) (objects reads : List ℕ) → NoneBelow count objects reads → (is_among count reads ≡ true → is_among count objects ≡ false) → NoneBelow (count + 1) objects reads
-none_more count objects reads h e = below_more (λ o. is_among o reads ≡ true → is_among o objects ≡ false) count h e
-
-pub any_none : (count : ℕ) (objects reads : List ℕ) → AreBelow count reads → NoneBelow count objects reads → list_any (λ x. is_among x objects) reads ≡ false
-any_none count objects [] b h = refl
-any_none count objects (x ∷ reads) b h =
-    ap (λ c. c || list_any (λ x. is_among x objects) reads) (h x b.0 (ap (λ c. c || is_among x reads) (eq-eqb x x refl)))
-    ∙ any_none count objects reads b.1 (λ o l e. h o l (ap (λ c. (x == o) || c) e ∙ or-true (x == o)))
+pub common_later : (objects os all : List ℕ) (o : ℕ) → all ≡ o ∷ os → is_among o objects ≡ false → list_any (λ x. is_among x objects) all ≡ list_any (λ x. is_among x objects) os
+common_later objects os all o e f = ap (list_any (λ x. is_among x objects)) e ∙ ap (λ b. b || list_any (λ x. is_among x objects) os) f

@@ -3,7 +3,7 @@
 ghost use Rattle.std.specs.Prelude.{◌≡◌, ◌<◌, ◌≤◌, ℕ, IfOk, Some, None, length, true};
 ghost use Rattle.std.specs.Option.{option_map};
 ghost use Rattle.std.specs.List.{list_any};
-ghost use Rattle.object_sets.specs.ObjectSets.{AreBelow, is_among};
+ghost use Rattle.object_sets.specs.ObjectSets.{is_among};
 ghost use Rattle.set_model.specs.Views.{task_of};
 ghost use Rattle.device_model.specs.IndexWords.{Index};
 ghost use Rattle.task_model.specs.TaskSteps.{task_steps};
@@ -21,7 +21,6 @@ ghost use Rattle.core_seats.specs.Others.{task_in, view_in};
 ghost use Rattle.core_seats.specs.Steps.{Completes, CopiesOn, Fetches, Grants, HasVersions, IsCutBy, RunsOn};
 
 use interval::{Interval, Pin};
-use nv_base::limits::MAX_OBJECTS;
 use nv_base::{Entry, NoMemory, ObjId, ObjSet, Point, TaskId, TaskRec};
 use std::alloc::Global;
 use task_set::TaskSet;
@@ -162,27 +161,22 @@ impl Seat {
         }
     }
 
-    /// A finish joins at a point, which wrote these objects, of so many: a try that has read one of them can't stand
-    /// behind it.
-    pub fn cut(&mut self, point: Point, written: ObjSet, count: u8)
-        requires few { count ≤ MAX_OBJECTS }
-        requires reads { AreBelow count self.old.attempt.reads }
+    /// A finish joins at a point, which wrote these objects: a try that has read one of them can't stand behind it.
+    pub fn cut(&mut self, point: Point, written: ObjSet)
         ensures attempt { self.new.attempt ≡ self.old.attempt }
         ensures cuts { IsCutBy point.0 written self.old self.new }
     {
-        self.reads = self.reads_before(point, written, count);
+        self.reads = self.reads_before(point, written);
         seat_is_cut();
     }
 
     // The interval of its reads then.
-    fn reads_before(&self, point: Point, written: ObjSet, count: u8) -> Interval
-        requires few { count ≤ MAX_OBJECTS }
-        requires reads { AreBelow count self.now.attempt.reads }
+    fn reads_before(&self, point: Point, written: ObjSet) -> Interval
         ensures { let read = list_any (λ o. is_among o written) self.now.attempt.reads in
             range_of result ≡ cut_at point.0 read (range_of self.now.reads) }
     {
         let mut reads = self.reads;
-        if has_common(self.attempt.reads(), written, count) {
+        if has_common(self.attempt.reads(), written) {
             reads.cut(point);
         }
         reads
@@ -222,14 +216,13 @@ impl Seat {
     }
 }
 
-// Whether two sets of objects, of which there are so many, have a common one.
-fn has_common(reads: ObjSet, written: ObjSet, count: u8) -> bool
-    requires few { count ≤ MAX_OBJECTS }
-    requires reads { AreBelow count reads }
+// Whether two sets of objects have a common one.
+fn has_common(reads: ObjSet, written: ObjSet) -> bool
     ensures { result ≡ list_any (λ o. is_among o written) reads }
 {
-    for o in 0..count {
-        if reads.has(ObjId(o)) && written.has(ObjId(o)) {
+    let mut left = reads;
+    while let Some(o) = left.take_least() {
+        if written.has(o) {
             return true;
         }
     }

@@ -163,7 +163,7 @@ fn cut_end(seat: &mut Seat, set: &TaskSet, point: u32, o: ObjId) -> Option<u32>
 {
     let mut written = ObjSet::empty();
     written.add(o);
-    seat.cut(Point(point), written, set.objects());
+    seat.cut(Point(point), written);
     seat.reads.hi.map(|p| p.0)
 }
 

@@ -3,7 +3,7 @@ use Rattle.std.proofs.Common.{◌≡◌, ℕ, zero, suc, ◌+◌, ◌<◌, Bool,
 use Rattle.std.specs.List.{AllByRecursion}
 use Rattle.std.proofs.lemmas.Bool.{eqb-false, eqb-true}
 use Rattle.std.proofs.lemmas.List.{length-map, length-set}
-use Rattle.object_sets.specs.ObjectSets.{AreBelow, is_among}
+use Rattle.object_sets.specs.ObjectSets.{is_among}
 use Rattle.rv_core.specs.State.{MachineState}
 use Rattle.kernel_model.specs.Effects.{written}
 use Rattle.kernel_model.specs.Items.{FinishRecord}
@@ -44,11 +44,6 @@ cut_at i (t ∷ held) zero = refl
 cut_at i (t ∷ held) (suc n) = cut_at i held n
 
 -- ---- the loop
-
--- the objects that were read are of the set
-pub reads_below : (set_of : TaskSet) (count : ℕ) (xs : List own.Seat) → count ≡ length set_of.objects → AllByRecursion (λ s. IsFor set_of s.attempt) xs → AllByRecursion (λ s. AreBelow count s.attempt.reads) xs
-reads_below set_of count [] e h = tt
-reads_below set_of count (x ∷ xs) e h = (subst (λ (m : ℕ). AreBelow m x.attempt.reads) (sym e) h.0.reads, reads_below set_of count xs e h.1)
 
 less : (m n : ℕ) → m < n + 1 → (m ≡ n → ⊥) → m < n
 less zero zero b ne = absurd (ne refl)

@@ -1,8 +1,6 @@
 //! One write of a core's commit, and its finish that joins.
 
 ghost use Rattle.std.specs.Prelude.{◌≡◌, ◌<◌, ◌≤◌, ◌⊎◌, IfOk, OnErr, OnOk, false, true, length};
-ghost use Rattle.std.specs.List.{AllByRecursion};
-ghost use Rattle.object_sets.specs.ObjectSets.{AreBelow};
 ghost use Rattle.nv_base.specs.Streams.{FaultCounted};
 ghost use Rattle.rv_core.specs.State.{MachineState};
 ghost use Rattle.device_model.specs.Devices.{need_on};
@@ -19,7 +17,6 @@ use commit_writer::Turn;
 use committed_state::Joining;
 use core_seats::Seat;
 use fram_dev::{Fram, Lost};
-use nv_base::limits::MAX_OBJECTS;
 use nv_base::{CoreId, Entry, Line, ObjSet, Point};
 use vol_copy::Attempt;
 
@@ -79,12 +76,7 @@ impl Kernel {
         let root = self.writer.next_root();
         self.committed
             .join(&self.set, &finish, seat.attempt.spawns(), root);
-        cut_all(
-            &mut self.seats,
-            finish.point,
-            finish.written,
-            self.set.objects(),
-        );
+        cut_all(&mut self.seats, finish.point, finish.written);
         self.listing.push_reserved(saving.entry);
         self.seats[number].clear();
         Line::Finish(saving.entry)
@@ -107,12 +99,10 @@ fn finish_of(attempt: &Attempt, entry: Entry) -> Joining
 }
 
 // A finish at a point, which wrote these objects, cuts what the tries have read.
-fn cut_all(seats: &mut Vec<Seat>, point: Point, written: ObjSet, count: u8)
-    requires few { count ≤ MAX_OBJECTS }
-    requires reads { AllByRecursion (λ s. AreBelow count s.attempt.reads) seats.old.items }
+fn cut_all(seats: &mut Vec<Seat>, point: Point, written: ObjSet)
     ensures { AreCut point.0 written (length seats.old.items) seats.old.items seats.new.items }
 {
     for n in 0..seats.len() {
-        seats[n].cut(point, written, count);
+        seats[n].cut(point, written);
     }
 }

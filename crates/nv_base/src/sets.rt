@@ -1,6 +1,6 @@
 // Sets of objects, each in one word of 128 bits.
 
-ghost use Rattle.std.specs.Prelude.{◌≡◌, ◌<◌, []};
+ghost use Rattle.std.specs.Prelude.{◌≡◌, ◌<◌, ◌∷◌, [], MatchOption};
 ghost use Rattle.object_sets.specs.ObjectSets.{is_among, with_object, AreBelow, IsIncreasing};
 
 use crate::ids::ObjId;
@@ -57,5 +57,20 @@ impl ObjSet {
         ensures below { AreBelow MAX_OBJECTS self.now }
     {
         self.bits >> o.0 & 1 == 1
+    }
+
+    /// Takes the least object out: none where the set is empty.
+    pub fn take_least(&mut self) -> Option<ObjId>
+        ensures taken { MatchOption result ((self.old ≡ []) × (self.new ≡ []))
+            (λ o. self.old ≡ o.0 ∷ self.new) }
+        ensures increasing { IsIncreasing self.old }
+        ensures below { AreBelow MAX_OBJECTS self.old }
+    {
+        if self.bits == 0 {
+            return None;
+        }
+        let least = self.bits.trailing_zeros() as u8;
+        self.bits &= !(1 << least);
+        Some(ObjId(least))
     }
 }

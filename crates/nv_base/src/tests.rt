@@ -49,6 +49,20 @@ fn a_set_has_what_was_added(rt: HostRuntime) -> Result<(), Fail> {
 }
 
 #[test]
+fn the_least_object_is_taken_out(rt: HostRuntime) -> Result<(), Fail> {
+    let mut set = ObjSet::empty();
+    for object in [127, 64, 0] {
+        set.add(ObjId(object));
+    }
+    for object in [0, 64, 127] {
+        assert!(rt; set.take_least() == Some(ObjId(object)));
+    }
+    assert!(rt; set.take_least() == None);
+    assert!(rt; set == ObjSet::empty());
+    Ok(())
+}
+
+#[test]
 fn a_whole_input_is_read_up_to_the_limit(rt: HostRuntime) -> Result<(), Fail> {
     let bytes = [7u8; 5000];
     let mut source = MemSource::new(rt.alloc(), &bytes, &[])?;

@@ -1,8 +1,8 @@
 -- A free slot of the table, as the table machine has it.
-use Rattle.std.proofs.Common.{◌≡◌, ℕ, ◌+◌, ◌<◌, Bool, true, false, List, [], ◌∷◌, length, map, set, eqb, ◌&&◌, Some, None, refl, sym, ◌∙◌, subst, arith, below_more, get_or-set_same, get_or-set_other}
+use Rattle.std.proofs.Common.{◌≡◌, ℕ, ◌<◌, Bool, true, false, List, [], ◌∷◌, length, map, set, eqb, ◌&&◌, ◌||◌, Some, None, refl, sym, ◌∙◌, subst, ap, get_or-set_same, get_or-set_other}
 use Rattle.std.specs.Prelude.{slice_index}
 use Rattle.std.specs.List.{list_any}
-use Rattle.std.proofs.lemmas.Bool.{or_parts}
+use Rattle.std.proofs.lemmas.Bool.{eqb-true, eqb-false, or_parts}
 use Rattle.object_sets.specs.ObjectSets.{is_among}
 use Rattle.interval.specs.Ranges.{range_of}
 use Rattle.interval.specs.declared.ranges.Interval as own
@@ -36,20 +36,17 @@ pub none_found : (chains : List Chain) (views : List View) (others : List Interv
 none_found chains views others pins o laid ended h s = free_is o views others pins (chain_at chains o) None laid ended h s
 
 -- one slot more is found
-pub one_slot_more : (chains : List Chain) (views : List View) (written slots : List ℕ) (o k : ℕ) → o < length slots → ((j : ℕ) → j < o → is_among j written ≡ true → IsFreeIn chains views j (slice_index slots j)) → IsFreeIn chains views o k
-    → (j : ℕ) → j < o + 1 → is_among j written ≡ true → IsFreeIn chains views j (slice_index (set slots o k) j)
-one_slot_more chains views written slots o k l before here =
-    below_more (λ j. is_among j written ≡ true → IsFreeIn chains views j (slice_index (set slots o k) j)) o
-    (λ j b e. let other : j ≡ o → ⊥ = λ f. omega (arith, b, f) in subst (IsFreeIn chains views j) (sym (get_or-set_other slots o j k 0 other)) (before j b e))
-    (λ e. subst (IsFreeIn chains views o) (sym (get_or-set_same slots o k 0 l)) here)
+pub one_slot_more : (chains : List Chain) (views : List View) (left all slots : List ℕ) (o k j : ℕ) → o < length slots → all ≡ o ∷ left → (is_among j all ≡ false → IsFreeIn chains views j (slice_index slots j)) → IsFreeIn chains views o k
+    → is_among j left ≡ false → IsFreeIn chains views j (slice_index (set slots o k) j)
+one_slot_more chains views left all slots o k j l e before here gone = at (eqb o j) refl
+  where
+    at : (b : Bool) → eqb o j ≡ b → IsFreeIn chains views j (slice_index (set slots o k) j)
+    at true f =
+        subst (λ (m : ℕ). IsFreeIn chains views m (slice_index (set slots o k) m)) (eqb-true o j f) (subst (IsFreeIn chains views o) (sym (get_or-set_same slots o k 0 l)) here)
+    at false f =
+        let other : j ≡ o → ⊥ = λ g. eqb-false o j f (sym g) in
+        subst (IsFreeIn chains views j) (sym (get_or-set_other slots o j k 0 other)) (before (ap (is_among j) e ∙ ap (λ b. b || is_among j left) f ∙ gone))
 
 -- the same of what the lists are read as
 pub views_moved : (views : List View) (is js : List own.Interval) (ps qs : List Pin) → AreViews views (map range_of is) ps → js ≡ is → qs ≡ ps → AreViews views (map range_of js) qs
 views_moved views is js ps qs h e f = subst (λ (xs : List own.Interval). AreViews views (map range_of xs) qs) (sym e) (subst (λ (xs : List Pin). AreViews views (map range_of is) xs) (sym f) h)
-
--- one object more that is not written
-pub other_more : (chains : List Chain) (views : List View) (written slots : List ℕ) (o : ℕ) → is_among o written ≡ false → ((j : ℕ) → j < o → is_among j written ≡ true → IsFreeIn chains views j (slice_index slots j))
-    → (j : ℕ) → j < o + 1 → is_among j written ≡ true → IsFreeIn chains views j (slice_index slots j)
-other_more chains views written slots o none before =
-    below_more (λ j. is_among j written ≡ true → IsFreeIn chains views j (slice_index slots j)) o before
-    (λ e. absurd (let both : true ≡ false = sym e ∙ none in cc both))

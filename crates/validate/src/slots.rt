@@ -27,10 +27,9 @@ pub(crate) fn raised(versions: &Versions, written: ObjSet, reads: Interval) -> I
         range_of result ≡ raised_by bounds ws (range_of reads)) }
 {
     let mut interval = reads;
-    for o in 0..versions.objects() {
-        if written.has(ObjId(o)) {
-            raise_behind(&mut interval, versions, ObjId(o));
-        }
+    let mut left = written;
+    while let Some(o) = left.take_least() {
+        raise_behind(&mut interval, versions, o);
     }
     interval
 }
@@ -58,14 +57,13 @@ pub(crate) fn free_slots(
         (λ o. IsFull versions.now views written o.0) }
 {
     let mut slots = [0; MAX_OBJECTS];
-    for o in 0..versions.objects() {
-        if written.has(ObjId(o)) {
-            let free = versions.free_slot(ObjId(o), beside.intervals(), beside.pins());
-            let Some(slot) = free else {
-                return Err(ObjId(o));
-            };
-            slots[usize::from(o)] = slot;
-        }
+    let mut left = written;
+    while let Some(o) = left.take_least() {
+        let free = versions.free_slot(o, beside.intervals(), beside.pins());
+        let Some(slot) = free else {
+            return Err(o);
+        };
+        slots[usize::from(o.0)] = slot;
     }
     Ok(slots)
 }

@@ -1,6 +1,6 @@
 //! Outside reads, free slots and verdicts, worked out by hand.
 
-ghost use Rattle.std.specs.Prelude.{◌≡◌, IfOk, IfSome, None, Some, [], ◌∷◌, length, map, true};
+ghost use Rattle.std.specs.Prelude.{◌≡◌, ◌≤◌, IfOk, IfSome, None, Some, [], ◌∷◌, length, map, true};
 ghost use Rattle.ver_table.specs.Chains.{Chain, chain_at};
 ghost use Rattle.vol_copy.specs.Stages.{is_waiting};
 ghost use Rattle.vol_copy.specs.Tries.{IsFor};
@@ -153,6 +153,33 @@ fn a_read_raises_and_cuts_the_interval(rt: HostRuntime) -> Result<(), Fail> {
     Ok(())
 }
 
+// what a reader has left that has taken the older version of x
+fn old_reads() -> Interval {
+    let mut old = Interval::from(Point(4));
+    old.cut(Point(6));
+    old
+}
+
+// one that begins behind that version, one that has read it, and one that copies it
+fn three_views() -> (View, View, View) {
+    let late = View {
+        interval: Interval::from(Point(6)),
+        copying: None,
+    };
+    let reader = View {
+        interval: old_reads(),
+        copying: None,
+    };
+    let copier = View {
+        interval: Interval::from(Point(6)),
+        copying: Some(Pin {
+            object: ObjId(0),
+            slot: 0,
+        }),
+    };
+    (late, reader, copier)
+}
+
 #[test]
 fn a_written_object_raises_the_interval_and_has_a_slot(rt: HostRuntime) -> Result<(), Fail> {
     let Some(set) = small_set(&rt)? else {
@@ -165,24 +192,8 @@ fn a_written_object_raises_the_interval_and_has_a_slot(rt: HostRuntime) -> Resul
     written.add(ObjId(0));
     let interval = raised(&versions, written, Interval::from(Point(4)));
     assert!(rt; interval == Interval::from(Point(6)));
-    let mut old = Interval::from(Point(4));
-    old.cut(Point(6));
-    let reader = View {
-        interval: old,
-        copying: None,
-    };
-    let late = View {
-        interval: Interval::from(Point(6)),
-        copying: None,
-    };
-    let copier = View {
-        interval: Interval::from(Point(6)),
-        copying: Some(Pin {
-            object: ObjId(0),
-            slot: 0,
-        }),
-    };
-    // (the others, the slot)
+    let (late, reader, copier) = three_views();
+    // (the others, the slot of x that is free beside them)
     let rows = [
         ([late, late], Some(0)),
         ([late, reader], None),
@@ -198,12 +209,14 @@ fn a_written_object_raises_the_interval_and_has_a_slot(rt: HostRuntime) -> Resul
     Ok(())
 }
 
-#[test]
-fn a_finish_is_granted_behind_the_clock_or_told_why_not(rt: HostRuntime) -> Result<(), Fail> {
-    let Some(set) = small_set(&rt)? else {
+// the verdict on a task that has written x, behind these reads and beside these others
+fn verdict_on_x(rt: &HostRuntime, reads: Interval, others: &[View]) -> Result<Verdict, Fail>
+    requires { length others.now ≤ MAX_OTHERS }
+{
+    let Some(set) = small_set(rt)? else {
         return Err(Fail::new("the set is within its limits"));
     };
-    let Some(versions) = table(&rt, &set)? else {
+    let Some(versions) = table(rt, &set)? else {
         return Err(Fail::new("x has slots for two versions"));
     };
     let task = TaskRec {
@@ -211,42 +224,34 @@ fn a_finish_is_granted_behind_the_clock_or_told_why_not(rt: HostRuntime) -> Resu
         program: ProgId(0),
         arg: 0,
     };
-    let Some(attempt) = run(&rt, &set, task)? else {
+    let Some(attempt) = run(rt, &set, task)? else {
         return Err(Fail::new("the task comes to its end"));
     };
     if set.records() == 0 {
         return Err(Fail::new("there is room for a task"));
     }
     let queue = Queue::open(rt.alloc(), &set, &[task], TaskId(5))?;
+    Ok(validate(&versions, &queue, &attempt, reads, others, Point(6), Seq(2)))
+}
+
+#[test]
+fn a_finish_is_granted_behind_the_clock_or_told_why_not(rt: HostRuntime) -> Result<(), Fail> {
     let from = Interval::from(Point(4));
-    let granted = validate(&versions, &queue, &attempt, from, &[], Point(6), Seq(2));
-    let Verdict::Granted(plan) = granted else {
+    let Verdict::Granted(plan) = verdict_on_x(&rt, from, &[])? else {
         return Err(Fail::new("nothing is in the way"));
     };
     assert!(rt; plan.granted.number == Seq(3) && plan.granted.task == TaskId(4));
     assert!(rt; plan.granted.point == Point(7) && plan.granted.first == TaskId(5));
     assert!(rt; plan.granted.outcome == Outcome::Exit(9) && plan.slots[0] == 0);
-    let mut old = from;
-    old.cut(Point(6));
-    let empty = validate(&versions, &queue, &attempt, old, &[], Point(6), Seq(2));
-    let Verdict::Empty { lo, hi } = empty else {
+    let Verdict::Empty { lo, hi } = verdict_on_x(&rt, old_reads(), &[])? else {
         return Err(Fail::new("who read x stands behind the end"));
     };
     assert!(rt; lo == Point(6) && hi == Point(6));
     let reader = View {
-        interval: old,
+        interval: old_reads(),
         copying: None,
     };
-    let full = validate(
-        &versions,
-        &queue,
-        &attempt,
-        from,
-        &[reader],
-        Point(6),
-        Seq(2),
-    );
-    let Verdict::Slots(object) = full else {
+    let Verdict::Slots(object) = verdict_on_x(&rt, from, &[reader])? else {
         return Err(Fail::new("both versions are needed"));
     };
     assert!(rt; object == ObjId(0));

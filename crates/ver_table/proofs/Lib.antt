@@ -12,3 +12,4 @@ pub mod GoesOn
 pub mod PinStays
 pub mod ChainsTabled
 pub mod FreePlaces
+pub mod Walks

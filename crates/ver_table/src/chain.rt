@@ -133,7 +133,8 @@ impl Chain {
 
     /// The least slot that holds neither the newest nor a needed version: None exactly where there is no place.
     pub(crate) fn free_slot(&self, o: ObjId, others: &[Interval], pins: &[Pin]) -> Option<u8>
-        ensures free { IsFreeSlot (is_needed o.0 (map range_of others.now) pins.now) self.now result }
+        ensures free { IsFreeSlot (is_needed o.0 (map range_of others.now) pins.now)
+            self.now result }
         ensures laid { IsLaid self.now }
         ensures ended { AreEnded self.now.stored }
     {

@@ -22,6 +22,14 @@ is_waiting (stage.Fetching object want) = false
 is_waiting (stage.Copying object want copied) = false
 is_waiting (stage.Ready outcome) = true
 
+-- whether it runs
+abbrev pub is_running_in : Stage → Bool
+is_running_in stage.Blank = false
+is_running_in stage.Running = true
+is_running_in (stage.Fetching object want) = false
+is_running_in (stage.Copying object want copied) = false
+is_running_in (stage.Ready outcome) = false
+
 -- the object whose words come one by one, and how many are copied
 abbrev pub copying_in : Stage → Option (ObjId × ℕ)
 copying_in stage.Blank = None

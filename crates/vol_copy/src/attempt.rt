@@ -9,7 +9,7 @@ ghost use Rattle.task_model.specs.TaskSteps.{task_steps};
 ghost use Rattle.table_machine.specs.Tables.{Vacant};
 ghost use Rattle.table_machine.specs.Seats.{start_try};
 ghost use Rattle.vol_copy.specs.declared.want.Want.{Want};
-ghost use Rattle.vol_copy.specs.Stages.{copying_in, is_waiting, outcome_in};
+ghost use Rattle.vol_copy.specs.Stages.{copying_in, is_running_in, is_waiting, outcome_in};
 ghost use Rattle.vol_copy.specs.Tries.{IsFor, IsSeat};
 
 use crate::copied::CopiedWords;
@@ -139,7 +139,8 @@ impl Attempt {
 
     /// Whether it runs: then `advance` is its next turn.
     pub fn is_running(&self) -> bool
-        ensures { IsTrue result → self.now.stage ≡ Stage.Running }
+        ensures exact { result ≡ is_running_in self.now.stage }
+        ensures running { IsTrue result → self.now.stage ≡ Stage.Running }
     {
         matches!(self.stage, Stage::Running)
     }
@@ -147,7 +148,8 @@ impl Attempt {
     /// The object whose words come next, and how many of them are copied: None exactly where none come.
     pub fn copying(&self) -> Option<(ObjId, u8)>
         ensures exact { result ≡ copying_in self.now.stage }
-        ensures copying { IfSome result (λ p. (w : Want) × (self.now.stage ≡ Stage.Copying p.0 w p.1)) }
+        ensures copying { IfSome result (λ p. (w : Want)
+            × (self.now.stage ≡ Stage.Copying p.0 w p.1)) }
     {
         match self.stage {
             Stage::Copying { object, copied, .. } => Some((object, copied)),

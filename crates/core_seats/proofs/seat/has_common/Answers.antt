@@ -1,9 +1,14 @@
-use Rattle.std.proofs.Common.{sym, arith}
-use Rattle.core_seats.proofs.Granted.{any_none, any_some}
+use Rattle.std.proofs.Common.{sym, ap, ◌∙◌}
+use Rattle.std.specs.List.{list_any}
+use Rattle.object_sets.specs.ObjectSets.{is_among}
+use Rattle.core_seats.proofs.Granted.{common_later, common_now}
 use Rattle.core_seats.proofs.seat.has_common.Goals as goal
 
-pub returns-then-has-2 : goal.returns-then-has-2
-returns-then-has-2 c = sym (any_some c.args.written c.args.reads c.loop-o.o (sym c.if-has.ensures.among) (sym c.if-has-2.ensures.among))
+pub returns-then-has : goal.returns-then-has
+returns-then-has c = sym (sym c.loop-o.invariant ∙ common_now c.args.written c.take_least.new.self c.loop-o.left c.in-Some.o.0 c.in-Some.ensures.taken (sym c.has.ensures.among ∙ c.if-has.true))
+
+pub loop-o-preserved : goal.loop-o-preserved
+loop-o-preserved c = sym (common_later c.args.written c.take_least.new.self c.loop-o.left c.in-Some.o.0 c.in-Some.ensures.taken (sym c.has.ensures.among ∙ c.if-has.false)) ∙ c.loop-o.invariant
 
 pub returns : goal.returns
-returns c = sym (any_none c.args.count c.args.written c.args.reads c.requires.reads (λ o l. c.loop-o.invariant o (omega (arith, l, c.loop-o-test.false))))
+returns c = sym (ap (list_any (λ x. is_among x c.args.written)) c.in_default.ensures.taken.0) ∙ c.loop-o.invariant

@@ -2,7 +2,6 @@ use Rattle.std.proofs.Common.{true, ℕ, ◌<◌, set, length, arith, ap, subst}
 use Rattle.std.specs.Vec.{with_item}
 use Rattle.vol_copy.specs.Tries.{IsFor}
 use Rattle.core_seats.specs.declared.seat.Seat as own
-use Rattle.kernel_turns.proofs.Cutting.{reads_below}
 use Rattle.kernel_turns.proofs.Writing.{by_saving, one_place}
 use Rattle.kernel_turns.proofs.MayJoin.{may_join}
 use Rattle.kernel_turns.proofs.Joined.{joins}
@@ -16,9 +15,6 @@ join-requires-clause-may c =
     let finish = c.finish_of-finish.ensures in
     may_join k c.requires.lawful.0 c.requires.lawful.1 c.args.core.0 at c.requires.lawful.2 c.requires.lawful.3 c.finish_of-finish.result c.spawns.result.now
     (record { task = finish.task; point = finish.point; reads = finish.reads; written = finish.written }) c.spawns.ensures
-
-pub cut_all-requires-clause-reads : goal.cut_all-requires-clause-reads
-cut_all-requires-clause-reads c = reads_below c.args.self.now.set _ c.args.self.now.seats.items c.objects.ensures.exact c.requires.lawful.2.attempts
 
 pub returns-clause-turns : goal.returns-clause-turns
 returns-clause-turns c =
