@@ -3,8 +3,8 @@ use Rattle.std.specs.List.{AllByRecursion}
 use Rattle.interval.specs.declared.version.Version.{Version}
 use Rattle.ver_table.specs.Chains.{Chain, chain_at, installed}
 use Rattle.object_sets.proofs.ForCallers.{all_append}
-use Rattle.validate.proofs.tests.Stands.{Stands, newest_stands, others_stand}
-use Rattle.validate.proofs.tests.standing.Table.install.Goals as goal
+use Rattle.table_histories.proofs.tests.Stands.{Stands, newest_stands, others_stand}
+use Rattle.table_histories.proofs.tests.standing.Table.install.Goals as goal
 
 pub invariant_of-self : goal.invariant_of-self
 invariant_of-self c =

@@ -5,8 +5,8 @@ use Rattle.std.specs.List.{AllByRecursion}
 use Rattle.interval.specs.declared.version.Version.{Version}
 use Rattle.set_model.specs.Sets.{ObjPart, TaskSet, object_at}
 use Rattle.ver_table.specs.Chains.{AreNamed, AreOpened, Chain}
-use Rattle.validate.proofs.tests.Stands.{Stands, first_stands}
-use Rattle.validate.proofs.tests.standing.Table.opened.Goals as goal
+use Rattle.table_histories.proofs.tests.Stands.{Stands, first_stands}
+use Rattle.table_histories.proofs.tests.standing.Table.opened.Goals as goal
 
 -- three objects with a slot each have the first one named
 named : (set : TaskSet) (parts : List ObjPart) → set.objects ≡ parts → length parts ≡ 3 → 0 < (object_at set 0).slots → 0 < (object_at set 1).slots → 0 < (object_at set 2).slots → AreNamed (map (λ (p : ObjPart). p.slots) parts) (0 ∷ 0 ∷ 0 ∷ [])

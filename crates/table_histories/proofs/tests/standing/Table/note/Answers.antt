@@ -1,8 +1,8 @@
 use Rattle.std.proofs.Common.{◌≡◌, ◌<◌, List, length, sym, subst, arith}
 use Rattle.std.specs.List.{AllByRecursion}
 use Rattle.ver_table.specs.Chains.{Chain, chain_at, noted}
-use Rattle.validate.proofs.tests.Stands.{Stands, all_after}
-use Rattle.validate.proofs.tests.standing.Table.note.Goals as goal
+use Rattle.table_histories.proofs.tests.Stands.{Stands, all_after}
+use Rattle.table_histories.proofs.tests.standing.Table.note.Goals as goal
 
 pub invariant_of-self : goal.invariant_of-self
 invariant_of-self c =

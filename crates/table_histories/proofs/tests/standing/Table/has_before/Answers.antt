@@ -4,8 +4,8 @@ use Rattle.interval.specs.Ranges.{number_of}
 use Rattle.interval.specs.declared.version.Version.{Version}
 use Rattle.kernel_model.specs.Room.{is_below}
 use Rattle.ver_table.specs.Chains.{Chain, chain_at, newest_before}
-use Rattle.validate.proofs.tests.Stands.{Stands, before_is}
-use Rattle.validate.proofs.tests.standing.Table.has_before.Goals as goal
+use Rattle.table_histories.proofs.tests.Stands.{Stands, before_is}
+use Rattle.table_histories.proofs.tests.standing.Table.has_before.Goals as goal
 
 pub returns : goal.returns
 returns c t =

@@ -2,8 +2,8 @@ use Rattle.std.proofs.Common.{◌≡◌, ◌==◌, List, true, None, ap, sym, �
 use Rattle.std.specs.List.{list_any}
 use Rattle.nv_base.specs.declared.lines.TaskRec as base
 use Rattle.kernel_model.specs.Replay.{TaskRec, task_under}
-use Rattle.validate.proofs.tests.Stands.{told_is_open}
-use Rattle.validate.proofs.tests.beside_plain.Kernel.is_open.Goals as goal
+use Rattle.table_histories.proofs.tests.Stands.{told_is_open}
+use Rattle.table_histories.proofs.tests.kernel.is_open.Goals as goal
 
 pub returns : goal.returns
 returns c t f =
