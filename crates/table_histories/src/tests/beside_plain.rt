@@ -225,9 +225,7 @@ impl Pair {
             self.give_up(held.core);
             return Ok(true);
         };
-        let given = self
-            .kernel
-            .join(alloc, &held, others, Point(point), slots)?;
+        let given = self.kernel.join(alloc, &held, others, Point(point), slots)?;
         self.plain
             .finish(held.core, run_of(held.task.arg), point, slots)?;
         Ok(given == Some(first))

@@ -114,12 +114,7 @@ impl Counts {
 }
 
 // one step of a core: whether both agree
-fn step(
-    alloc: Global,
-    pair: &mut Pair,
-    core: u8,
-    counts: &mut Counts,
-) -> Result<bool, NoMemory> {
+fn step(alloc: Global, pair: &mut Pair, core: u8, counts: &mut Counts) -> Result<bool, NoMemory> {
     let Some(told) = pair.step(alloc, core)? else {
         return Ok(false);
     };

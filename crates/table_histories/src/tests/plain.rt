@@ -7,12 +7,11 @@ mod serial;
 mod span;
 mod verdict;
 
-pub(crate) use span::Span;
-pub(crate) use verdict::Answer;
-
 use super::small_tasks::{Start, has};
 use nv_base::NoMemory;
+pub(crate) use span::Span;
 use std::alloc::Global;
+pub(crate) use verdict::Answer;
 
 // A finish. Its number is its place in the list; the first one made the tasks and the versions of the beginning.
 #[derive(Clone, Copy)]

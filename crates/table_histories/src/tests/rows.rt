@@ -73,12 +73,7 @@ fn copied(core: u8) -> (u8, Told) {
 }
 
 // whether these tasks make these steps, and tables and plain program agree all along
-fn makes(
-    alloc: Global,
-    records: u8,
-    args: &[u32],
-    steps: &[(u8, Told)],
-) -> Result<bool, NoMemory> {
+fn makes(alloc: Global, records: u8, args: &[u32], steps: &[(u8, Told)]) -> Result<bool, NoMemory> {
     let start = Start {
         slots: [2, 2, 2],
         records,

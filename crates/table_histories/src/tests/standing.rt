@@ -184,9 +184,11 @@ impl Table {
         if o >= self.versions.objects() {
             return Ok(false);
         }
-        let free =
-            self.versions
-                .free_slot(ObjId(o), others.intervals.as_slice(), others.pins.as_slice());
+        let free = self.versions.free_slot(
+            ObjId(o),
+            others.intervals.as_slice(),
+            others.pins.as_slice(),
+        );
         if free != Some(slot) || p.0 < self.versions.bound(ObjId(o)).0 {
             return Ok(false);
         }

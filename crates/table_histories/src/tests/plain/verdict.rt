@@ -16,11 +16,17 @@ pub(crate) enum Answer {
         slots: [u8; 3],
     },
     /// No point is left for it.
-    Empty { lo: u32, hi: u32 },
+    Empty {
+        lo: u32,
+        hi: u32,
+    },
     /// This object has no slot for its new version.
     Slots(u8),
     /// The open tasks, and those that it spawns, find no records.
-    Records { pending: u32, spawns: u32 },
+    Records {
+        pending: u32,
+        spawns: u32,
+    },
 }
 
 impl Plain {
