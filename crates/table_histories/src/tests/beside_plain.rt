@@ -33,11 +33,27 @@ pub(crate) struct Pair {
     plain: Plain,
 }
 
+// An end as the plain program has it.
+fn end(hi: Option<Point>) -> Option<u32> {
+    match hi {
+        None => None,
+        Some(hi) => Some(hi.0),
+    }
+}
+
 // An interval as the plain program has it.
 fn span(interval: Interval) -> Span {
     Span {
         lo: interval.lo.0,
-        hi: interval.hi.map(|p| p.0),
+        hi: end(interval.hi),
+    }
+}
+
+// whether it is a task with this id, or none is wanted
+fn is_task(task: Option<TaskRec>, wanted: Option<u32>) -> bool {
+    match task {
+        None => wanted.is_none(),
+        Some(task) => wanted == Some(task.id.0),
     }
 }
 
@@ -52,9 +68,8 @@ fn unread(run: Run, read: u32) -> Option<u8> {
 }
 
 // a core that has begun a task
-fn begun(core: u8, task: TaskRec, clock: Point) -> Held {
+fn begun(task: TaskRec, clock: Point) -> Held {
     Held {
-        core,
         task,
         start: clock,
         interval: Interval::from(clock),
@@ -104,104 +119,108 @@ impl Pair {
     // a vacant core begins the least task that is ready
     fn begin(&mut self, alloc: Global, core: u8) -> Result<Option<Told>, NoMemory> {
         let ready = self.kernel.ready(alloc)?;
-        if ready.map(|t| t.id.0) != self.plain.ready() {
+        if !is_task(ready, self.plain.ready()) {
             return Ok(None);
         }
         let Some(task) = ready else {
             return Ok(Some(Told::Nothing));
         };
-        self.kernel
-            .cores
-            .hold(begun(core, task, self.kernel.clock))?;
-        self.plain.begin(core, task.id.0)?;
+        let held = begun(task, self.kernel.clock);
+        self.kernel.cores.hold(core, Some(held));
+        self.plain.begin(core, task.id.0);
         Ok(Some(Told::Began(task.id.0)))
     }
 
     // a core has copied what it read
-    fn copied(&mut self, held: Held) -> Result<Option<Told>, NoMemory> {
-        self.kernel.cores.hold(Held {
-            copying: None,
-            ..held
-        })?;
-        self.plain.copy(held.core, None)?;
-        Ok(Some(Told::Copied))
+    fn copied(&mut self, core: u8, held: Held) -> Told {
+        self.kernel.cores.hold(
+            core,
+            Some(Held {
+                copying: None,
+                ..held
+            }),
+        );
+        self.plain.copied(core);
+        Told::Copied
     }
 
     // a core gives its task up
     fn give_up(&mut self, core: u8) {
-        self.kernel.cores.release(core);
+        self.kernel.cores.hold(core, None);
         self.plain.drop_try(core);
     }
 
     // a core reads an object from outside
-    fn fetch(&mut self, held: Held, object: u8) -> Result<Option<Told>, NoMemory> {
-        match self.kernel.trial.table.read(object, held.interval) {
-            None => Ok(None),
-            Some(Err(stale)) => Ok(self.is_stale(held, stale)),
-            Some(Ok((version, left))) => self.opens(held, object, version, left),
+    fn fetch(&mut self, core: u8, held: Held, object: u8) -> Option<Told> {
+        match self.kernel.trial.table.read(object, held.interval)? {
+            Err(stale) => self.is_stale(core, stale),
+            Ok((version, left)) => self.opens(core, held, object, version, left),
         }
     }
 
     // a core is stale between these points
-    fn is_stale(&mut self, held: Held, stale: Stale) -> Option<Told> {
-        let interval = self.plain.interval(held.core);
-        let same = Span {
-            lo: stale.lo.0,
-            hi: Some(stale.hi.0),
-        };
-        if !interval.is_empty() || interval != same {
+    fn is_stale(&mut self, core: u8, stale: Stale) -> Option<Told> {
+        let (lo, hi) = (stale.lo.0, stale.hi.0);
+        let interval = self.plain.interval(core);
+        if hi > lo || interval != (Span { lo, hi: Some(hi) }) {
             return None;
         }
-        self.give_up(held.core);
-        Some(Told::Stale {
-            lo: stale.lo.0,
-            hi: stale.hi.0,
-        })
+        self.give_up(core);
+        Some(Told::Stale { lo, hi })
     }
 
     // a core reads this version, and this is left of its interval
     fn opens(
         &mut self,
+        core: u8,
         held: Held,
         object: u8,
         version: Version,
         left: Interval,
-    ) -> Result<Option<Told>, NoMemory> {
-        let before = self.plain.interval(held.core);
-        let Some(writer) = self.plain.chosen(object, before.hi) else {
-            return Ok(None);
-        };
-        self.plain.open(held.core, object, writer)?;
-        self.kernel.cores.hold(reading(held, version, left))?;
-        let same = !before.is_empty()
-            && version.object.0 == object
-            && self.is_written_by(version, writer)
-            && self.plain.interval(held.core) == span(left);
-        if !same {
-            return Ok(None);
+    ) -> Option<Told> {
+        let writer = self.chosen(core, object)?;
+        self.plain.open(core, object, writer);
+        self.kernel
+            .cores
+            .hold(core, Some(reading(held, version, left)));
+        if version.object.0 != object || self.plain.interval(core) != span(left) {
+            return None;
         }
-        Ok(Some(Told::Reads {
+        self.told_read(version, writer)
+    }
+
+    // the finish whose version of an object a core reads: None where no point is in its interval
+    fn chosen(&self, core: u8, object: u8) -> Option<u32> {
+        let interval = self.plain.interval(core);
+        if interval.is_empty() {
+            return None;
+        }
+        self.plain.chosen(object, interval.hi)
+    }
+
+    // what is told of a version that is read: None where it is not that of this finish
+    fn told_read(&self, version: Version, writer: u32) -> Option<Told> {
+        let object = version.object.0;
+        if self.plain.slot_of(object, writer) != Some(version.slot)
+            || self.plain.point(writer) != version.begin.0
+        {
+            return None;
+        }
+        Some(Told::Reads {
             slot: version.slot,
             begin: version.begin.0,
             newest: self.plain.chosen(object, None) == Some(writer),
-        }))
-    }
-
-    // whether a version is that of a finish of the plain program
-    fn is_written_by(&self, version: Version, writer: u32) -> bool {
-        self.plain.slot_of(version.object.0, writer) == Some(version.slot)
-            && self.plain.point(writer) == version.begin.0
+        })
     }
 
     // a core asks for its finish, and finishes where it may
-    fn ask(&mut self, alloc: Global, held: Held) -> Result<Option<Told>, NoMemory> {
-        let others = self.kernel.cores.others(alloc, held.core)?;
-        let run = run_of(held.task.arg);
-        let expected = self.plain.verdict(alloc, held.core, run)?;
+    fn ask(&mut self, alloc: Global, core: u8, held: Held) -> Result<Option<Told>, NoMemory> {
+        let others = self.kernel.cores.others(alloc, core)?;
+        let expected = self.plain.verdict(alloc, core, run_of(held.task.arg))?;
         if self.kernel.ask(&held, &others) != Some(expected) {
             return Ok(None);
         }
-        if !self.ends(alloc, held, &others, expected)? {
+        if !self.ends(alloc, core, held, &others, expected)? {
             return Ok(None);
         }
         Ok(Some(Told::Asked(expected)))
@@ -211,6 +230,7 @@ impl Pair {
     fn ends(
         &mut self,
         alloc: Global,
+        core: u8,
         held: Held,
         others: &Others,
         answer: Answer,
@@ -222,12 +242,14 @@ impl Pair {
             ..
         } = answer
         else {
-            self.give_up(held.core);
+            self.give_up(core);
             return Ok(true);
         };
-        let given = self.kernel.join(alloc, &held, others, Point(point), slots)?;
+        let given = self
+            .kernel
+            .join(alloc, core, &held, others, Point(point), slots)?;
         self.plain
-            .finish(held.core, run_of(held.task.arg), point, slots)?;
+            .finish(core, run_of(held.task.arg), point, slots)?;
         Ok(given == Some(first))
     }
 
@@ -237,11 +259,11 @@ impl Pair {
             return self.begin(alloc, core);
         };
         if held.copying.is_some() {
-            return self.copied(held);
+            return Ok(Some(self.copied(core, held)));
         }
         match unread(run_of(held.task.arg), held.read) {
-            Some(object) => self.fetch(held, object),
-            None => self.ask(alloc, held),
+            Some(object) => Ok(self.fetch(core, held, object)),
+            None => self.ask(alloc, core, held),
         }
     }
 
@@ -267,12 +289,20 @@ impl Pair {
     }
 
     fn intervals_agree(&self) -> bool {
-        for held in self.kernel.cores.all() {
-            if span(held.interval) != self.plain.interval(held.core) {
+        for core in 0..8 {
+            if !self.interval_agrees(core) {
                 return false;
             }
         }
         true
+    }
+
+    // whether it is so of one core
+    fn interval_agrees(&self, core: u8) -> bool {
+        match self.kernel.cores.on(core) {
+            None => true,
+            Some(held) => span(held.interval) == self.plain.interval(core),
+        }
     }
 
     // whether each version that stands in a slot is the last one that came into it, with the same life
@@ -290,8 +320,10 @@ impl Pair {
         let Some(writer) = self.plain.holder(version.object.0, version.slot) else {
             return false;
         };
-        let end = self.plain.end(version.object.0, writer).map(|p| Point(p));
+        let Some(hi) = self.kernel.trial.table.end_of(place) else {
+            return false;
+        };
         self.plain.point(writer) == version.begin.0
-            && self.kernel.trial.table.end_of(place) == Some(end)
+            && self.plain.end(version.object.0, writer) == end(hi)
     }
 }

@@ -5,10 +5,10 @@ use nv_base::{NoMemory, Point, TaskId, TaskRec};
 use std::alloc::Global;
 use validate::View;
 
-/// What a core holds: a task, the interval of its reads, the objects that it has read, and the slot that it copies from.
+/// What a core holds: a task, the interval of its reads, the objects that it has read, and the slot that it copies
+/// from.
 #[derive(Clone, Copy)]
 pub(crate) struct Held {
-    pub(crate) core: u8,
     pub(crate) task: TaskRec,
     pub(crate) start: Point,
     pub(crate) interval: Interval,
@@ -24,92 +24,106 @@ pub(crate) struct Others {
     pub(crate) pins: Vec<Pin>,
 }
 
-impl Others {
-    // one more
-    fn add(&mut self, held: &Held) -> Result<(), NoMemory> {
-        self.views.push(View {
-            interval: held.interval,
-            copying: held.copying,
-        })?;
-        self.intervals.push(held.interval)?;
-        if let Some(pin) = held.copying {
-            self.pins.push(pin)?;
-        }
-        Ok(())
-    }
-}
-
-/// All that the cores hold.
+/// What each core holds, by its number.
 #[derive(Drop)]
 pub(crate) struct Cores {
-    held: Vec<Held>,
+    held: [Option<Held>; 8],
 }
 
 impl Cores {
     /// Cores that hold nothing.
-    pub(crate) fn new(alloc: Global) -> Cores {
-        Cores {
-            held: Vec::new(alloc),
-        }
-    }
-
-    /// What each core holds that holds something.
-    pub(crate) fn all(&self) -> &[Held] {
-        self.held.as_slice()
+    pub(crate) fn new() -> Cores {
+        Cores { held: [None; 8] }
     }
 
     /// What a core holds.
     pub(crate) fn on(&self, core: u8) -> Option<Held> {
-        for held in &self.held {
-            if held.core == core {
-                return Some(*held);
-            }
+        match self.held.get(usize::from(core)) {
+            Some(held) => *held,
+            None => None,
         }
-        None
     }
 
-    /// A core has nothing more.
-    pub(crate) fn release(&mut self, core: u8) {
-        self.held.retain(|h| h.core != core);
-    }
-
-    /// A core holds this.
-    pub(crate) fn hold(&mut self, held: Held) -> Result<(), NoMemory> {
-        self.release(held.core);
-        self.held.push(held)?;
-        Ok(())
+    /// A core holds this, or nothing.
+    pub(crate) fn hold(&mut self, core: u8, held: Option<Held>) {
+        if let Some(place) = self.held.get_mut(usize::from(core)) {
+            *place = held;
+        }
     }
 
     /// The tasks that are held.
     pub(crate) fn tasks(&self, alloc: Global) -> Result<Vec<TaskId>, NoMemory> {
         let mut tasks = Vec::new(alloc);
-        for held in &self.held {
-            tasks.push(held.task.id)?;
+        for core in 0..8 {
+            if let Some(held) = self.on(core) {
+                tasks.push(held.task.id)?;
+            }
         }
         Ok(tasks)
     }
 
-    /// What is kept of the attempts on all cores but this.
-    pub(crate) fn others(&self, alloc: Global, core: u8) -> Result<Others, NoMemory> {
-        let mut others = Others {
-            views: Vec::new(alloc),
-            intervals: Vec::new(alloc),
-            pins: Vec::new(alloc),
-        };
-        for held in &self.held {
-            if held.core != core {
-                others.add(held)?;
+    // what is kept of the attempts on all cores but this
+    fn views(&self, alloc: Global, own: u8) -> Result<Vec<View>, NoMemory> {
+        let mut views = Vec::new(alloc);
+        for core in 0..8 {
+            if core != own
+                && let Some(held) = self.on(core)
+            {
+                views.push(View {
+                    interval: held.interval,
+                    copying: held.copying,
+                })?;
             }
         }
-        Ok(others)
+        Ok(views)
+    }
+
+    /// What is kept of the attempts on all cores but this.
+    pub(crate) fn others(&self, alloc: Global, own: u8) -> Result<Others, NoMemory> {
+        let views = self.views(alloc, own)?;
+        Ok(Others {
+            intervals: intervals_of(alloc, views.as_slice())?,
+            pins: pins_of(alloc, views.as_slice())?,
+            views,
+        })
+    }
+
+    // cuts the interval of a core, if it has read one of these objects
+    fn cut_on(&mut self, core: u8, writes: u32, p: Point) {
+        let Some(held) = self.on(core) else {
+            return;
+        };
+        if held.read & writes != 0 {
+            let mut interval = held.interval;
+            interval.cut(p);
+            self.hold(core, Some(Held { interval, ..held }));
+        }
     }
 
     /// Cuts the intervals of those that have read what a finish at this point writes.
     pub(crate) fn cut(&mut self, writes: u32, p: Point) {
-        for held in &mut self.held {
-            if held.read & writes != 0 {
-                held.interval.cut(p);
-            }
+        for core in 0..8 {
+            self.cut_on(core, writes, p);
         }
     }
+}
+
+// the intervals of some attempts
+fn intervals_of(alloc: Global, views: &[View]) -> Result<Vec<Interval>, NoMemory> {
+    let mut intervals = Vec::new(alloc);
+    for view in views {
+        intervals.push(view.interval)?;
+    }
+    Ok(intervals)
+}
+
+// the slots that some attempts copy from
+fn pins_of(alloc: Global, views: &[View]) -> Result<Vec<Pin>, NoMemory> {
+    let mut pins = Vec::new(alloc);
+    for view in views {
+        if let Some(pin) = view.copying {
+            pins.push(pin)?;
+        }
+    }
+    Ok(pins)
 }

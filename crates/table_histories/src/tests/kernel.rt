@@ -106,7 +106,7 @@ impl Kernel {
         Ok(Some(Kernel {
             trial,
             queue,
-            cores: Cores::new(alloc),
+            cores: Cores::new(),
             clock: Point(start.clock),
             number: Seq(0),
         }))
@@ -138,6 +138,7 @@ impl Kernel {
     pub(crate) fn join(
         &mut self,
         alloc: Global,
+        core: u8,
         held: &Held,
         others: &Others,
         p: Point,
@@ -149,7 +150,7 @@ impl Kernel {
             return Ok(None);
         }
         self.count(p);
-        self.cores.release(held.core);
+        self.cores.hold(core, None);
         self.cores.cut(run.writes, p);
         Ok(finish_task(&mut self.queue, held.task.id, spawns.as_slice()))
     }

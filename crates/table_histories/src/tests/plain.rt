@@ -23,21 +23,14 @@ struct Finish {
     spawns: u32,
 }
 
-// An attempt on a core, and whether it copies what it read last.
+// An attempt: its task, the point that it reads from, the finishes that wrote what it has read, by object, and whether it
+// copies what it read last.
 #[derive(Clone, Copy)]
 struct Try {
-    core: u8,
     task: u32,
     start: u32,
+    read: [Option<u32>; 3],
     copying: Option<u8>,
-}
-
-// A version that an attempt has read.
-#[derive(Clone, Copy)]
-struct Mark {
-    core: u8,
-    object: u8,
-    writer: u32,
 }
 
 // A version that a finish has read.
@@ -62,8 +55,7 @@ pub(crate) struct Plain {
     slots: [u8; 3],
     records: u32,
     finishes: Vec<Finish>,
-    tries: Vec<Try>,
-    marks: Vec<Mark>,
+    tries: [Option<Try>; 8],
     seen: Vec<Seen>,
     puts: Vec<Put>,
 }
@@ -100,8 +92,7 @@ impl Plain {
             slots: start.slots,
             records: u32::from(start.records),
             finishes: Vec::from_slice(alloc, &[first_finish(start.clock, tasks)])?,
-            tries: Vec::new(alloc),
-            marks: Vec::new(alloc),
+            tries: [None; 8],
             seen: Vec::new(alloc),
             puts: Vec::from_slice(alloc, &[first_put(0), first_put(1), first_put(2)])?,
         })

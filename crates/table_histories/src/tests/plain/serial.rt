@@ -21,12 +21,12 @@ impl Plain {
 
     // the versions that it has read
     fn see(&mut self, core: u8, reader: u32) -> Result<(), NoMemory> {
-        for mark in &self.marks {
-            if mark.core == core {
+        for object in 0..OBJECTS {
+            if let Some(writer) = self.read(core, object) {
                 self.seen.push(Seen {
                     reader,
-                    object: mark.object,
-                    writer: mark.writer,
+                    object,
+                    writer,
                 })?;
             }
         }
