@@ -72,7 +72,25 @@ fn copied(core: u8) -> (u8, Told) {
     (core, Told::Copied)
 }
 
-// whether these tasks make these steps, and tables and plain program agree all along
+// whether a core tells this at its step, and tables and plain program agree then
+fn tells(alloc: Global, pair: &mut Pair, core: u8, expected: Told) -> Result<bool, NoMemory> {
+    let Some(told) = pair.step(alloc, core)? else {
+        return Ok(false);
+    };
+    Ok(told == expected && pair.agree())
+}
+
+// whether they do so at each step
+fn tell(alloc: Global, pair: &mut Pair, steps: &[(u8, Told)]) -> Result<bool, NoMemory> {
+    for step in steps {
+        if !tells(alloc, pair, step.0, step.1)? {
+            return Ok(false);
+        }
+    }
+    Ok(pair.is_serial())
+}
+
+// whether these tasks make these steps
 fn makes(alloc: Global, records: u8, args: &[u32], steps: &[(u8, Told)]) -> Result<bool, NoMemory> {
     let start = Start {
         slots: [2, 2, 2],
@@ -82,12 +100,7 @@ fn makes(alloc: Global, records: u8, args: &[u32], steps: &[(u8, Told)]) -> Resu
     let Some(mut pair) = Pair::opened(alloc, start, args)? else {
         return Ok(false);
     };
-    for (core, expected) in steps {
-        if pair.step(alloc, *core)? != Some(*expected) || !pair.agree() {
-            return Ok(false);
-        }
-    }
-    Ok(pair.is_serial())
+    tell(alloc, &mut pair, steps)
 }
 
 #[test]
