@@ -169,9 +169,9 @@ fn histories(
 fn answers_are_those_of_a_plain_program(rt: HostRuntime) -> Result<(), Fail> {
     let mut numbers = Numbers { state: 11 };
     let mut counts = NONE;
-    let agreed = histories(rt.alloc(), 500, &mut numbers, &mut counts)?;
+    let agreed = histories(rt.alloc(), 2000, &mut numbers, &mut counts)?;
     assert!(rt; agreed);
-    assert!(rt; counts.are_least(10));
-    assert!(rt; counts.stale > 0);
+    assert!(rt; counts.are_least(1000));
+    assert!(rt; counts.stale > 10);
     Ok(())
 }
