@@ -1,6 +1,4 @@
-use Rattle.std.proofs.Common.{◌≡◌, ◌==◌, List, true, None, ap, sym, ◌∙◌, subst, IsTrue}
-use Rattle.std.specs.List.{list_any}
-use Rattle.nv_base.specs.declared.lines.TaskRec as base
+use Rattle.std.proofs.Common.{List, ap, sym, ◌∙◌}
 use Rattle.kernel_model.specs.Replay.{TaskRec, task_under}
 use Rattle.table_histories.proofs.tests.Stands.{told_is_open}
 use Rattle.table_histories.proofs.tests.kernel.is_open.Goals as goal

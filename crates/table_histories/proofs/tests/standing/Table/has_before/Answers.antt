@@ -1,10 +1,10 @@
-use Rattle.std.proofs.Common.{◌≡◌, ◌==◌, ◌&&◌, List, ℕ, true, ap, sym, ◌∙◌, subst, IsSome, IsTrue}
-use Rattle.std.specs.List.{AllByRecursion, list_any}
+use Rattle.std.proofs.Common.{◌==◌, ◌&&◌, List, ap, sym, ◌∙◌, subst, IsSome}
+use Rattle.std.specs.List.{list_any}
 use Rattle.interval.specs.Ranges.{number_of}
 use Rattle.interval.specs.declared.version.Version.{Version}
 use Rattle.kernel_model.specs.Room.{is_below}
 use Rattle.ver_table.specs.Chains.{Chain, chain_at, newest_before}
-use Rattle.table_histories.proofs.tests.Stands.{Stands, before_is}
+use Rattle.table_histories.proofs.tests.Stands.{before_is}
 use Rattle.table_histories.proofs.tests.standing.Table.has_before.Goals as goal
 
 pub returns : goal.returns

@@ -1,4 +1,4 @@
-use Rattle.std.proofs.Common.{◌≡◌, ◌<◌, List, length, sym, subst, arith}
+use Rattle.std.proofs.Common.{◌<◌, List, length, sym, subst, arith}
 use Rattle.std.specs.List.{AllByRecursion}
 use Rattle.ver_table.specs.Chains.{Chain, chain_at, noted}
 use Rattle.table_histories.proofs.tests.Stands.{Stands, all_after}

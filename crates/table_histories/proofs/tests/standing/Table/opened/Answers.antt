@@ -1,10 +1,10 @@
-use Rattle.std.proofs.Common.{◌≡◌, ◌<◌, ℕ, zero, suc, List, [], ◌∷◌, length, map, refl, sym, ap, ◌∙◌, subst, arith}
+use Rattle.std.proofs.Common.{◌≡◌, ◌<◌, ℕ, zero, suc, List, [], ◌∷◌, length, map, refl, sym, subst, arith}
 use Rattle.std.specs.Prelude.{slice_index}
 use Rattle.std.proofs.lemmas.List.{length-map}
 use Rattle.std.specs.List.{AllByRecursion}
 use Rattle.interval.specs.declared.version.Version.{Version}
 use Rattle.set_model.specs.Sets.{ObjPart, TaskSet, object_at}
-use Rattle.ver_table.specs.Chains.{AreNamed, AreOpened, Chain}
+use Rattle.ver_table.specs.Chains.{AreNamed}
 use Rattle.table_histories.proofs.tests.Stands.{Stands, first_stands}
 use Rattle.table_histories.proofs.tests.standing.Table.opened.Goals as goal
 
