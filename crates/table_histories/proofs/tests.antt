@@ -1,0 +1,2 @@
+-- Lemmas of the tests, by what they are about.
+pub mod Stands
