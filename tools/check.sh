@@ -51,7 +51,7 @@ check_script() {
     [ "$status" != 5 ] || fail "no room for temporary files"
     if [ "$status" = 0 ]; then
         echo "$name: accepted"
-        tell_if_not_built "$room/script"
+        tell_if_too_large "$room/script"
     else
         cat "$room/answer"
         read -r _ _ line cause <"$room/answer"
@@ -60,9 +60,9 @@ check_script() {
     return "$status"
 }
 
-# An accepted script may be one of which no run is built yet, which is no fault of the script.
-tell_if_not_built() {
+# The set of an accepted script may need more words than the device of `run` has, which is no fault of the script.
+tell_if_too_large() {
     local status=0
     answer run <"$1" >/dev/null || status=$?
-    [ "$status" = 11 ] && say "no run of it is built yet: \`run\` answers it by error notbuilt (docs/manual.md, Answers)"
+    [ "$status" = 9 ] && say "its set needs more words than a device has: \`run\` answers it by error small (docs/manual.md, Answers)"
 }
