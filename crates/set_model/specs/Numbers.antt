@@ -19,7 +19,7 @@ boot_turns set = first_index set + index_words set + 1
 abbrev pub words_needed : TaskSet → ℕ
 words_needed set = first_index set + 2 * index_words set + sum_by (λ o. o.size * o.slots) set.objects
 
--- The index writes and boot turns are those of format 1's index. A set of format 2 has them too: its runs are not built yet.
+-- The index writes and boot turns are those of format 1's index: those of each kind of device are counted by its layout.
 abbrev pub sizes_of : TaskSet → Sizes
 sizes_of set = record {
   objects = length set.objects;

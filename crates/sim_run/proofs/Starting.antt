@@ -13,12 +13,12 @@ use Rattle.device_format.specs.Puts.{HasFront}
 use Rattle.headline.specs.Headline.{Headline}
 use Rattle.headline.specs.Report.{report_text}
 use Rattle.headline.specs.Runs.{Origin, first_state, world_from}
-use Rattle.kernel_turns.specs.Events.{IsAt}
-use Rattle.kernel_turns.specs.Opening.{IsOpened}
-use Rattle.kernel_turns.specs.declared.kernel.Kernel.{Kernel}
-use Rattle.kernel_turns.specs.declared.open.How.TheVariants.{Fresh}
-use Rattle.kernel_turns.specs.declared.open.OpenRefusal.{OpenRefusal}
-use Rattle.kernel_turns.specs.declared.open.OpenRefusal.TheVariants as refusal
+use Rattle.kernel_core.specs.Events.{IsAt}
+use Rattle.kernel_core.specs.Opening.{IsOpened}
+use Rattle.kernel_core.specs.declared.kernel.Kernel.{Kernel}
+use Rattle.kernel_core.specs.declared.open.How.TheVariants.{Fresh}
+use Rattle.kernel_core.specs.declared.open.OpenRefusal.{OpenRefusal}
+use Rattle.kernel_core.specs.declared.open.OpenRefusal.TheVariants as refusal
 use Rattle.answers.specs.declared.status.Status.TheVariants.{Small}
 use Rattle.simulation.specs.Runs.{Begins, HasDone, IsHalted}
 use Rattle.simulation.specs.Stores.{Store, words_in}

@@ -29,10 +29,10 @@ use Rattle.report_text.specs.Report.{end_part, lines_text}
 use Rattle.headline.specs.Runs.{Origin, after, event_lines, first_state, state_read, world_from}
 use Rattle.headline.specs.Images.{Decodes, HasGrown, HasImages}
 use Rattle.headline.specs.Report.{report_text}
-use Rattle.kernel_turns.specs.Events.{CutsEvent, IsAt, SimulatesEvent}
-use Rattle.kernel_turns.specs.Steps.{KeepsSet}
-use Rattle.kernel_turns.specs.declared.kernel.Kernel.{Kernel}
-use Rattle.kernel_turns.proofs.Lawful.{listed_at}
+use Rattle.kernel_core.specs.Events.{CutsEvent, IsAt, SimulatesEvent}
+use Rattle.kernel_core.specs.Steps.{KeepsSet}
+use Rattle.kernel_core.specs.declared.kernel.Kernel.{Kernel}
+use Rattle.kernel_core.proofs.Lawful.{listed_at}
 use Rattle.simulation.specs.Runs.{Begins, Goes, HasDone, IsHalted, PutsStart, first_lines_text, found_text, tail_text}
 use Rattle.simulation.specs.Stores.{Store, words_in}
 use Rattle.simulation.specs.declared.halt.Halt.{Halt}

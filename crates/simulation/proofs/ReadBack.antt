@@ -21,7 +21,7 @@ use Rattle.device_model.specs.Devices.{layout_on}
 use Rattle.shadow_index.specs.declared.state.State.{State}
 use Rattle.recovery.specs.Images.{device_at}
 use Rattle.recovery.specs.Reading.{IsRead}
-use Rattle.kernel_turns.proofs.Opened.{kept_on}
+use Rattle.kernel_core.proofs.Opened.{kept_on}
 use Rattle.simulation.specs.Runs.{IsHalted, numbers_part, open_part, read_at}
 use Rattle.simulation.specs.declared.halt.Halt.{Halt}
 use Rattle.simulation.proofs.Halting.{halted_middle}

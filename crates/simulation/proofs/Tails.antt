@@ -15,8 +15,8 @@ use Rattle.recovery.specs.Reading.{IsRead}
 use Rattle.report_text.specs.Report.{end_part}
 use Rattle.headline.specs.Runs.{Origin}
 use Rattle.headline.specs.Images.{Decodes}
-use Rattle.kernel_turns.specs.Events.{IsAt}
-use Rattle.kernel_turns.specs.declared.kernel.Kernel.{Kernel}
+use Rattle.kernel_core.specs.Events.{IsAt}
+use Rattle.kernel_core.specs.declared.kernel.Kernel.{Kernel}
 use Rattle.simulation.specs.Runs.{read_at, read_text}
 
 abbrev pub OneLaw : Type 0

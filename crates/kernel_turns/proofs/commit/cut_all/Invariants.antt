@@ -1,5 +1,0 @@
-use Rattle.kernel_turns.specs.Cuts.{AreCut}
-use Rattle.kernel_turns.proofs.commit.cut_all.Given as goal
-
-abbrev pub invariant-loop-n : goal.invariant-loop-n
-invariant-loop-n l = AreCut l.fn.point.0 l.fn.written l.n l.fn.seats.items l.seats.items

@@ -1,5 +1,0 @@
-use Rattle.kernel_turns.specs.Opening.{AreIdle}
-use Rattle.kernel_turns.proofs.open.idle_seats.Given as goal
-
-abbrev pub invariant-loop : goal.invariant-loop
-invariant-loop l = AreIdle l.set l.counter l.seats.items

@@ -1,6 +1,0 @@
-use Rattle.std.proofs.Common.{◌≡◌, None, take}
-use Rattle.kernel_turns.specs.Failures.{whole_in}
-use Rattle.kernel_turns.proofs.power.whole_among.Given as goal
-
-abbrev pub invariant-loop-seat : goal.invariant-loop-seat
-invariant-loop-seat l = whole_in (take l.seat-index l.seats) ≡ None
