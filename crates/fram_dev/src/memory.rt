@@ -1,4 +1,4 @@
-// A device in memory, for tests: it loses calls from a given write on.
+// A device in memory: it loses calls from a given write on.
 
 ghost use Rattle.std.specs.Prelude.{ℕ, ◌≡◌, ◌+◌, ◌-◌, ◌<◌, ◌≤◌, ◌⊎◌, false, List, [], ◌∷◌, ◌++◌, IfOk, OnOk, OnErr, IsOk, IsErr, slice_index, slice_set, length, vec_len, vec_capacity, if◌then◌else◌};
 ghost use Rattle.nv_base.specs.Streams.{FaultCounted};
