@@ -143,8 +143,13 @@ fn faults_are_named(rt: HostRuntime) -> Result<(), Fail> {
     Ok(())
 }
 
-/// A run of two tasks on two cores, which needs 83 turns for a boot: each reads an object and writes another.
-const TWO_CORES: &str = "nvk 1\ncores 2\nmemory 1024\nrecords 4\nobject x 1 2 5\nobject y 1 2 8\nprogram cp 100\nsrli t1, a0, 4\nandi a0, a0, 15\nli a1, 512\nli a7, 1\necall\nmv a0, t1\nlw t0, 512(zero)\naddi t0, t0, 1\nsw t0, 512(zero)\nli a7, 2\necall\nli a7, 4\necall\nend\ntask cp 16\ntask cp 1\n";
+/// Two tasks on two cores: one reads two objects and tells their sum, the other writes both.
+const SUM_AND_BOTH: &str =
+    "nvk 1\ncores 2\nmemory 1024\nrecords 4\nobject x 1 2 5\nobject y 1 2 8\nprogram sum 100\nli a0, 0\nli a1, 512\nli a7, 1\necall\nli a0, 1\nli a1, 516\necall\nlw a0, 512(zero)\nlw t0, 516(zero)\nadd a0, a0, t0\nli a7, 4\necall\nend\nprogram both 100\nsw a0, 512(zero)\nli a0, 0\nli a1, 512\nli a7, 2\necall\nli a0, 1\necall\nli a7, 4\necall\nend\ntask sum 0\ntask both 100\n";
+
+/// What they put where the sum's second read comes behind the finish that writes both: it is that of an older version.
+const OLDER: &str =
+    "start core 0 task 1 at 0\nstart core 1 task 2 at 0\nfinish 1 task 2 point 1 exit 1 first 3\nfinish 2 task 1 point 0 exit 13 first 3\nend clock 1 number 2 next 3 boots 0\nobject x 100\nobject y 100\ndone\n";
 
 /// A device that counts its reads.
 #[derive(Drop)]
@@ -178,24 +183,25 @@ impl Fram for Counted {
     }
 }
 
-/// How often a run of these steps reads its device.
-fn reads_of(rt: &HostRuntime, steps: &str) -> Result<u64, Fail> {
-    let text = format!(in rt.alloc(); "{TWO_CORES}{steps}run\n")?;
+/// What a run of these steps puts, and how often it reads its device.
+fn put_with_reads(rt: &HostRuntime, steps: &str) -> Result<(Status, Vec<u8>, u64), Fail> {
+    let text = format!(in rt.alloc(); "{SUM_AND_BOTH}{steps}run\n")?;
     let mut dev = Counted {
         memory: zeros(rt, 1024)?,
         reads: 0,
     };
-    let (status, _) = ends_on(rt, &["run"], text.as_str().as_bytes(), (&[], &[]), &mut dev)?;
-    assert!(rt; status == Status::Done);
-    Ok(dev.reads)
+    let (status, put) = ends_on(rt, &["run"], text.as_str().as_bytes(), (&[], &[]), &mut dev)?;
+    Ok((status, put, dev.reads))
 }
 
 #[test]
 fn each_copied_word_is_read_from_the_device(rt: HostRuntime) -> Result<(), Fail> {
-    let none = reads_of(&rt, "")?;
-    // both tries have copied their word
-    let two = reads_of(&rt, "steps 0*7 1*7\n")?;
-    assert!(rt; none > 0 && two >= none + 2);
+    let (done, _, none) = put_with_reads(&rt, "")?;
+    let (status, put, reads) = put_with_reads(&rt, "steps 0*6 1*38 0*35\n")?;
+    assert!(rt; done == Status::Done && status == Status::Done);
+    assert!(rt; put.as_slice() == OLDER.as_bytes());
+    // two words were copied, in a turn each
+    assert!(rt; reads >= none + 2);
     Ok(())
 }
 
@@ -210,25 +216,26 @@ fn a_small_device_is_told(rt: HostRuntime) -> Result<(), Fail> {
     Ok(())
 }
 
-/// What a run of one task puts where the device passes so many writes, and makes the lost one or not.
-fn put_before_loss(rt: &HostRuntime, writes: u32, made: bool) -> Result<Vec<u8>, Fail> {
+/// How a run of one task ends where the device passes so many writes, and makes the lost one or not, and what it puts.
+fn put_before_loss(rt: &HostRuntime, writes: u32, made: bool) -> Result<(Status, Vec<u8>), Fail> {
     let text = format!(in rt.alloc(); "{ADDING_SET}task add 7\nsteps 0*40\nrun\n")?;
     let words = [0u32; 64];
     let mut dev = MemFram::fused(rt.alloc(), words.as_slice(), writes, made)?;
-    let (status, put) = ends_on(rt, &["run"], text.as_str().as_bytes(), (&[], &[]), &mut dev)?;
-    assert!(rt; status == Status::DeviceLost);
-    Ok(put)
+    ends_on(rt, &["run"], text.as_str().as_bytes(), (&[], &[]), &mut dev)
 }
 
 #[test]
 fn a_lost_call_is_told_behind_the_lines_before(rt: HostRuntime) -> Result<(), Fail> {
     for made in [false, true] {
         // within the format
-        let put = put_before_loss(&rt, 9, made)?;
-        assert!(rt; put.as_slice() == b"error device\n".as_slice());
+        let (status, put) = put_before_loss(&rt, 9, made)?;
+        assert!(rt; status == Status::DeviceLost && put.as_slice() == b"error device\n".as_slice());
         // the last write of the finish
-        let put = put_before_loss(&rt, 65, made)?;
-        assert!(rt; put.as_slice() == b"start core 0 task 1 at 0\nerror device\n".as_slice());
+        let (status, put) = put_before_loss(&rt, 65, made)?;
+        assert!(rt;
+            status == Status::DeviceLost
+                && put.as_slice() == b"start core 0 task 1 at 0\nerror device\n".as_slice()
+        );
     }
     Ok(())
 }
