@@ -9,7 +9,6 @@ use Rattle.set_model.specs.Numbers.{sizes_of}
 use Rattle.set_model.specs.Views.{entry_if, entry_of}
 use Rattle.device_model.specs.Words.{Words}
 use Rattle.device_model.specs.Layouts.{boot_turns_of, kind_named}
-use Rattle.device_model.specs.IndexWords.{base_of}
 use Rattle.device_model.specs.Decoding.{Held, durable_of, is_worn, most_worn}
 use Rattle.device_model.specs.Devices.{Device, held_on, layout_on}
 use Rattle.shadow_index.specs.States.{HasRoom, HasTaken, index_of}

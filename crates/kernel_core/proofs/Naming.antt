@@ -47,8 +47,8 @@ turn_names world history others n c writes =
     (λ a lo hi e f core task object g. absurd (cc g))
     (λ a outcome lo hi e f core task object g. absurd (cc g))
     (λ a outcome o e f core task object g.
-        let same : o ≡ object = cc g in
-        subst (λ (n : ℕ). n < world.sizes.objects) same (room_names world.sizes world.base history others (run_of a outcome).writes o (run_writes world.sizes a outcome (writes a outcome e)) f))
+    let same : o ≡ object = cc g in
+    subst (λ (n : ℕ). n < world.sizes.objects) same (room_names world.sizes world.base history others (run_of a outcome).writes o (run_writes world.sizes a outcome (writes a outcome e)) f))
     (λ a p s core task object g. absurd (cc g))
     (λ i e core task object g. absurd (cc g))
 

@@ -6,7 +6,7 @@ use Rattle.nv_base.specs.declared.lines.Line.{Line}
 use Rattle.nv_base.specs.declared.ids.CoreId.{CoreId}
 use Rattle.nv_base.specs.declared.ids.ObjId.{ObjId}
 use Rattle.kernel_model.specs.Intervals.{Interval}
-use Rattle.kernel_model.specs.Events.{CoreStep, Fail, event_step}
+use Rattle.kernel_model.specs.Events.{CoreStep, event_step}
 use Rattle.kernel_model.proofs.ForCallers.{history-step}
 use Rattle.kernel_model.proofs.Reruns.{length-listing}
 use Rattle.set_model.specs.Views.{entry_of}

@@ -18,4 +18,6 @@ pub use kernel::Kernel;
 pub use open::{How, OpenRefusal};
 
 #[cfg(test)]
+mod fused_tests;
+#[cfg(test)]
 mod tests;

@@ -97,7 +97,7 @@ fn may_turn<F: Fram>(kernel: &Kernel, dev: &mut F) -> bool
 }
 
 // one event: its line
-fn line_of<F: Fram>(kernel: &mut Kernel, dev: &mut F, event: Event) -> Option<Line>
+pub(crate) fn line_of<F: Fram>(kernel: &mut Kernel, dev: &mut F, event: Event) -> Option<Line>
     requires { Stands kernel.old (words_of (F.log dev.old) (F.start dev.old)) }
     ensures { let words = words_of (F.log dev.new) (F.start dev.new) in
         IfSome result (λ line. Stands kernel.new words) }
