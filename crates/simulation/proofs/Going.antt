@@ -112,7 +112,7 @@ leads_to o events n k j first now later e l p q durable follows g at turns same 
     record {
       at = next;
       images = follows o events first.start first.log now.log later.log n (event_of e) g.images at t.written
-      (subst (λ (xs : List ℕ). Decodes o (words_of later.log xs) (after o (take (n + 1) events))) (sym start) (durable o j (words_in later) (after o (take (n + 1) events)) next));
+          (subst (λ (xs : List ℕ). Decodes o (words_of later.log xs) (after o (take (n + 1) events))) (sym start) (durable o j (words_in later) (after o (take (n + 1) events)) next));
       text = one_line_more o events n (event_of e) l at t.tells;
     }
 

@@ -51,7 +51,7 @@ returns-in-Ok-read_state-clause-put g c = λ o s a.
     let text = ap₂ read_text sets same ∙ read in
     on_ok_weaker c.put_state.result
     (λ put. puts_more _ _ _ (found_text o s) (end_part o.device.set (state_left o.base (listed s)) s.boots) (c.in-Ok.ensures.all o words s a)
-        (subst (λ (t : List ℕ). PutsText t (g.K.Sink.seen c.put_found.new.out) (g.K.Sink.seen c.put_state.new.out)) text put)) c.put_state.ensures.put
+    (subst (λ (t : List ℕ). PutsText t (g.K.Sink.seen c.put_found.new.out) (g.K.Sink.seen c.put_state.new.out)) text put)) c.put_state.ensures.put
 
 pub returns-in-Ok-read_state-clause-halted : goal.returns-in-Ok-read_state-clause-halted
 returns-in-Ok-read_state-clause-halted g c = λ o s a.
