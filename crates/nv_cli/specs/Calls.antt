@@ -1,5 +1,7 @@
--- How the program ends. This project's own.
-use Rattle.std.specs.Prelude.{◌≡◌, ℕ, Option}
+-- How the program ends, and on which device it runs. This project's own.
+use Rattle.std.specs.Prelude.{◌≡◌, ℕ, Option, replicate}
+use Rattle.fram_dev.specs.Memory.{IsNew}
+use Rattle.fram_dev.specs.declared.memory.MemFram.{MemFram}
 use Rattle.sim_run.specs.Answers.{Answered, Exchange, HasReadFew, IsComplete, LeavesDevice, NeverFalls, TellsReadFault}
 use Rattle.sim_run.specs.Promises.{KeepsHeadline, KeepsImages}
 use Rattle.answers.specs.Exits.{exit_of}
@@ -18,3 +20,7 @@ pub record EndsAs (command : Option Command) (x : Exchange) (exit : ℕ) : Type 
   pub few : HasReadFew x.source x.source_now status
   pub told : TellsReadFault x.source x.source_now status
   pub never_falls : NeverFalls x
+
+-- a new device has so many words, and each is 0
+unfoldable pub IsZeros : ℕ → MemFram → Type 0
+IsZeros words m = IsNew (replicate words 0) m

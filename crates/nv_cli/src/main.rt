@@ -3,18 +3,18 @@
 //! What std says of the process is taken on trust: its words, what is read and written, and the status that it ends with.
 #![tactic(auto)]
 
-ghost use Rattle.std.specs.Prelude.{◌≡◌, ◌↔◌, [], IfErr, IfOk, IsErr, OnErr, drop, map, replicate, string_bytes};
+ghost use Rattle.std.specs.Prelude.{◌≡◌, ◌↔◌, ◌≤◌, [], IfErr, IfOk, IsErr, OnErr, drop, map, string_bytes};
 ghost use Rattle.std.specs.IoError.{error_kind};
 ghost use Rattle.std.specs.declared.io.ErrorKind.TheVariants.{OutOfMemory};
 ghost use Rattle.std.specs.Process.{exit_status};
 ghost use Rattle.std.specs.Rc.{rc_str_bytes};
 ghost use Rattle.std.specs.Vec.Iter.{into_iter_items};
 ghost use Rattle.answers.specs.Exits.{exit_of};
-ghost use Rattle.fram_dev.specs.Memory.{IsNew, Passes};
+ghost use Rattle.fram_dev.specs.Memory.{Passes};
 ghost use Rattle.simulation.specs.Stores.{store};
 ghost use Rattle.sim_run.specs.Answers.{exchange};
 ghost use Rattle.sim_run.specs.Commands.{command_of};
-ghost use Rattle.nv_cli.specs.Calls.{EndsAs};
+ghost use Rattle.nv_cli.specs.Calls.{EndsAs, IsZeros};
 
 use answers::Status;
 use fram_dev::{Fram, MemFram};
@@ -88,13 +88,15 @@ fn call<S: Source, K: Sink, F: Fram>(
     }
 }
 
-/// A device of zeros, with room for all writes of a run: those of a format, and one at each event.
-fn new_device(alloc: Global) -> Result<MemFram, NoMemory>
-    ensures zeros { IfOk result (IsNew (replicate DEVICE_WORDS 0)) }
-    ensures writes { IfOk result (Passes DEVICE_WRITES) }
+/// A new device of so many words, all 0, that passes so many writes.
+#[tactic(auto, unfolding(crate::specs::Calls::IsZeros))]
+fn new_device(alloc: Global, words: u32, writes: u32) -> Result<MemFram, NoMemory>
+    requires { words ≤ 65536 }
+    ensures zeros { IfOk result (IsZeros words) }
+    ensures writes { IfOk result (Passes writes) }
 {
-    let zeros = vec![in alloc; 0u32; DEVICE_WORDS as usize]?;
-    MemFram::new(alloc, zeros.as_slice(), DEVICE_WRITES)
+    let zeros = vec![in alloc; 0u32; words as usize]?;
+    MemFram::new(alloc, zeros.as_slice(), writes)
 }
 
 /// Tells that no memory was found. A failure to say so changes no status.
@@ -103,7 +105,7 @@ fn tell_no_memory(rt: &HostRuntime) {
 }
 
 fn main(rt: HostRuntime) -> ExitCode {
-    let Ok(mut device) = new_device(rt.alloc()) else {
+    let Ok(mut device) = new_device(rt.alloc(), DEVICE_WORDS, DEVICE_WRITES) else {
         tell_no_memory(&rt);
         return exit_code(Status::NoMemory);
     };
