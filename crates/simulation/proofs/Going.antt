@@ -1,5 +1,5 @@
 -- A run of the kernel, event by event.
-use Rattle.std.proofs.Common.{◌≡◌, ℕ, zero, suc, ◌+◌, ◌<◌, ◌≤◌, ◌⊎◌, inl, inr, List, [], ◌∷◌, ◌++◌, Bool, true, false, cond, nat_eq, length, take, drop, Option, Some, None, refl, ap, ap₂, sym, ◌∙◌, subst, append_assoc, add-one, arith}
+use Rattle.std.proofs.Common.{◌≡◌, ℕ, zero, suc, ◌+◌, ◌<◌, ◌≤◌, inl, inr, List, [], ◌∷◌, ◌++◌, true, false, cond, nat_eq, length, take, drop, Option, Some, refl, ap, sym, ◌∙◌, subst, append_assoc, add-one, arith}
 use Rattle.std.specs.Prelude.{slice_get}
 use Rattle.std.proofs.lemmas.Grind.{flat_map-append}
 use Rattle.std.proofs.lemmas.List.{append-nil, length-map, length-take-le, take_all, take-append-drop}
@@ -33,11 +33,10 @@ use Rattle.kernel_core.specs.Events.{CutsEvent, IsAt, PassesEvent, SimulatesEven
 use Rattle.kernel_core.specs.Steps.{KeepsSet}
 use Rattle.kernel_core.specs.declared.kernel.Kernel.{Kernel}
 use Rattle.kernel_core.proofs.Lawful.{listed_at}
-use Rattle.simulation.specs.Runs.{Begins, Goes, HasDone, IsHalted, PutsStart, first_lines_text, found_text, tail_text}
+use Rattle.simulation.specs.Runs.{Begins, Goes, HasDone, PutsStart, first_lines_text, tail_text}
 use Rattle.simulation.specs.Stores.{Store, words_in}
-use Rattle.simulation.specs.declared.halt.Halt.{Halt}
 use Rattle.simulation.proofs.Fronts.{front_later, puts_more, puts_nothing}
-use Rattle.simulation.proofs.Halting.{halted_here, halted_middle, start_here, whole_start}
+use Rattle.simulation.proofs.Halting.{start_here, whole_start}
 
 -- the laws of a kernel at a state, and of images
 abbrev pub DurableLaw : Type 0
