@@ -17,7 +17,6 @@ use Rattle.report_text.specs.Lines.{end_text, object_text, open_text}
 use Rattle.report_text.specs.Report.{end_part, lines_text, objects_text}
 use Rattle.headline.specs.Runs.{Origin, after, event_lines, first_state}
 use Rattle.headline.specs.Images.{HasImages}
-use Rattle.headline.specs.Report.{report_text}
 use Rattle.kernel_core.specs.Events.{IsAt}
 use Rattle.kernel_core.specs.declared.kernel.Kernel.{Kernel}
 use Rattle.simulation.specs.Stores.{Store, words_in}

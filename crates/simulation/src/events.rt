@@ -57,6 +57,10 @@ fn put_events<K: Sink, F: Fram>(
         let Some(event) = events.next() else {
             unreachable!();
         };
+        // most events only step a machine, or find nothing to do
+        if kernel.pass(event) {
+            continue;
+        }
         let Ok(line) = kernel.turn(dev, event) else {
             return Err(Halt::DeviceLost);
         };

@@ -1,4 +1,4 @@
-use Rattle.std.proofs.Common.{ℕ, List, length, take, ap, sym, subst}
+use Rattle.std.proofs.Common.{ℕ, List, length, take, sym, subst}
 use Rattle.std.proofs.lemmas.Result.{IfErr-weaker, on_ok_weaker}
 use Rattle.nv_base.specs.Streams.{PutsText}
 use Rattle.schedule_model.specs.Failures.{events_of}
