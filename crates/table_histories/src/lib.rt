@@ -1,4 +1,4 @@
-//! The crates of a verdict beside a plain program: tests alone, on worked rows and on random histories.
+//! The tables of a verdict beside a plain program on random histories of one to eight cores: tests alone.
 #![tactic(auto)]
 
 #[cfg(test)]

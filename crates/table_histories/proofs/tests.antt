@@ -1,2 +1,0 @@
--- Lemmas of the tests, by what they are about.
-pub mod Stands
