@@ -7,6 +7,7 @@ ghost use Rattle.rv_core.specs.Products.{AreComputed};
 ghost use Rattle.rv_core.specs.WorkedSteps.{AreStepped};
 
 mod bytes;
+mod decoded;
 #[cfg(test)]
 mod division_tests;
 mod machine;
