@@ -202,6 +202,7 @@ impl Seat {
     }
 
     /// The task that the core holds, if it holds one.
+    #[inline(always)]
     pub fn task(&self) -> Option<TaskId>
         ensures { option_map (λ id. id.0) result ≡ task_in self.now }
     {
