@@ -1,6 +1,10 @@
 -- A step that leaves the device alone and tells nothing.
-use Rattle.std.proofs.Common.{◌≡◌, ℕ, ◌<◌, Bool, true, false, IsTrue, not, ◌||◌, cond, eqb, nat_eq, List, [], ◌∷◌, length, map, get_or, is_some, Option, Some, None, refl, sym, ap, ◌∙◌, subst, arith}
+use Rattle.std.proofs.Common.{◌≡◌, ℕ, ◌<◌, ◌≤◌, Bool, true, false, IsTrue, not, ◌||◌, cond, eqb, nat_eq, List, [], ◌∷◌, length, set, map, get_or, is_some, Option, Some, None, refl, sym, ap, ap₂, ◌∙◌, subst, arith}
 use Rattle.std.specs.List.{find, list_any}
+use Rattle.std.specs.Global.{Vec}
+use Rattle.std.specs.Vec.{with_item}
+use Rattle.std.proofs.Math.Nat.{ℕ_set}
+use Rattle.std.proofs.Math.Bridge.{le_prop}
 use Rattle.rv_core.specs.State.{MachineState}
 use Rattle.nv_base.specs.declared.lines.TaskRec as base
 use Rattle.nv_base.specs.declared.lines.Line.TheVariants.{Nothing}
@@ -18,13 +22,17 @@ use Rattle.vol_copy.specs.declared.attempt.Stage.TheVariants as stage
 use Rattle.vol_copy.specs.declared.doing.Doing.{Doing}
 use Rattle.vol_copy.specs.declared.doing.Doing.TheVariants as doing
 use Rattle.core_seats.specs.declared.seat.Seat as own
+use Rattle.core_seats.specs.Steps.{RunsOn}
+use Rattle.vol_copy.specs.Tries.{IsFor}
 use Rattle.core_seats.specs.Others.{listed_if, saves_in, task_in, tasks_in, with_task}
 use Rattle.kernel_core.specs.Events.{PassesEvent}
 use Rattle.kernel_core.specs.Steps.{KeepsSet, Passes}
 use Rattle.kernel_core.specs.Turns.{IsAtStage, SeatPasses}
 use Rattle.kernel_core.specs.declared.kernel.Kernel.{Kernel}
 use Rattle.kernel_core.specs.declared.kernel.Power.TheVariants as power
-use Rattle.kernel_core.proofs.AtStage.{same_item}
+use Rattle.kernel_core.proofs.AtStage.{same_set}
+use Rattle.kernel_core.proofs.Advancing.{runs_on}
+use Rattle.kernel_core.proofs.Turned.{seated}
 use Rattle.kernel_core.proofs.Booting.{other_image, other_steps, other_writes}
 use Rattle.kernel_core.proofs.Starting.{HeldLaw, starts_none}
 use Rattle.kernel_core.proofs.Stepping.{core_turns, on_words, try_image, try_steps, try_writes}
@@ -81,7 +89,7 @@ ready_stage (stage.Fetching o want) e = absurd (cc e)
 ready_stage (stage.Copying o want copied) e = absurd (cc e)
 ready_stage (stage.Ready outcome) e = refl
 
-at_stage : (k : Kernel) (n : ℕ) (P : Stage → Type 0) → (g : IsAtStage k n (λ s. Unit {0})) → P g.seat.attempt.stage → IsAtStage k n P
+abbrev at_stage : (k : Kernel) (n : ℕ) (P : Stage → Type 0) → (g : IsAtStage k n (λ s. Unit {0})) → P g.seat.attempt.stage → IsAtStage k n P
 at_stage k n P g p = record { power = g.power; inside = g.inside; seat = g.seat; seat_is = g.seat_is; trying = g.trying; stage = p }
 
 -- without a task, and each open one is held
@@ -104,6 +112,33 @@ try_passes old new n g turns = λ words. record {
   written = λ log. try_writes old words n (λ s. Unit {0}) log g;
   image = try_image old words n (λ s. Unit {0}) g;
 }
+
+-- a core of which no finish commits, with power on
+abbrev pub stands_on : (k : Kernel) (n at : ℕ) (s : own.Seat) → k.power ≡ power.On → n < k.set.cores → length k.seats.items ≡ k.set.cores → at ≡ n → s ≡ get_or k.seats.items at s → s.saving ≡ None → IsAtStage k n (λ s. Unit {0})
+stands_on k n at s on inside cores e is trying = record { power = on; inside = omega (arith, inside, cores); seat = s; seat_is = subst (λ (m : ℕ). s ≡ get_or k.seats.items m s) e is; trying = trying; stage = tt }
+
+-- ---- a core whose machine takes a step
+
+-- the core runs
+abbrev pub runs_at : (k : Kernel) (n at : ℕ) (s : own.Seat) → k.power ≡ power.On → n < k.set.cores → length k.seats.items ≡ k.set.cores → at ≡ n → s ≡ get_or k.seats.items at s → s.saving ≡ None → s.attempt.stage ≡ stage.Running → IsAtStage k n (λ st. st ≡ stage.Running)
+runs_at k n at s on inside cores e is trying running = at_stage k n (λ st. st ≡ stage.Running) (stands_on k n at s on inside cores e is trying) running
+
+-- and what its seat becomes, whatever versions there are
+pub goes : (k : Kernel) (core : CoreId) (at : ℕ) (s new : own.Seat) → k.power ≡ power.On → core.0 < k.set.cores → length k.seats.items ≡ k.set.cores → at ≡ core.0 → s ≡ get_or k.seats.items at s → s.saving ≡ None → s.attempt.stage ≡ stage.Running → IsFor k.set new.attempt
+    → RunsOn k.set k.committed.versions s new None → Passes k core.0 (seated k at new)
+goes k core at s new on inside cores e is trying running kept runs =
+    let g = runs_at k core.0 at s on inside cores e is trying running in
+    subst (λ (m : ℕ). Passes k core.0 (seated k m new)) (sym e) (try_passes k (seated k core.0 new) core.0 (stands_on k core.0 at s on inside cores e is trying) (runs_on k core new g kept runs))
+
+-- where its seat stays as it is, all does
+same_vec : (v : Vec own.Seat) (xs : List own.Seat) (ok : (v.len ≡ length xs) × (v.len ≤ v.cap)) → xs ≡ v.items → record v { items = xs; ok = ok } ≡ v
+same_vec v xs ok e = subst (λ (ys : List own.Seat). (ok : (v.len ≡ length ys) × (v.len ≤ v.cap)) → record v { items = ys; ok = ok } ≡ v) (sym e) (λ ok. ap₂ (λ (p : v.len ≡ length v.items) (q : v.len ≤ v.cap). record v { ok = (p, q) }) (ℕ_set v.len (length v.items) ok.0 v.ok.0) (le_prop ok.1 v.ok.1)) ok
+
+pub same_kernel : (k : Kernel) (at : ℕ) (s new : own.Seat) → at < length k.seats.items → s ≡ get_or k.seats.items at s → new ≡ s → seated k at new ≡ k
+same_kernel k at s new l is e =
+    let v = k.seats in
+    ap (λ (x : own.Seat). seated k at x) (e ∙ is)
+    ∙ ap (λ (w : Vec own.Seat). record k { seats = w }) (same_vec v (set v.items at (get_or v.items at s)) (with_item v at (get_or v.items at s)).ok (same_set v.items at s l))
 
 -- ---- a core but the first, while a boot goes on
 

@@ -12,7 +12,8 @@ ghost use Rattle.core_seats.specs.Others.{tasks_in};
 ghost use Rattle.kernel_core.specs.Events.{PassesEvent, Stands};
 ghost use Rattle.kernel_core.specs.Keeping.{IsLawful, Keeps};
 ghost use Rattle.kernel_core.specs.Steps.{KeepsSet, Passes};
-ghost use Rattle.kernel_core.specs.Turns.{IsAtStage, SeatPasses, is_on};
+ghost use Rattle.kernel_core.specs.Turns.{is_on};
+ghost use Rattle.kernel_core.specs.declared.kernel.Power.TheVariants.{On};
 
 use crate::kernel::{Kernel, Power};
 use core_seats::laws::held_tasks_are_not_ready;
@@ -23,8 +24,9 @@ use vol_copy::Doing;
 
 impl Kernel {
     /// Takes an event that neither reads nor writes the device and tells nothing, where a few looks show that it is one:
-    /// a step of a core that has nothing to do, or that waits. Whether it was taken: if not, nothing has changed, and
-    /// the event is a `turn`.
+    /// a step of a machine, or of a core that has nothing to do, or that waits. Whether it was taken: if not, nothing has
+    /// changed, and the event is a `turn`.
+    #[inline(always)]
     pub fn pass(&mut self, event: Event) -> bool
         requires at { (words : Words) × Stands self.old words }
         requires core { IsOfCores self.old.set.cores (event_of event) }
@@ -40,7 +42,8 @@ impl Kernel {
         }
     }
 
-    // A step of a core.
+    // A step of a core. Most of them are taken here, by its machine.
+    #[inline(always)]
     fn pass_step(&mut self, core: CoreId) -> bool
         requires lawful { (words : Words) × (t : Tables MachineState) × Keeps self.old words t
             × IsLawful self.old words t }
@@ -53,24 +56,27 @@ impl Kernel {
         if let Power::Boot(_) = self.power {
             return core.0 != 0;
         }
-        if self.seats[usize::from(core.0)].saving.is_some() {
-            return false;
+        if self.seats[usize::from(core.0)].go() {
+            return true;
         }
-        self.pass_try(core)
+        self.is_still(core)
     }
 
-    // A step of a core of which no finish commits.
-    fn pass_try(&mut self, core: CoreId) -> bool
-        requires lawful { (words : Words) × (t : Tables MachineState) × Keeps self.old words t
-            × IsLawful self.old words t }
-        requires trying { IsAtStage self.old core.0 (λ s. Unit {0}) }
-        ensures passes { IsTrue result → SeatPasses self.old core.0 self.new }
-        ensures kept { result ≡ false → self.new ≡ self.old }
-        ensures rest { KeepsSet self.old self.new }
-        ensures live { self.new.lost ≡ self.old.lost }
+    // Whether a core has nothing to do, or waits: then its step leaves all as it is.
+    #[inline(always)]
+    fn is_still(&self, core: CoreId) -> bool
+        requires lawful { (words : Words) × (t : Tables MachineState) × Keeps self.now words t
+            × IsLawful self.now words t }
+        requires on { self.now.power ≡ On }
+        requires core { core.0 < self.now.set.cores }
+        ensures { IsTrue result → Passes self.now core.0 self.now }
     {
         held_tasks_are_not_ready();
-        match self.seats[usize::from(core.0)].attempt.doing() {
+        let seat = &self.seats[usize::from(core.0)];
+        if seat.saving.is_some() {
+            return false;
+        }
+        match seat.attempt.doing() {
             Doing::Nothing => !self.has_ready(),
             Doing::Waits => is_saving(&self.seats),
             _ => false,
@@ -78,6 +84,7 @@ impl Kernel {
     }
 
     // Whether a task is open that no core holds.
+    #[inline(always)]
     fn has_ready(&self) -> bool
         ensures { let seats = self.now.seats.items in
             result ≡ is_some (next_ready (tasks_in seats) self.now.committed.queue.tasks) }
@@ -87,6 +94,7 @@ impl Kernel {
 }
 
 // Whether no core holds one of some tasks.
+#[inline(always)]
 fn has_free(tasks: &[TaskRec], seats: &[Seat]) -> bool
     ensures { result ≡ list_any (λ t. not (list_any (λ s. is_on t.id.0 s) seats.now)) tasks.now }
 {
@@ -94,6 +102,7 @@ fn has_free(tasks: &[TaskRec], seats: &[Seat]) -> bool
 }
 
 // Whether a core holds a task.
+#[inline(always)]
 fn holds(seats: &[Seat], task: TaskId) -> bool
     ensures { result ≡ list_any (λ s. is_on task.0 s) seats.now }
 {
@@ -101,6 +110,7 @@ fn holds(seats: &[Seat], task: TaskId) -> bool
 }
 
 // Whether this one does.
+#[inline(always)]
 fn is_on(seat: &Seat, task: TaskId) -> bool
     ensures { result ≡ is_on task.0 seat.now }
 {
