@@ -3,9 +3,11 @@
 ghost use Rattle.std.specs.Prelude.{◌≡◌, ◌/◌, ◌<◌, ◌%◌, IsTrue, None, Some, false, slice_index};
 ghost use Rattle.rv_isa.specs.Ranges.{IsInstr};
 ghost use Rattle.rv_isa.specs.Table.{instruction_of};
+ghost use Rattle.rv_core.specs.Decoded.{meant};
 
+use crate::quick::{Quick, case_of};
 use nv_base::NoMemory;
-use rv_isa::{Instr, decode};
+use rv_isa::decode;
 use std::alloc::Global;
 use std::marker::Model;
 
@@ -16,26 +18,28 @@ const ROOM: usize = 1024;
 #[derive(Debug, Drop)]
 struct Known {
     word: u32,
-    instruction: Instr,
+    instruction: Quick,
 }
 
 impl Model for Known {
     ghost use Rattle.std.specs.Prelude.{ℕ, ◌≡◌, Some};
     ghost use Rattle.rv_isa.specs.Ranges.{IsInstr};
     ghost use Rattle.rv_isa.specs.Table.{instruction_of};
+    ghost use Rattle.rv_core.specs.Decoded.{meant};
 
     ghost Value = { ℕ };
 
     ghost view = { λ k. k.word };
 
-    ghost invariant = { λ k. (instruction_of k.word ≡ Some k.instruction) × IsInstr k.instruction };
+    ghost invariant = { λ k. (instruction_of k.word ≡ Some (meant k.instruction))
+        × IsInstr (meant k.instruction) };
 }
 
 impl Known {
     fn ecall() -> Known {
         Known {
             word: 0x00000073,
-            instruction: Instr::Ecall,
+            instruction: Quick::Ecall,
         }
     }
 
@@ -47,9 +51,9 @@ impl Known {
     }
 
     #[inline(always)]
-    fn instruction(&self) -> Instr
-        ensures table { instruction_of self.now ≡ Some result }
-        ensures fits { IsInstr result }
+    fn instruction(&self) -> Quick
+        ensures table { instruction_of self.now ≡ Some (meant result) }
+        ensures fits { IsInstr (meant result) }
     {
         self.instruction
     }
@@ -96,9 +100,9 @@ impl Decoded {
 
     /// The instruction of the word that the table has for an address.
     #[inline(always)]
-    pub fn get(&self, at: usize) -> Instr
-        ensures table { instruction_of (slice_index self.now (at / 4 % 1024)) ≡ Some result }
-        ensures fits { IsInstr result }
+    pub fn get(&self, at: usize) -> Quick
+        ensures table { instruction_of (slice_index self.now (at / 4 % 1024)) ≡ Some (meant result) }
+        ensures fits { IsInstr (meant result) }
     {
         self.known[at / 4 % ROOM].instruction()
     }
@@ -112,7 +116,8 @@ impl Decoded {
     {
         match decode(word) {
             None => false,
-            Some(instruction) => {
+            Some(i) => {
+                let instruction = case_of(i);
                 self.known[place] = Known { word, instruction };
                 true
             }

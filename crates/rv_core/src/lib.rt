@@ -12,6 +12,7 @@ mod decoded;
 mod division_tests;
 mod machine;
 mod operations;
+mod quick;
 mod services;
 #[cfg(test)]
 mod tests;

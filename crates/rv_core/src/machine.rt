@@ -5,7 +5,9 @@ ghost use Rattle.std.specs.Result.{result_err};
 ghost use Rattle.rv_isa.specs.Ranges.{IsInstr};
 ghost use Rattle.rv_core.specs.Bytes.{put_word, words_at};
 ghost use Rattle.rv_core.specs.State.{Next};
-ghost use Rattle.rv_core.specs.Operations.{register, with_register, sum_of, store_size, put_at};
+ghost use Rattle.std.specs.Int.{cast_unsigned, w32};
+ghost use Rattle.rv_core.specs.Decoded.{meant};
+ghost use Rattle.rv_core.specs.Operations.{computed, register, with_immediate, with_register, sum_of, store_size, put_at};
 ghost use Rattle.rv_core.specs.Execution.{goes_on, jumps, branches, loads, stores, calls, service_of, executed};
 ghost use Rattle.rv_core.specs.Stepping.{step_of, answer, fated, HasCalled, IsCall, IsStopped, Keeps};
 ghost use Rattle.rv_core.specs.Task.{blank, first_state, resumed, place_refusal, IsPlace};
@@ -15,10 +17,11 @@ use crate::decoded::Decoded;
 use crate::operations::{
     by_register, compute, put_in, read_in, size_of_load, size_of_store, taken,
 };
+use crate::quick::Quick;
 use crate::services::{Fate, Service, Step};
 use nv_base::limits::MAX_MEMORY;
 use nv_base::{NoMemory, TrapCause};
-use rv_isa::{BranchOp, Instr, LoadOp, Reg, StoreOp};
+use rv_isa::{BranchOp, ImmOp, LoadOp, Reg, RegOp, StoreOp};
 use std::alloc::Global;
 use std::marker::Model;
 
@@ -203,49 +206,105 @@ impl Machine {
         self.execute(i)
     }
 
-    #[tactic(auto, unfolding(crate::specs::Execution::executed))]
     #[inline(always)]
-    fn execute(&mut self, i: Instr) -> Fate
-        requires fits { IsInstr i }
+    #[tactic(auto, unfolding(crate::specs::Execution::executed))]
+    fn execute(&mut self, i: Quick) -> Fate
+        requires fits { IsInstr (meant i) }
         requires next { self.old.pc + 4 < 2 ^ 32 }
-        ensures exact { executed self.old i ≡ fated result self.new }
+        ensures exact { executed self.old (meant i) ≡ fated result self.new }
         ensures rests { IsStopped result → self.new ≡ self.old }
         ensures kept { Keeps self.old self.new }
     {
         match i {
-            Instr::Lui { rd, imm } => self.set_and_go(rd, imm << 12),
-            Instr::Auipc { rd, imm } => {
+            Quick::Lui(d, imm) => self.set_and_go(d, imm << 12),
+            Quick::Auipc(d, imm) => {
                 let value = self.pc.wrapping_add(imm << 12);
-                self.set_and_go(rd, value)
+                self.set_and_go(d, value)
             }
-            Instr::Jal { rd, offset } => {
+            Quick::Jal(d, offset) => {
                 let target = self.pc.wrapping_add_signed(offset);
-                self.jump(rd, target)
+                self.jump(d, target)
             }
-            Instr::Jalr { rd, rs1, imm } => {
-                let target = self.sum(rs1, imm) / 2 * 2;
-                self.jump(rd, target)
+            Quick::Jalr(d, a, imm) => {
+                let target = self.sum(a, imm) / 2 * 2;
+                self.jump(d, target)
             }
-            Instr::Branch {
-                op,
-                rs1,
-                rs2,
-                offset,
-            } => self.branch(op, rs1, rs2, offset),
-            Instr::Load { op, rd, rs1, imm } => self.load_value(op, rd, rs1, imm),
-            Instr::Store { op, rs1, rs2, imm } => self.store_value(op, rs1, rs2, imm),
-            Instr::OpImm { op, rd, rs1, imm } => {
-                let value = compute(by_register(op), self.register(rs1), imm.cast_unsigned());
-                self.set_and_go(rd, value)
-            }
-            Instr::Op { op, rd, rs1, rs2 } => {
-                let value = compute(op, self.register(rs1), self.register(rs2));
-                self.set_and_go(rd, value)
-            }
-            Instr::Fence { .. } => self.go_on(),
-            Instr::Ecall => Fate::Calls,
-            Instr::Ebreak => Fate::Stops(TrapCause::Break),
+            Quick::Beq(a, b, offset) => self.branch(BranchOp::Beq, a, b, offset),
+            Quick::Bne(a, b, offset) => self.branch(BranchOp::Bne, a, b, offset),
+            Quick::Blt(a, b, offset) => self.branch(BranchOp::Blt, a, b, offset),
+            Quick::Bge(a, b, offset) => self.branch(BranchOp::Bge, a, b, offset),
+            Quick::Bltu(a, b, offset) => self.branch(BranchOp::Bltu, a, b, offset),
+            Quick::Bgeu(a, b, offset) => self.branch(BranchOp::Bgeu, a, b, offset),
+            Quick::Lb(d, a, imm) => self.load_value(LoadOp::Lb, d, a, imm),
+            Quick::Lh(d, a, imm) => self.load_value(LoadOp::Lh, d, a, imm),
+            Quick::Lw(d, a, imm) => self.load_value(LoadOp::Lw, d, a, imm),
+            Quick::Lbu(d, a, imm) => self.load_value(LoadOp::Lbu, d, a, imm),
+            Quick::Lhu(d, a, imm) => self.load_value(LoadOp::Lhu, d, a, imm),
+            Quick::Sb(a, b, imm) => self.store_value(StoreOp::Sb, a, b, imm),
+            Quick::Sh(a, b, imm) => self.store_value(StoreOp::Sh, a, b, imm),
+            Quick::Sw(a, b, imm) => self.store_value(StoreOp::Sw, a, b, imm),
+            Quick::Addi(d, a, imm) => self.immediate(ImmOp::Addi, d, a, imm),
+            Quick::Slti(d, a, imm) => self.immediate(ImmOp::Slti, d, a, imm),
+            Quick::Sltiu(d, a, imm) => self.immediate(ImmOp::Sltiu, d, a, imm),
+            Quick::Xori(d, a, imm) => self.immediate(ImmOp::Xori, d, a, imm),
+            Quick::Ori(d, a, imm) => self.immediate(ImmOp::Ori, d, a, imm),
+            Quick::Andi(d, a, imm) => self.immediate(ImmOp::Andi, d, a, imm),
+            Quick::Slli(d, a, imm) => self.immediate(ImmOp::Slli, d, a, imm),
+            Quick::Srli(d, a, imm) => self.immediate(ImmOp::Srli, d, a, imm),
+            Quick::Srai(d, a, imm) => self.immediate(ImmOp::Srai, d, a, imm),
+            Quick::Add(d, a, b) => self.operation(RegOp::Add, d, a, b),
+            Quick::Sub(d, a, b) => self.operation(RegOp::Sub, d, a, b),
+            Quick::Sll(d, a, b) => self.operation(RegOp::Sll, d, a, b),
+            Quick::Slt(d, a, b) => self.operation(RegOp::Slt, d, a, b),
+            Quick::Sltu(d, a, b) => self.operation(RegOp::Sltu, d, a, b),
+            Quick::Xor(d, a, b) => self.operation(RegOp::Xor, d, a, b),
+            Quick::Srl(d, a, b) => self.operation(RegOp::Srl, d, a, b),
+            Quick::Sra(d, a, b) => self.operation(RegOp::Sra, d, a, b),
+            Quick::Or(d, a, b) => self.operation(RegOp::Or, d, a, b),
+            Quick::And(d, a, b) => self.operation(RegOp::And, d, a, b),
+            Quick::Mul(d, a, b) => self.operation(RegOp::Mul, d, a, b),
+            Quick::Mulh(d, a, b) => self.operation(RegOp::Mulh, d, a, b),
+            Quick::Mulhsu(d, a, b) => self.operation(RegOp::Mulhsu, d, a, b),
+            Quick::Mulhu(d, a, b) => self.operation(RegOp::Mulhu, d, a, b),
+            Quick::Div(d, a, b) => self.operation(RegOp::Div, d, a, b),
+            Quick::Divu(d, a, b) => self.operation(RegOp::Divu, d, a, b),
+            Quick::Rem(d, a, b) => self.operation(RegOp::Rem, d, a, b),
+            Quick::Remu(d, a, b) => self.operation(RegOp::Remu, d, a, b),
+            Quick::Fence(..) => self.go_on(),
+            Quick::Ecall => Fate::Calls,
+            Quick::Ebreak => Fate::Stops(TrapCause::Break),
         }
+    }
+
+    #[inline(always)]
+    fn immediate(&mut self, op: ImmOp, rd: Reg, rs1: Reg, imm: i32) -> Fate
+        requires fits { rd.0 < 32 }
+        requires base { rs1.0 < 32 }
+        requires next { self.old.pc + 4 < 2 ^ 32 }
+        ensures exact { let value = computed (with_immediate op) (register self.old rs1.0)
+            (cast_unsigned w32 imm) in
+            goes_on (with_register self.old rd.0 value) ≡ fated result self.new }
+        ensures rests { IsStopped result → self.new ≡ self.old }
+        ensures kept { Keeps self.old self.new }
+    {
+        let value = compute(by_register(op), self.register(rs1), imm.cast_unsigned());
+        self.set_and_go(rd, value)
+    }
+
+    #[inline(always)]
+    fn operation(&mut self, op: RegOp, rd: Reg, rs1: Reg, rs2: Reg) -> Fate
+        requires fits { rd.0 < 32 }
+        requires first { rs1.0 < 32 }
+        requires second { rs2.0 < 32 }
+        requires next { self.old.pc + 4 < 2 ^ 32 }
+        ensures exact { let value = computed op (register self.old rs1.0)
+            (register self.old rs2.0) in
+            goes_on (with_register self.old rd.0 value) ≡ fated result self.new }
+        ensures rests { IsStopped result → self.new ≡ self.old }
+        ensures kept { Keeps self.old self.new }
+    {
+        let value = compute(op, self.register(rs1), self.register(rs2));
+        self.set_and_go(rd, value)
     }
 
     #[inline(always)]
