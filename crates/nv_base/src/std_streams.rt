@@ -2,7 +2,7 @@
 // the reader's and the writer's own ghost content, where these have it.
 
 ghost use Rattle.std.specs.Prelude.{◌≡◌, ◌≤◌, ◌<◌, IfOk, OnErr, OnOk, length};
-ghost use Rattle.std.specs.Io.KnownBytes.{ReadConsumes, WriteAppends};
+ghost use Rattle.std.specs.Io.KnownBytes.{Keeps, ReadConsumes, WriteAppends};
 ghost use Rattle.nv_base.specs.StdStreams.{read_faults, reader_of, reader_seen, write_faults, writer_of, writer_seen};
 ghost use Rattle.nv_base.specs.Streams.{FaultCounted};
 
@@ -48,6 +48,19 @@ fn write_some<W: Write>(writer: &mut W, count: &mut u64, piece: &[u8]) -> Result
     }
 }
 
+/// Flushes once. `SinkFailed` where the writer failed, and then the count of faults rises.
+fn flush_some<W: Write>(writer: &mut W, count: &mut u64) -> Result<(), SinkFailed>
+    ensures bytes { Keeps (W.contents writer.old) (W.contents writer.new) }
+    ensures still { OnOk result (count.new ≡ count.old) }
+    ensures failed { OnErr result (FaultCounted count.old count.new) }
+{
+    if writer.flush().is_err() {
+        *count = count.saturating_add(1);
+        return Err(SinkFailed);
+    }
+    Ok(())
+}
+
 /// A source over a reader.
 #[derive(Debug, Drop)]
 pub struct StdSource<R: Read> {
@@ -80,7 +93,8 @@ impl<R: Read> Source for StdSource<R> {
     }
 }
 
-/// A sink over a writer. Each piece goes straight to the writer, so no byte waits here.
+/// A sink over a writer. Each piece goes straight to the writer, so no byte waits here; where the writer keeps some
+/// back, `flush` hands them on.
 #[derive(Debug, Drop)]
 pub struct StdSink<W: Write> {
     writer: W,
@@ -94,6 +108,17 @@ impl<W: Write> StdSink<W> {
         ensures faults { write_faults result ≡ 0 }
     {
         StdSink { writer, count: 0 }
+    }
+
+    /// Hands on what the writer has kept back. `SinkFailed` where the writer failed.
+    pub fn flush(&mut self) -> Result<(), SinkFailed>
+        ensures bytes { Keeps (W.contents (writer_of self.old)) (W.contents (writer_of self.new)) }
+        ensures still { OnOk result (write_faults self.new ≡ write_faults self.old) }
+        ensures failed { OnErr result
+            (FaultCounted (write_faults self.old) (write_faults self.new)) }
+        ensures never_falls { write_faults self.old ≤ write_faults self.new }
+    {
+        flush_some(&mut self.writer, &mut self.count)
     }
 }
 

@@ -132,6 +132,7 @@ fn std_readers_and_writers_pass_bytes_on(rt: HostRuntime) -> Result<(), Fail> {
     let mut written = Vec::new(rt.alloc());
     let mut sink = StdSink::new(&mut written);
     assert!(rt; put_all(&mut sink, input).is_ok());
+    assert!(rt; sink.flush().is_ok());
     assert!(rt; written.as_slice() == input);
     // a writer that has no room left takes nothing, and that is a fault
     let mut room = [0u8; 4];
