@@ -1,17 +1,14 @@
 -- How the program ends, and on which device it runs. This project's own.
-use Rattle.std.specs.Prelude.{◌≡◌, ℕ, Option, replicate}
+use Rattle.std.specs.Prelude.{ℕ, Option, replicate}
 use Rattle.fram_dev.specs.Memory.{IsNew}
 use Rattle.fram_dev.specs.declared.memory.MemFram.{MemFram}
 use Rattle.sim_run.specs.Answers.{Answered, Exchange, HasReadFew, IsComplete, LeavesDevice, NeverFalls, TellsReadFault}
 use Rattle.sim_run.specs.Promises.{KeepsHeadline, KeepsImages}
-use Rattle.answers.specs.Exits.{exit_of}
 use Rattle.answers.specs.declared.status.Status.{Status}
 use Rattle.sim_run.specs.declared.command.Command.{Command}
 
--- the exit number is that of an answer that the call may have
-pub record EndsAs (command : Option Command) (x : Exchange) (exit : ℕ) : Type 0 where
-  pub status : Status
-  pub exits : exit ≡ exit_of status
+-- the answer is one that the call may have
+pub record EndsAs (command : Option Command) (x : Exchange) (status : Status) : Type 0 where
   pub answer : Answered command x status
   pub headline : KeepsHeadline command x status
   pub images : KeepsImages command x
