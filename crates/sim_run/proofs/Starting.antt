@@ -20,12 +20,12 @@ use Rattle.kernel_core.specs.declared.open.How.TheVariants.{Fresh}
 use Rattle.kernel_core.specs.declared.open.OpenRefusal.{OpenRefusal}
 use Rattle.kernel_core.specs.declared.open.OpenRefusal.TheVariants as refusal
 use Rattle.answers.specs.declared.status.Status.TheVariants.{Small}
-use Rattle.simulation.specs.Runs.{Begins, HasDone, IsHalted}
+use Rattle.simulation.specs.Runs.{Begins, HasDone, HasDoneAll, IsHalted}
 use Rattle.simulation.specs.Stores.{Store, words_in}
 use Rattle.sim_run.specs.Replies.{Puts, Refuses, Reply, device_for, fresh_reply, fresh_run}
 use Rattle.sim_run.specs.BeforeAnswerLine.{LeavesStore, PutOrLost}
 use Rattle.sim_run.specs.Halts.{status_at}
-use Rattle.sim_run.specs.Promises.{HasRun}
+use Rattle.sim_run.specs.Promises.{HasRun, HasRunAll, IsImaged}
 use Rattle.schedule_model.specs.Failures.{events_of}
 use Rattle.script.specs.Parts as scripts
 use Rattle.script.specs.Causes.{ScriptError}
@@ -80,6 +80,11 @@ run_done set events room old mid new k o same done =
           (subst (λ (xs : List ℕ). HasImages (fresh_run set) events xs mid.log new.log done.0) same done.2),
     )
 
+pub run_all : (set : TaskSet) (events : List Event) (room : ℕ) (old mid new : Store) (k : Kernel) → IsOpened Fresh set room (words_in old) old.log (words_in mid) mid.log k → mid.start ≡ old.start → HasDoneAll (fresh_run set) events mid new → HasRunAll set events old new
+run_all set events room old mid new k o same done =
+    subst (λ (log : List Change). HasImages (fresh_run set) events old.start log new.log (length events)) o.written
+    (subst (λ (xs : List ℕ). HasImages (fresh_run set) events xs mid.log new.log (length events)) same done)
+
 -- it stopped before its end
 pub halted_reply : (r : Reply) (text : List ℕ) (l m : ℕ) (o q : Stream) (h : Halt) (status : Status) → r ≡ Puts text → IsHalted text l m o q h → status ≡ status_at h → PutOrLost r o q status
 halted_reply r text l m o q h status e halted same = subst (PutOrLost r o q) (sym same) (at h halted)
@@ -96,5 +101,5 @@ halted_store old new text l o q h status few halted same = subst (LeavesStore ol
     at halt.DeviceLost i = rose_later old.losses l new.losses few i.0
 
 -- a script is read as one alone
-pub same_script : (a b : scripts.Script) (r : Result scripts.Script ScriptError) (old new : Store) → r ≡ Ok a → r ≡ Ok b → HasRun a.set (events_of a.schedule) old new → HasRun b.set (events_of b.schedule) old new
-same_script a b r old new e f h = let ok : Ok a ≡ Ok b = sym e ∙ f in let same : a ≡ b = cc ok in subst (λ (s : scripts.Script). HasRun s.set (events_of s.schedule) old new) same h
+pub same_script : (a b : scripts.Script) (r : Result scripts.Script ScriptError) (old new : Store) (status : Status) → r ≡ Ok a → r ≡ Ok b → IsImaged a.set (events_of a.schedule) old new status → IsImaged b.set (events_of b.schedule) old new status
+same_script a b r old new status e f h = let ok : Ok a ≡ Ok b = sym e ∙ f in let same : a ≡ b = cc ok in subst (λ (s : scripts.Script). IsImaged s.set (events_of s.schedule) old new status) same h

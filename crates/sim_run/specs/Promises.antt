@@ -15,7 +15,7 @@ use Rattle.kernel_model.specs.Events.{Event}
 use Rattle.set_model.specs.Sets.{TaskSet}
 use Rattle.device_model.specs.Devices.{format_on}
 use Rattle.device_format.specs.Puts.{HasFront}
-use Rattle.simulation.specs.Runs.{HasDone}
+use Rattle.simulation.specs.Runs.{HasDone, HasDoneAll}
 use Rattle.simulation.specs.Stores.{Store}
 use Rattle.sim_run.specs.Answers.{Exchange, OfInput}
 
@@ -39,11 +39,20 @@ HasRun set events old new =
     HasFront (format_on (device_for set)) old.log new.log
     ⊎ HasDone (fresh_run set) events (record old { log = old.log ++ format_on (device_for set) }) new
 
+-- all of it: a format, and then just as many writes as all events make
+abbrev pub HasRunAll : TaskSet → List Event → (old new : Store) → Type 0
+HasRunAll set events old new = HasDoneAll (fresh_run set) events (record old { log = old.log ++ format_on (device_for set) }) new
+
+-- what a run that ends so has written; at Done all of it
+pub record IsImaged (set : TaskSet) (events : List Event) (old new : Store) (status : Status) : Type 0 where
+  pub written : HasRun set events old new
+  pub whole : status ≡ Done → HasRunAll set events old new
+
 -- of `run`, at each answer: so each image of the device is known
-abbrev pub KeepsImages : Option Command → Exchange → Type 0
-KeepsImages command x =
+abbrev pub KeepsImages : Option Command → Exchange → Status → Type 0
+KeepsImages command x status =
     command ≡ Some Run → OfInput x.source.bytes
-    (λ input. (s : Script) → read input ≡ Ok s → HasRun s.set (events_of s.schedule) x.device x.device_now)
+    (λ input. (s : Script) → read input ≡ Ok s → IsImaged s.set (events_of s.schedule) x.device x.device_now status)
 
 -- `run` that is answered by Done
 abbrev pub KeepsHeadline : Option Command → Exchange → Status → Type 0

@@ -11,7 +11,7 @@ ghost use Rattle.simulation.specs.Stores.{store};
 ghost use Rattle.sim_run.specs.Answers.{Answered, HasReadFew, IsComplete, LeavesDevice, NeverFalls, OfInput, TellsReadFault, exchange};
 ghost use Rattle.answers.specs.declared.status.Status.TheVariants as Status;
 ghost use Rattle.sim_run.specs.declared.command.Command.TheVariants as Command;
-ghost use Rattle.sim_run.specs.Promises.{HasRun, IsPromised, KeepsHeadline, KeepsImages};
+ghost use Rattle.sim_run.specs.Promises.{IsImaged, IsPromised, KeepsHeadline, KeepsImages};
 ghost use Rattle.sim_run.specs.BeforeAnswerLine.{BeforeAnswerLine, LeavesStore, PutOrLost};
 
 use crate::assembly::asm;
@@ -44,7 +44,7 @@ fn answer<K: Sink, F: Fram>(
     ensures images { let old = store F.start F.log F.lost dev.old in
         let new = store F.start F.log F.lost dev.new in
         command ≡ Command.Run → (s : Script) → read input.now ≡ Ok s
-        → HasRun s.set (events_of s.schedule) old new }
+        → IsImaged s.set (events_of s.schedule) old new result }
     ensures others { let old = store F.start F.log F.lost dev.old in
         (command ≡ Command.Run → ⊥) → store F.start F.log F.lost dev.new ≡ old }
     ensures start { F.start dev.new ≡ F.start dev.old }
@@ -75,7 +75,7 @@ fn carry_out<S: Source, K: Sink, F: Fram>(
         → OfInput (S.seen src.old).bytes IsPromised }
     ensures images { let seen = store F.start F.log F.lost in
         let x = exchange S.seen K.seen seen src.old src.new out.old out.new dev.old dev.new in
-        KeepsImages (command_of (map rc_str_bytes words.now)) x }
+        KeepsImages (command_of (map rc_str_bytes words.now)) x result }
     ensures device { let seen = store F.start F.log F.lost in
         let x = exchange S.seen K.seen seen src.old src.new out.old out.new dev.old dev.new in
         LeavesDevice (command_of (map rc_str_bytes words.now)) x }
@@ -113,7 +113,7 @@ pub fn simulate<S: Source, K: Sink, F: Fram>(
         KeepsHeadline (command_of (map rc_str_bytes words.now)) x result }
     ensures images { let seen = store F.start F.log F.lost in
         let x = exchange S.seen K.seen seen src.old src.new out.old out.new dev.old dev.new in
-        KeepsImages (command_of (map rc_str_bytes words.now)) x }
+        KeepsImages (command_of (map rc_str_bytes words.now)) x result }
     ensures device { let seen = store F.start F.log F.lost in
         let x = exchange S.seen K.seen seen src.old src.new out.old out.new dev.old dev.new in
         LeavesDevice (command_of (map rc_str_bytes words.now)) x }

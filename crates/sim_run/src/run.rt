@@ -12,7 +12,7 @@ ghost use Rattle.simulation.specs.Stores.{store};
 ghost use Rattle.sim_run.specs.BeforeAnswerLine.{LeavesStore, PutOrLost};
 ghost use Rattle.sim_run.specs.Halts.{status_at};
 ghost use Rattle.sim_run.specs.Replies.{fresh_reply, fresh_run, run_reply};
-ghost use Rattle.sim_run.specs.Promises.{HasRun, IsPromised};
+ghost use Rattle.sim_run.specs.Promises.{HasRun, HasRunAll, IsImaged, IsPromised};
 
 use answers::{Status, of_script};
 use fram_dev::Fram;
@@ -54,6 +54,8 @@ pub(crate) fn run_events<K: Sink, F: Fram>(
         → Headline (fresh_run set) events (report_text (fresh_run set) events) }
     ensures images { let old = store F.start F.log F.lost dev.old in
         HasRun set (events_of schedule.now) old (store F.start F.log F.lost dev.new) }
+    ensures whole { let old = store F.start F.log F.lost dev.old in result ≡ Status.Done
+        → HasRunAll set (events_of schedule.now) old (store F.start F.log F.lost dev.new) }
     ensures start { F.start dev.new ≡ F.start dev.old }
     ensures never_falls { F.lost dev.old ≤ F.lost dev.new }
 {
@@ -87,7 +89,8 @@ pub(crate) fn run<K: Sink, F: Fram>(alloc: Global, input: &[u8], out: &mut K, de
     ensures headline { result ≡ Status.Done → IsPromised input.now }
     ensures images { let old = store F.start F.log F.lost dev.old in
         let new = store F.start F.log F.lost dev.new in
-        (s : scripts.Script) → read input.now ≡ Ok s → HasRun s.set (events_of s.schedule) old new }
+        (s : scripts.Script) → read input.now ≡ Ok s
+        → IsImaged s.set (events_of s.schedule) old new result }
     ensures start { F.start dev.new ≡ F.start dev.old }
     ensures never_falls { F.lost dev.old ≤ F.lost dev.new }
 {

@@ -5,7 +5,7 @@ use Rattle.headline.specs.Report.{report_text}
 use Rattle.simulation.specs.Stores.{store}
 use Rattle.simulation.proofs.Halting.{no_start}
 use Rattle.sim_run.specs.Replies.{device_for, fresh_reply, fresh_run}
-use Rattle.sim_run.proofs.Starting.{begins_fresh, halted_reply, halted_store, headline_here, large_lost, large_ok, large_reply, run_done}
+use Rattle.sim_run.proofs.Starting.{begins_fresh, halted_reply, halted_store, headline_here, large_lost, large_ok, large_reply, run_all, run_done}
 use Rattle.sim_run.proofs.run.run_events.Goals as goal
 
 pub returns-in-Ok-put_report-clause-replied : goal.returns-in-Ok-put_report-clause-replied
@@ -46,6 +46,19 @@ returns-in-Ok-put_report-clause-images g c =
     let large = large_ok (length old.start) (need_on (device_for set)) c.open.result k c.open.ensures.small c.in-Ok-open.is in
     let b = begins_fresh set events c.len-room.result old mid k opened c.len-room.ensures.count few c.open.ensures.start large in
     run_done set events c.len-room.result old mid (store g.F.Fram.start g.F.Fram.log g.F.Fram.lost c.put_report.new.dev) k opened c.open.ensures.start (c.put_report.ensures.done (fresh_run set) b)
+
+pub returns-in-Ok-put_report-clause-whole : goal.returns-in-Ok-put_report-clause-whole
+returns-in-Ok-put_report-clause-whole g c = λ done.
+    let set = c.args.set in
+    let events = events_of c.args.schedule.now in
+    let old = store g.F.Fram.start g.F.Fram.log g.F.Fram.lost c.args.dev.now in
+    let mid = store g.F.Fram.start g.F.Fram.log g.F.Fram.lost c.open.new.dev in
+    let k = c.in-Ok-open.kernel in
+    let opened = c.in-Ok-open.ensures.opened in
+    let few = c.events_are_within_limits.ensures.short c.args.schedule.now c.len-room.ensures.proper in
+    let large = large_ok (length old.start) (need_on (device_for set)) c.open.result k c.open.ensures.small c.in-Ok-open.is in
+    let b = begins_fresh set events c.len-room.result old mid k opened c.len-room.ensures.count few c.open.ensures.start large in
+    run_all set events c.len-room.result old mid (store g.F.Fram.start g.F.Fram.log g.F.Fram.lost c.put_report.new.dev) k opened c.open.ensures.start (c.in-Ok-put_report.ensures.whole (fresh_run set) b)
 
 pub returns-in-Ok-open-clause-replied : goal.returns-in-Ok-open-clause-replied
 returns-in-Ok-open-clause-replied g c =
