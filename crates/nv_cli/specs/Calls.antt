@@ -14,7 +14,7 @@ pub record EndsAs (command : Option Command) (x : Exchange) (exit : ℕ) : Type 
   pub exits : exit ≡ exit_of status
   pub answer : Answered command x status
   pub headline : KeepsHeadline command x status
-  pub images : KeepsImages command x
+  pub images : KeepsImages command x status
   pub device : LeavesDevice command x
   pub complete : IsComplete command x status
   pub few : HasReadFew x.source x.source_now status
