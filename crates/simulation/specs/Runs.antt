@@ -90,6 +90,10 @@ abbrev pub HasDone : (o : Origin) (events : List Event) (first now : Store) → 
 HasDone o events first now =
     (n : ℕ) × (n ≤ length events) × HasImages o events first.start first.log now.log n
 
+-- all events were done: the device has just as many writes as they make, with all images
+abbrev pub HasDoneAll : (o : Origin) (events : List Event) (first now : Store) → Type 0
+HasDoneAll o events first now = HasImages o events first.start first.log now.log (length events)
+
 -- why a run stops before its end, and what was put of a text, where so many calls were lost before and now
 abbrev pub IsHalted : (text : List ℕ) → (before now : ℕ) → (old new : Stream) → Halt → Type 0
 IsHalted text before now old new WriteFault = PutsFront text old new
