@@ -22,9 +22,9 @@ pub struct MemFram {
     // the first write that is lost is made
     makes_lost: bool,
     lost: u64,
-    ghost same_words: { words.items ≡ made_in log.items start },
-    ghost same_len: { length words.items ≡ length start },
-    ghost small: { length start ≤ 65536 },
+    ghost same_words: { words.items ≡ made_in log.items start.items },
+    ghost same_len: { length words.items ≡ length start.items },
+    ghost small: { length start.items ≤ 65536 },
     ghost room: { vec_len log + passes + (if makes_lost then 1 else 0) ≤ vec_capacity log },
 }
 
@@ -119,9 +119,9 @@ impl MemFram {
         fused: bool,
         makes_lost: bool,
     ) -> Result<MemFram, NoMemory>
-        requires same { words.items ≡ start }
-        requires small { length start ≤ 65536 }
-        ensures fresh { IfOk result (IsNew start) }
+        requires same { words.items ≡ start.items }
+        requires small { length start.items ≤ 65536 }
+        ensures fresh { IfOk result (IsNew start.items) }
         ensures passes { IfOk result (λ m. m.passes ≡ passes) }
         ensures fused { IfOk result (λ m. m.fused ≡ fused) }
         ensures makes { IfOk result (λ m. m.makes_lost ≡ makes_lost) }
@@ -155,7 +155,7 @@ impl MemFram {
 impl Fram for MemFram {
     ghost use Rattle.fram_dev.specs.Memory.{IsAlive, lost_log};
 
-    ghost start = { λ m. m.start };
+    ghost start = { λ m. m.start.items };
 
     ghost log = { λ m. m.log.items };
 
@@ -166,11 +166,11 @@ impl Fram for MemFram {
     }
 
     fn read(&mut self, at: u32) -> Result<u32, Lost>
-        requires { at < length (self.old.start) }
+        requires { at < length (self.old.start.items) }
         ensures word { IfOk result (λ word. word
-            ≡ slice_index (made_in (self.old.log.items) (self.old.start)) at) }
+            ≡ slice_index (made_in (self.old.log.items) (self.old.start.items)) at) }
         ensures kept { self.new.log.items ≡ self.old.log.items }
-        ensures same { self.new.start ≡ self.old.start }
+        ensures same { self.new.start.items ≡ self.old.start.items }
         ensures failed { OnErr result (FaultCounted (self.old.lost) (self.new.lost)) }
         ensures never_falls { self.old.lost ≤ self.new.lost }
         ensures alive { IsAlive self.old → IsOk result }
@@ -185,11 +185,11 @@ impl Fram for MemFram {
     }
 
     fn write(&mut self, at: u32, word: u32) -> Result<(), Lost>
-        requires { at < length (self.old.start) }
+        requires { at < length (self.old.start.items) }
         ensures written { OnOk result (self.new.log.items ≡ self.old.log.items ++ (at, word) ∷ []) }
         ensures either { OnErr result ((self.new.log.items ≡ self.old.log.items)
             ⊎ (self.new.log.items ≡ self.old.log.items ++ (at, word) ∷ [])) }
-        ensures same { self.new.start ≡ self.old.start }
+        ensures same { self.new.start.items ≡ self.old.start.items }
         ensures failed { OnErr result (FaultCounted (self.old.lost) (self.new.lost)) }
         ensures never_falls { self.old.lost ≤ self.new.lost }
         ensures alive { 0 < self.old.passes

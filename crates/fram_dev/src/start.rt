@@ -16,11 +16,12 @@ pub struct StartWords {
 }
 
 impl Model for StartWords {
-    ghost use Rattle.std.specs.Prelude.{ℕ, ◌+◌, ◌≤◌, ◌++◌, List, length, replicate, vec_capacity};
+    ghost use Rattle.std.specs.Prelude.{◌+◌, ◌≤◌, ◌++◌, length, replicate, vec_capacity};
+    ghost use Rattle.fram_dev.specs.Start.{Start};
 
-    ghost Value = { List ℕ };
+    ghost Value = { Start };
 
-    ghost view = { λ s. s.given.items ++ replicate s.zeros 0 };
+    ghost view = { λ s. record { items = s.given.items ++ replicate s.zeros 0 } };
 
     ghost invariant = { λ s. length s.given.items + s.zeros ≤ vec_capacity s.given };
 }
@@ -28,7 +29,7 @@ impl Model for StartWords {
 impl StartWords {
     /// These words. `NoMemory` where there is no room for them.
     pub fn given(alloc: Global, words: &[u32]) -> Result<StartWords, NoMemory>
-        ensures { IfOk result (λ s. s ≡ words.now) }
+        ensures { IfOk result (λ s. s.items ≡ words.now) }
     {
         Ok(StartWords {
             given: words.to_vec(alloc)?,
@@ -38,7 +39,7 @@ impl StartWords {
 
     /// So many zeros. `NoMemory` where there is no room for other words in their place.
     pub fn zeros(alloc: Global, count: usize) -> Result<StartWords, NoMemory>
-        ensures { IfOk result (λ s. s ≡ replicate count 0) }
+        ensures { IfOk result (λ s. s.items ≡ replicate count 0) }
     {
         Ok(StartWords {
             given: Vec::with_capacity(alloc, count)?,
@@ -48,8 +49,8 @@ impl StartWords {
 
     /// These words are the start now.
     pub fn set(&mut self, words: &[u32])
-        requires { length words.now ≤ length self.old }
-        ensures { self.new ≡ words.now }
+        requires { length words.now ≤ length self.old.items }
+        ensures { self.new.items ≡ words.now }
     {
         refill(&mut self.given, words);
         self.zeros = 0;

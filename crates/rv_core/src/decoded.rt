@@ -19,6 +19,8 @@ const ROOM: usize = 1024;
 struct Known {
     word: u32,
     instruction: Quick,
+    // makes it 16 bytes long, so that its place is a shift away
+    spare: u32,
 }
 
 impl Model for Known {
@@ -40,6 +42,7 @@ impl Known {
         Known {
             word: 0x00000073,
             instruction: Quick::Ecall,
+            spare: 0,
         }
     }
 
@@ -95,7 +98,7 @@ impl Decoded {
         if self.known[at / 4 % ROOM].word() == word {
             return true;
         }
-        self.learn(at / 4 % ROOM, word)
+        self.learn(at, word)
     }
 
     /// The instruction of the word that the table has for an address.
@@ -109,16 +112,19 @@ impl Decoded {
 
     #[cold]
     #[inline(never)]
-    fn learn(&mut self, place: usize, word: u32) -> bool
-        requires { place < 1024 }
-        ensures known { IsTrue result → slice_index self.new place ≡ word }
+    fn learn(&mut self, at: usize, word: u32) -> bool
+        ensures known { IsTrue result → slice_index self.new (at / 4 % 1024) ≡ word }
         ensures illegal { result ≡ false → instruction_of word ≡ None }
     {
         match decode(word) {
             None => false,
             Some(i) => {
                 let instruction = case_of(i);
-                self.known[place] = Known { word, instruction };
+                self.known[at / 4 % ROOM] = Known {
+                    word,
+                    instruction,
+                    spare: 0,
+                };
                 true
             }
         }

@@ -353,8 +353,9 @@ impl Machine {
         ensures rests { IsStopped result → self.new ≡ self.old }
         ensures kept { Keeps self.old self.new }
     {
+        let next = self.pc + 4;
         self.set_register(rd, value);
-        self.pc += 4;
+        self.pc = next;
         Fate::Went
     }
 
