@@ -7,3 +7,4 @@ pub mod Gone
 pub mod Sizes
 pub mod BegunRuns
 pub mod Starting
+pub mod Stopped

@@ -27,7 +27,7 @@ use Rattle.script.specs.Parts as scripts
 use Rattle.script.specs.Causes.{ScriptError}
 use Rattle.schedule_model.specs.Failures.{events_of}
 use Rattle.answers.specs.declared.status.Status.{Status}
-use Rattle.answers.specs.declared.status.Status.TheVariants.{Done}
+use Rattle.answers.specs.declared.status.Status.TheVariants.{Done, WriteFault}
 use Rattle.sim_run.specs.Answers.{IsSpared}
 use Rattle.sim_run.specs.BeforeAnswerLine.{LeavesStore, PutOrLost}
 use Rattle.sim_run.specs.Halts.{refused_as, status_at}
@@ -74,6 +74,14 @@ never_done refusal.Lost e = cc e
 never_done refusal.Blank e = cc e
 never_done (refusal.Damaged place) e = cc e
 never_done refusal.Worn e = cc e
+
+pub never_cut : (x : OpenRefusal) → refused_as x ≡ WriteFault → ⊥
+never_cut (refusal.Small need most) e = cc e
+never_cut refusal.NoMemory e = cc e
+never_cut refusal.Lost e = cc e
+never_cut refusal.Blank e = cc e
+never_cut (refusal.Damaged place) e = cc e
+never_cut refusal.Worn e = cc e
 
 -- ---- the run
 

@@ -13,6 +13,7 @@ ghost use Rattle.sim_run.specs.BeforeAnswerLine.{LeavesStore, PutOrLost};
 ghost use Rattle.sim_run.specs.Halts.{status_at};
 ghost use Rattle.sim_run.specs.Origins.{begin_on};
 ghost use Rattle.sim_run.specs.Replies.{device_reply, run_reply};
+ghost use Rattle.sim_run.specs.Stopping.{HasStoppedOf, StoppedAs};
 ghost use Rattle.sim_run.specs.Promises.{HasImagesOf, HasPromise, HasRun, HasRunAll, IsPromised};
 
 use crate::opening::open_for;
@@ -59,6 +60,9 @@ pub(crate) fn run_events<K: Sink, F: Fram>(
         result ≡ Status.Done → HasPromise how set (events_of schedule.now) (words_in old) }
     ensures images { let old = store F.start F.log F.lost dev.old in
         HasRun how set (events_of schedule.now) old (store F.start F.log F.lost dev.new) }
+    ensures stops { let old = store F.start F.log F.lost dev.old in
+        let new = store F.start F.log F.lost dev.new in
+        StoppedAs how set (events_of schedule.now) old new (K.seen out.old) (K.seen out.new) result }
     ensures whole { let old = store F.start F.log F.lost dev.old in result ≡ Status.Done
         → HasRunAll how set (events_of schedule.now) old (store F.start F.log F.lost dev.new) }
     ensures start { F.start dev.new ≡ F.start dev.old }
@@ -97,6 +101,9 @@ pub(crate) fn run<K: Sink, F: Fram>(
         result ≡ Status.Done → IsPromised how (words_in old) input.now }
     ensures images { let old = store F.start F.log F.lost dev.old in
         HasImagesOf how old (store F.start F.log F.lost dev.new) result input.now }
+    ensures stops { let old = store F.start F.log F.lost dev.old in
+        let new = store F.start F.log F.lost dev.new in
+        HasStoppedOf how old new (K.seen out.old) (K.seen out.new) result input.now }
     ensures start { F.start dev.new ≡ F.start dev.old }
     ensures never_falls { F.lost dev.old ≤ F.lost dev.new }
 {
