@@ -8,3 +8,4 @@ pub mod Sizes
 pub mod BegunRuns
 pub mod Starting
 pub mod Stopped
+pub mod Chained

@@ -19,7 +19,7 @@ ghost use Rattle.sim_run.specs.Promises.{HasImagesOf, HasPromise, HasRun, HasRun
 use crate::opening::open_for;
 use answers::{Status, of_script};
 use fram_dev::Fram;
-use headline::laws::report_keeps_headline;
+use headline::laws::{report_keeps_headline, runs_are_one_history};
 use kernel_core::How;
 use kernel_core::laws::kernel_is_at_state;
 use nv_base::Sink;
@@ -69,6 +69,7 @@ pub(crate) fn run_events<K: Sink, F: Fram>(
     ensures never_falls { F.lost dev.old ≤ F.lost dev.new }
 {
     report_keeps_headline();
+    runs_are_one_history();
     events_are_within_limits();
     kernel_is_at_state();
     let room = schedule.len();

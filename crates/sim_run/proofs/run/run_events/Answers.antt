@@ -27,7 +27,7 @@ returns-in-Ok-put_report-clause-headline g c = λ done.
     let mid = store g.F.Fram.start g.F.Fram.log g.F.Fram.lost c.open_for.new.dev in
     let new = store g.F.Fram.start g.F.Fram.log g.F.Fram.lost c.put_report.new.dev in
     let b = c.in-Ok-open_for.ensures.begun events c.len-room.ensures.count in
-    headline_here c.args.how c.args.set events old mid c.in-Ok-open_for.kernel c.report_keeps_headline.ensures c.kernel_is_at_state.ensures.set_up b
+    headline_here c.args.how c.args.set events old mid c.in-Ok-open_for.kernel c.report_keeps_headline.ensures c.runs_are_one_history.ensures.goes_on c.kernel_is_at_state.ensures.set_up b
 
 pub returns-in-Ok-put_report-clause-images : goal.returns-in-Ok-put_report-clause-images
 returns-in-Ok-put_report-clause-images g c =
