@@ -4,6 +4,7 @@ use Rattle.fram_dev.specs.Memory.{IsNew}
 use Rattle.fram_dev.specs.declared.memory.MemFram.{MemFram}
 use Rattle.sim_run.specs.Answers.{Answered, Exchange, HasReadFew, IsComplete, LeavesDevice, NeverFalls, TellsReadFault}
 use Rattle.sim_run.specs.Promises.{KeepsHeadline, KeepsImages}
+use Rattle.sim_run.specs.Stopping.{TellsStop}
 use Rattle.answers.specs.declared.status.Status.{Status}
 use Rattle.sim_run.specs.declared.command.Command.{Command}
 
@@ -12,6 +13,7 @@ pub record EndsAs (command : Option Command) (x : Exchange) (status : Status) : 
   pub answer : Answered command x status
   pub headline : KeepsHeadline command x status
   pub images : KeepsImages command x status
+  pub stops : TellsStop command x status
   pub device : LeavesDevice command x
   pub complete : IsComplete command x status
   pub few : HasReadFew x.source x.source_now status

@@ -7,3 +7,5 @@ pub mod Gone
 pub mod Sizes
 pub mod BegunRuns
 pub mod Starting
+pub mod Stopped
+pub mod Chained

@@ -43,6 +43,7 @@ headlined c how x input r p d =
       begins = p.run.begins;
       text = d.text;
       promise = subst (Headline o events) same p.run.promise;
+      goes_on = p.run.goes_on;
       put = d.put;
     }
 

@@ -7,6 +7,7 @@ use Rattle.kernel_model.specs.Fit.{HasIds, IsSetUp}
 use Rattle.set_model.specs.Sets.{TaskSet}
 use Rattle.device_model.specs.Words.{Change, Words}
 use Rattle.device_model.specs.Devices.{need_on}
+use Rattle.headline.specs.Chains.{GoesOn}
 use Rattle.headline.specs.Headline.{Headline}
 use Rattle.headline.specs.Images.{HasImages}
 use Rattle.headline.specs.Report.{report_text}
@@ -27,7 +28,7 @@ use Rattle.script.specs.Parts as scripts
 use Rattle.script.specs.Causes.{ScriptError}
 use Rattle.schedule_model.specs.Failures.{events_of}
 use Rattle.answers.specs.declared.status.Status.{Status}
-use Rattle.answers.specs.declared.status.Status.TheVariants.{Done}
+use Rattle.answers.specs.declared.status.Status.TheVariants.{Done, WriteFault}
 use Rattle.sim_run.specs.Answers.{IsSpared}
 use Rattle.sim_run.specs.BeforeAnswerLine.{LeavesStore, PutOrLost}
 use Rattle.sim_run.specs.Halts.{refused_as, status_at}
@@ -75,17 +76,28 @@ never_done refusal.Blank e = cc e
 never_done (refusal.Damaged place) e = cc e
 never_done refusal.Worn e = cc e
 
+pub never_cut : (x : OpenRefusal) → refused_as x ≡ WriteFault → ⊥
+never_cut (refusal.Small need most) e = cc e
+never_cut refusal.NoMemory e = cc e
+never_cut refusal.Lost e = cc e
+never_cut refusal.Blank e = cc e
+never_cut (refusal.Damaged place) e = cc e
+never_cut refusal.Worn e = cc e
+
 -- ---- the run
 
 -- its premises are those of the headline
 pub headline_here : (how : How) (set : TaskSet) (events : List Event) (old new : Store) (k : Kernel) → ((o : Origin) (events : List Event) → IsSetUp (world_from o) → HasIds o.base (length events) → Headline o events (report_text o events))
-    → ((o : Origin) (k : Kernel) (words : Words) (t : _) → IsAt o k words t → IsSetUp (world_from o)) → IsBegun how set events old new k → HasPromise how set events (words_in old)
-headline_here how set events old new k law up b =
+    → ((o : Origin) (events : List Event) → IsSetUp (world_from o) → HasIds o.base (length events) → GoesOn o events) → ((o : Origin) (k : Kernel) (words : Words) (t : _) → IsAt o k words t → IsSetUp (world_from o)) → IsBegun how set events old new k → HasPromise how set events (words_in old)
+headline_here how set events old new k law goes_on up b =
     let o = b.origin in
-    let a = b.begins.at in record {
+    let a = b.begins.at in
+    let set_up = up o k (words_in new) (first_state o) a in
+    let ids : HasIds o.base (length events) = let i = a.ids in let r = b.begins.room in omega (arith, i, r) in record {
       origin = o;
       begins = b.is;
-      promise = law o events (up o k (words_in new) (first_state o) a) (let i = a.ids in let r = b.begins.room in omega (arith, i, r));
+      promise = law o events set_up ids;
+      goes_on = goes_on o events set_up ids;
     }
 
 -- its images, from the opened device on

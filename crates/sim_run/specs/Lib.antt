@@ -3,6 +3,8 @@ pub mod Origins
 pub mod Replies
 pub mod Answers
 pub mod Promises
+pub mod Stopping
+pub mod Chains
 -- Between the call and its answer.
 pub mod BeforeAnswerLine
 pub mod Halts

@@ -2,6 +2,7 @@
 use Rattle.std.specs.Prelude.{◌≡◌, ◌⊎◌, ◌≤◌, ℕ, List, ◌++◌, Option, None, Some, Ok}
 use Rattle.nv_base.specs.Streams.{PutsText}
 use Rattle.schedule_model.specs.Failures.{events_of}
+use Rattle.headline.specs.Chains.{GoesOn}
 use Rattle.headline.specs.Headline.{Headline}
 use Rattle.headline.specs.Report.{report_text}
 use Rattle.headline.specs.Runs.{Origin}
@@ -30,6 +31,7 @@ pub record HasPromise (how : How) (set : TaskSet) (events : List Event) (words :
   pub origin : Origin
   pub begins : begin_on how set words ≡ Some origin
   pub promise : Headline origin events (report_text origin events)
+  pub goes_on : GoesOn origin events
 
 -- the input is the script of such a run
 pub record IsPromised (how : How) (words : Words) (input : List ℕ) : Type 0 where
@@ -45,6 +47,7 @@ pub record IsHeadlined (how : How) (x : Exchange) (input : List ℕ) : Type 0 wh
   pub begins : begin_on how script.set (words_in x.device) ≡ Some origin
   pub text : List ℕ
   pub promise : Headline origin (events_of script.schedule) text
+  pub goes_on : GoesOn origin (events_of script.schedule)
   pub put : PutsText text x.sink x.sink_now
 
 -- what was written of a format or a migration, and what stands there then

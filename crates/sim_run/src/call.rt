@@ -7,6 +7,7 @@ ghost use Rattle.sim_run.specs.Commands.{command_of};
 ghost use Rattle.sim_run.specs.Replies.{reply};
 ghost use Rattle.sim_run.specs.Answers.{Answered, HasReadFew, IsComplete, LeavesDevice, MayUse, NeverFalls, TellsReadFault, exchange, how_of};
 ghost use Rattle.sim_run.specs.Promises.{ImagesTo, KeepsHeadline, KeepsImages, KeepsPromise, PromisesTo};
+ghost use Rattle.sim_run.specs.Stopping.{KeepsStop, StopsTo, TellsStop};
 ghost use Rattle.sim_run.specs.BeforeAnswerLine.{BeforeAnswerLine, LeavesStore, PutOrLost};
 
 use crate::assembly::asm;
@@ -40,6 +41,9 @@ fn answer<K: Sink, F: Fram>(
         PromisesTo command words result input.now }
     ensures images { let old = store F.start F.log F.lost dev.old in
         ImagesTo command old (store F.start F.log F.lost dev.new) result input.now }
+    ensures stops { let old = store F.start F.log F.lost dev.old in
+        let new = store F.start F.log F.lost dev.new in
+        StopsTo command old new (K.seen out.old) (K.seen out.new) result input.now }
     ensures device { let old = store F.start F.log F.lost dev.old in
         MayUse command old (store F.start F.log F.lost dev.new) }
     ensures never_falls { F.lost dev.old ≤ F.lost dev.new }
@@ -71,6 +75,9 @@ fn carry_out<S: Source, K: Sink, F: Fram>(
     ensures images { let seen = store F.start F.log F.lost in
         let x = exchange S.seen K.seen seen src.old src.new out.old out.new dev.old dev.new in
         KeepsImages (command_of (map rc_str_bytes words.now)) x result }
+    ensures stops { let seen = store F.start F.log F.lost in
+        let x = exchange S.seen K.seen seen src.old src.new out.old out.new dev.old dev.new in
+        KeepsStop (command_of (map rc_str_bytes words.now)) x result }
     ensures device { let seen = store F.start F.log F.lost in
         let x = exchange S.seen K.seen seen src.old src.new out.old out.new dev.old dev.new in
         LeavesDevice (command_of (map rc_str_bytes words.now)) x }
@@ -109,6 +116,9 @@ pub fn simulate<S: Source, K: Sink, F: Fram>(
     ensures images { let seen = store F.start F.log F.lost in
         let x = exchange S.seen K.seen seen src.old src.new out.old out.new dev.old dev.new in
         KeepsImages (command_of (map rc_str_bytes words.now)) x result }
+    ensures stops { let seen = store F.start F.log F.lost in
+        let x = exchange S.seen K.seen seen src.old src.new out.old out.new dev.old dev.new in
+        TellsStop (command_of (map rc_str_bytes words.now)) x result }
     ensures device { let seen = store F.start F.log F.lost in
         let x = exchange S.seen K.seen seen src.old src.new out.old out.new dev.old dev.new in
         LeavesDevice (command_of (map rc_str_bytes words.now)) x }

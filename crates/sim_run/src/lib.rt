@@ -3,6 +3,7 @@
 
 mod assembly;
 mod call;
+pub mod chains;
 mod command;
 mod input;
 mod opening;

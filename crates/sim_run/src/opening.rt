@@ -55,6 +55,7 @@ pub(crate) fn open_for<F: Fram>(
     ensures part { let old = store F.start F.log F.lost dev.old in
         OnErr result (HasOpenedPart how set old (store F.start F.log F.lost dev.new)) }
     ensures undone { IfErr result (λ status. status ≢ Status.Done) }
+    ensures unput { IfErr result (λ status. status ≢ Status.WriteFault) }
     ensures start { F.start dev.new ≡ F.start dev.old }
     ensures never_falls { F.lost dev.old ≤ F.lost dev.new }
 {

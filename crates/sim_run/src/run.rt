@@ -13,12 +13,13 @@ ghost use Rattle.sim_run.specs.BeforeAnswerLine.{LeavesStore, PutOrLost};
 ghost use Rattle.sim_run.specs.Halts.{status_at};
 ghost use Rattle.sim_run.specs.Origins.{begin_on};
 ghost use Rattle.sim_run.specs.Replies.{device_reply, run_reply};
+ghost use Rattle.sim_run.specs.Stopping.{HasStoppedOf, StoppedAs};
 ghost use Rattle.sim_run.specs.Promises.{HasImagesOf, HasPromise, HasRun, HasRunAll, IsPromised};
 
 use crate::opening::open_for;
 use answers::{Status, of_script};
 use fram_dev::Fram;
-use headline::laws::report_keeps_headline;
+use headline::laws::{report_keeps_headline, runs_are_one_history};
 use kernel_core::How;
 use kernel_core::laws::kernel_is_at_state;
 use nv_base::Sink;
@@ -59,12 +60,16 @@ pub(crate) fn run_events<K: Sink, F: Fram>(
         result ≡ Status.Done → HasPromise how set (events_of schedule.now) (words_in old) }
     ensures images { let old = store F.start F.log F.lost dev.old in
         HasRun how set (events_of schedule.now) old (store F.start F.log F.lost dev.new) }
+    ensures stops { let old = store F.start F.log F.lost dev.old in
+        let new = store F.start F.log F.lost dev.new in
+        StoppedAs how set (events_of schedule.now) old new (K.seen out.old) (K.seen out.new) result }
     ensures whole { let old = store F.start F.log F.lost dev.old in result ≡ Status.Done
         → HasRunAll how set (events_of schedule.now) old (store F.start F.log F.lost dev.new) }
     ensures start { F.start dev.new ≡ F.start dev.old }
     ensures never_falls { F.lost dev.old ≤ F.lost dev.new }
 {
     report_keeps_headline();
+    runs_are_one_history();
     events_are_within_limits();
     kernel_is_at_state();
     let room = schedule.len();
@@ -97,6 +102,9 @@ pub(crate) fn run<K: Sink, F: Fram>(
         result ≡ Status.Done → IsPromised how (words_in old) input.now }
     ensures images { let old = store F.start F.log F.lost dev.old in
         HasImagesOf how old (store F.start F.log F.lost dev.new) result input.now }
+    ensures stops { let old = store F.start F.log F.lost dev.old in
+        let new = store F.start F.log F.lost dev.new in
+        HasStoppedOf how old new (K.seen out.old) (K.seen out.new) result input.now }
     ensures start { F.start dev.new ≡ F.start dev.old }
     ensures never_falls { F.lost dev.old ≤ F.lost dev.new }
 {

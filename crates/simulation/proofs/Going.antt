@@ -33,8 +33,10 @@ use Rattle.kernel_core.specs.Events.{CutsEvent, IsAt, PassesEvent, SimulatesEven
 use Rattle.kernel_core.specs.Steps.{KeepsSet}
 use Rattle.kernel_core.specs.declared.kernel.Kernel.{Kernel}
 use Rattle.kernel_core.proofs.Lawful.{listed_at}
-use Rattle.simulation.specs.Runs.{Begins, Goes, HasDone, PutsStart, first_lines_text, tail_text}
+use Rattle.simulation.specs.Runs.{Begins, Goes, HasDone, IsHalted, PutsStart, Stops, StopsAfter, first_lines_text, found_text, tail_text}
 use Rattle.simulation.specs.Stores.{Store, words_in}
+use Rattle.simulation.specs.declared.halt.Halt.{Halt}
+use Rattle.simulation.specs.declared.halt.Halt.TheVariants as halt
 use Rattle.simulation.proofs.Fronts.{front_later, puts_more, puts_nothing}
 use Rattle.simulation.proofs.Halting.{start_here, whole_start}
 
@@ -189,28 +191,63 @@ call_lost o events n k first now p q lost g f =
     let rest = split_report o events n in
     (f, subst (λ (t : List ℕ). PutsStart t p q) (sym rest.1) (start_here p q (first_lines_text o events n) rest.0 (whole_start (first_lines_text o events n) p q g.puts)))
 
-pub call_done : (o : Origin) (events : List Event) (n : ℕ) (k : Kernel) (first now later : Store) (e : own.Event) (p q : Stream) → MoreLaw → Goes o events n k first now p q → slice_get events n ≡ Some (event_of e) → n < length events
-    → CutsEvent k e (words_in now) now.log (words_in later) later.log → later.start ≡ now.start → HasDone o events first later
+-- ---- and what the device holds then
+
+pub line_stops : (o : Origin) (events : List Event) (n : ℕ) (k j : Kernel) (first now later : Store) (e : own.Event) (l : base.Line) (p q r : Stream) (at : TaskSet) → DurableLaw → MoreLaw → Goes o events n k first now p q → slice_get events n ≡ Some (event_of e) → n < length events
+    → SimulatesEvent k e (words_in now) now.log j (words_in later) later.log l → later.start ≡ now.start → at ≡ o.device.set → PutsFront (line_text at (line_of l)) q r → Stops o events first later p r halt.WriteFault
+line_stops o events n k j first now later e l p q r at durable follows g is less turns same set put =
+    let t = leads_to o events n k j first now later e l p q durable follows g is turns same in record {
+      lines = n;
+      middle = q;
+      put = g.puts;
+      stands = inl (less, (line_text o.device.set (line_of l), t.text, subst (λ (x : TaskSet). PutsFront (line_text x (line_of l)) q r) set put, t.images));
+    }
+
+call_images : (o : Origin) (events : List Event) (n : ℕ) (k : Kernel) (first now later : Store) (e : own.Event) (p q : Stream) → MoreLaw → Goes o events n k first now p q → slice_get events n ≡ Some (event_of e)
+    → CutsEvent k e (words_in now) now.log (words_in later) later.log → later.start ≡ now.start → HasImages o events first.start first.log later.log n ⊎ HasImages o events first.start first.log later.log (n + 1)
 unfolding CutsEvent
-call_done o events n k first now later e p q follows g is less cuts same = elim (cuts o s g.at) [ inl none ↦ kept none.0 | inr made ↦ more made ]
+call_images o events n k first now later e p q follows g is cuts same = elim (cuts o s g.at) [ inl none ↦ inl (kept none.0) | inr made ↦ inr (more made) ]
   where
     s : State MachineState
     s = after o (take n events)
 
-    kept : later.log ≡ now.log → HasDone o events first later
-    kept f = (n, omega (arith, less), subst (λ (log : List Change). HasImages o events first.start first.log log n) (sym f) g.images)
+    kept : later.log ≡ now.log → HasImages o events first.start first.log later.log n
+    kept f = subst (λ (log : List Change). HasImages o events first.start first.log log n) (sym f) g.images
 
     start : first.start ≡ later.start
     start = sym (same ∙ g.start)
 
-    more : HasGrown now.log later.log (event_writes s (event_of e)) × Decodes o (words_in later) (event_step (world_from o) s (event_of e)).0 → HasDone o events first later
+    more : HasGrown now.log later.log (event_writes s (event_of e)) × Decodes o (words_in later) (event_step (world_from o) s (event_of e)).0 → HasImages o events first.start first.log later.log (n + 1)
     more made =
-        let next = one_more (world_from o) (first_state o) events n (event_of e) is in (
-          n + 1,
-          omega (arith, less),
-          follows o events first.start first.log now.log later.log n (event_of e) g.images is made.0
-              (subst (λ (xs : List ℕ). Decodes o (words_of later.log xs) (after o (take (n + 1) events))) (sym start) (subst (Decodes o (words_in later)) (sym next.0) made.1)),
-        )
+        let next = one_more (world_from o) (first_state o) events n (event_of e) is in
+        follows o events first.start first.log now.log later.log n (event_of e) g.images is made.0
+        (subst (λ (xs : List ℕ). Decodes o (words_of later.log xs) (after o (take (n + 1) events))) (sym start) (subst (Decodes o (words_in later)) (sym next.0) made.1))
+
+pub call_done : (o : Origin) (events : List Event) (n : ℕ) (k : Kernel) (first now later : Store) (e : own.Event) (p q : Stream) → MoreLaw → Goes o events n k first now p q → slice_get events n ≡ Some (event_of e) → n < length events
+    → CutsEvent k e (words_in now) now.log (words_in later) later.log → later.start ≡ now.start → HasDone o events first later
+call_done o events n k first now later e p q follows g is less cuts same = elim (call_images o events n k first now later e p q follows g is cuts same) [ inl i ↦ (n, omega (arith, less), i) | inr i ↦ (n + 1, omega (arith, less), i) ]
+
+pub call_stops : (o : Origin) (events : List Event) (n : ℕ) (k : Kernel) (first now later : Store) (e : own.Event) (p q : Stream) → MoreLaw → Goes o events n k first now p q → slice_get events n ≡ Some (event_of e) → n < length events
+    → CutsEvent k e (words_in now) now.log (words_in later) later.log → later.start ≡ now.start → Stops o events first later p q halt.DeviceLost
+call_stops o events n k first now later e p q follows g is less cuts same = record {
+  lines = n;
+  middle = q;
+  put = g.puts;
+  stands = inl (less, (refl, call_images o events n k first now later e p q follows g is cuts same));
+}
+
+-- behind the last event
+pub end_stops : (o : Origin) (events : List Event) (k : Kernel) (first now later : Store) (l m : ℕ) (p q r : Stream) (h : Halt) → Goes o events (length events) k first now p q → later.log ≡ now.log → IsHalted (tail_text o (after o (take (length events) events))) l m q r h → Stops o events first later p r h
+end_stops o events k first now later l m p q r h g same halted = record {
+  lines = length events;
+  middle = q;
+  put = g.puts;
+  stands = inr (refl, subst (λ (log : List Change). HasImages o events first.start first.log log (length events)) (sym same) g.images, at h (subst (λ (x : List Event). IsHalted (tail_text o (after o x)) l m q r h) (take_all (length events) events (omega arith)) halted));
+}
+  where
+    at : (h : Halt) → IsHalted (tail_text o (after o events)) l m q r h → StopsAfter o events q r h
+    at halt.WriteFault i = i
+    at halt.DeviceLost i = i.1
 
 -- ---- conditions of a turn
 

@@ -1,6 +1,6 @@
 -- A run of the kernel on a device, event by event, and what it puts. This project's own.
 use Rattle.std.specs.List.{flat_map}
-use Rattle.std.specs.Prelude.{◌≡◌, ℕ, ◌+◌, ◌<◌, ◌≤◌, List, ◌++◌, false, length, take}
+use Rattle.std.specs.Prelude.{◌≡◌, ◌⊎◌, ℕ, ◌+◌, ◌<◌, ◌≤◌, List, ◌++◌, false, length, take}
 use Rattle.rv_core.specs.State.{MachineState}
 use Rattle.nv_base.specs.Streams.{PutsFront, PutsText, FaultCounted, Stream}
 use Rattle.kernel_model.specs.Events.{Event, State}
@@ -98,3 +98,26 @@ HasDoneAll o events first now = HasImages o events first.start first.log now.log
 abbrev pub IsHalted : (text : List ℕ) → (before now : ℕ) → (old new : Stream) → Halt → Type 0
 IsHalted text before now old new WriteFault = PutsFront text old new
 IsHalted text before now old new DeviceLost = FaultCounted before now × PutsStart text old new
+
+-- ---- where a run stops, and what the device holds then
+
+-- at the next event, behind the lines of the first n: its line was cut, or the device lost its call, and then its writes are made or not
+abbrev pub StopsAt : (o : Origin) (events : List Event) (first now : Store) (n : ℕ) → (middle new : Stream) → Halt → Type 0
+StopsAt o events first now n middle new WriteFault =
+    (line : List ℕ) × (first_lines_text o events (n + 1) ≡ first_lines_text o events n ++ line) × PutsFront line middle new
+    × HasImages o events first.start first.log now.log (n + 1)
+StopsAt o events first now n middle new DeviceLost =
+    (new ≡ middle) × (HasImages o events first.start first.log now.log n ⊎ HasImages o events first.start first.log now.log (n + 1))
+
+-- behind the lines of all events, in what is put at the end
+abbrev pub StopsAfter : (o : Origin) (events : List Event) → (middle new : Stream) → Halt → Type 0
+StopsAfter o events middle new WriteFault = PutsFront (tail_text o (after o events)) middle new
+StopsAfter o events middle new DeviceLost = PutsStart (tail_text o (after o events)) middle new
+
+-- the lines of so many events were put, whole; and as many events have written, or one more that is not told
+pub record Stops (o : Origin) (events : List Event) (first now : Store) (old new : Stream) (h : Halt) : Type 0 where
+  pub lines : ℕ
+  pub middle : Stream
+  pub put : PutsText (first_lines_text o events lines) old middle
+  pub stands : ((lines < length events) × StopsAt o events first now lines middle new h)
+      ⊎ ((lines ≡ length events) × HasDoneAll o events first now × StopsAfter o events middle new h)

@@ -6,7 +6,7 @@ ghost use Rattle.schedule_model.specs.Failures.{events_of};
 ghost use Rattle.headline.specs.Report.{report_text};
 ghost use Rattle.headline.specs.Runs.{Origin};
 ghost use Rattle.simulation.specs.Places.{HasPlace};
-ghost use Rattle.simulation.specs.Runs.{Begins, Goes, HasDone, HasDoneAll, IsHalted};
+ghost use Rattle.simulation.specs.Runs.{Begins, Goes, HasDone, HasDoneAll, IsHalted, Stops};
 ghost use Rattle.simulation.specs.Stores.{store};
 
 use crate::halt::Halt;
@@ -23,6 +23,7 @@ use report::LineBuf;
 use schedule_model::laws::each_event_is_of_cores;
 
 /// Takes the turns of all events of a schedule, each with its line. It is handed no allocator, so no event takes memory.
+#[inline(never)]
 fn put_events<K: Sink, F: Fram>(
     kernel: &mut Kernel,
     dev: &mut F,
@@ -46,6 +47,11 @@ fn put_events<K: Sink, F: Fram>(
         let first = store F.start F.log F.lost dev.old in
         let now = store F.start F.log F.lost dev.new in
         (o : Origin) → Begins o events kernel.old first → HasDone o events first now }
+    ensures stops { let events = events_of schedule.now in
+        let first = store F.start F.log F.lost dev.old in
+        let now = store F.start F.log F.lost dev.new in
+        (o : Origin) → Begins o events kernel.old first
+        → IfErr result (Stops o events first now (K.seen out.old) (K.seen out.new)) }
     ensures start { F.start dev.new ≡ F.start dev.old }
     ensures never_falls { F.lost dev.old ≤ F.lost dev.new }
 {
@@ -99,6 +105,11 @@ pub fn put_report<K: Sink, F: Fram>(
         let first = store F.start F.log F.lost dev.old in
         let now = store F.start F.log F.lost dev.new in
         (o : Origin) → Begins o events kernel first → OnOk result (HasDoneAll o events first now) }
+    ensures stops { let events = events_of schedule.now in
+        let first = store F.start F.log F.lost dev.old in
+        let now = store F.start F.log F.lost dev.new in
+        (o : Origin) → Begins o events kernel first
+        → IfErr result (Stops o events first now (K.seen out.old) (K.seen out.new)) }
     ensures start { F.start dev.new ≡ F.start dev.old }
     ensures never_falls { F.lost dev.old ≤ F.lost dev.new }
 {

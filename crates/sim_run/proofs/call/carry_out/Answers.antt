@@ -1,5 +1,6 @@
 use Rattle.std.proofs.Common.{inl, refl, subst}
 use Rattle.simulation.specs.Stores.{store, words_in}
+use Rattle.sim_run.specs.Stopping.{StopsTo}
 use Rattle.sim_run.specs.Promises.{ImagesTo, PromisesTo}
 use Rattle.sim_run.specs.Replies.{reply}
 use Rattle.sim_run.specs.BeforeAnswerLine.{PutOrLost}
@@ -46,3 +47,10 @@ returns-in-Ok-read_input-clause-images g c =
     let new = store g.F.Fram.start g.F.Fram.log g.F.Fram.lost c.answer.new.dev in
     rw c.in-Ok.ensures (promised (ImagesTo c.in-Ok.command old new c.answer.result) _ _ c.in-Ok-read_input.input.items c.in-Ok-read_input.ensures.given
     (subst (ImagesTo c.in-Ok.command old new c.answer.result) c.as_slice.ensures.value c.answer.ensures.images))
+
+pub returns-in-Ok-read_input-clause-stops : goal.returns-in-Ok-read_input-clause-stops
+returns-in-Ok-read_input-clause-stops g c =
+    let old = store g.F.Fram.start g.F.Fram.log g.F.Fram.lost c.args.dev.now in
+    let new = store g.F.Fram.start g.F.Fram.log g.F.Fram.lost c.answer.new.dev in
+    rw c.in-Ok.ensures (promised (StopsTo c.in-Ok.command old new (g.K.Sink.seen c.args.out.now) (g.K.Sink.seen c.answer.new.out) c.answer.result) _ _ c.in-Ok-read_input.input.items c.in-Ok-read_input.ensures.given
+    (subst (StopsTo c.in-Ok.command old new (g.K.Sink.seen c.args.out.now) (g.K.Sink.seen c.answer.new.out) c.answer.result) c.as_slice.ensures.value c.answer.ensures.stops))

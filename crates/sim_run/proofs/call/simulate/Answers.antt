@@ -4,6 +4,7 @@ use Rattle.simulation.specs.Stores.{store}
 use Rattle.sim_run.specs.Answers.{exchange}
 use Rattle.sim_run.specs.Commands.{command_of}
 use Rattle.sim_run.proofs.Answering as answering
+use Rattle.sim_run.proofs.Stopped.{stop_told}
 use Rattle.sim_run.proofs.Promising.{images_later, keeps_headline, promise_later}
 use Rattle.sim_run.proofs.call.simulate.Goals as goal
 
@@ -31,3 +32,10 @@ returns-clause-images g c =
     let x = exchange g.S.Source.seen g.K.Sink.seen (store g.F.Fram.start g.F.Fram.log g.F.Fram.lost) c.args.src.now c.carry_out-status.new.src c.args.out.now c.carry_out-status.new.out c.args.dev.now c.carry_out-status.new.dev in
     let new = g.K.Sink.seen c.put_name.new.out in
     images_later command x new c.carry_out-status.result c.carry_out-status.ensures.images
+
+pub returns-clause-stops : goal.returns-clause-stops
+returns-clause-stops g c =
+    let command = command_of (map rc_str_bytes c.args.words.now) in
+    let x = exchange g.S.Source.seen g.K.Sink.seen (store g.F.Fram.start g.F.Fram.log g.F.Fram.lost) c.args.src.now c.carry_out-status.new.src c.args.out.now c.carry_out-status.new.out c.args.dev.now c.carry_out-status.new.dev in
+    let new = g.K.Sink.seen c.put_name.new.out in
+    stop_told command x new c.carry_out-status.result c.put_name.ensures c.carry_out-status.ensures.stops

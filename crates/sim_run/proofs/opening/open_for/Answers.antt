@@ -4,7 +4,7 @@ use Rattle.sim_run.specs.Replies.{device_reply}
 use Rattle.simulation.specs.Stores.{store, words_in}
 use Rattle.sim_run.proofs.BegunRuns.{begun}
 use Rattle.sim_run.proofs.Sizes.{refused_reply}
-use Rattle.sim_run.proofs.Starting.{never_done, refused_store}
+use Rattle.sim_run.proofs.Starting.{never_cut, never_done, refused_store}
 use Rattle.sim_run.proofs.opening.open_for.Goals as goal
 
 pub returns-in-Ok-clause-begun : goal.returns-in-Ok-clause-begun
@@ -31,3 +31,6 @@ returns-in-Err-clause-part g c = record { front = c.in-Err.ensures.cut; left = c
 
 pub returns-in-Err-clause-undone : goal.returns-in-Err-clause-undone
 returns-in-Err-clause-undone g c = λ e. never_done c.in-Err.refusal (sym c.refused_as.ensures ∙ e)
+
+pub returns-in-Err-clause-unput : goal.returns-in-Err-clause-unput
+returns-in-Err-clause-unput g c = λ e. never_cut c.in-Err.refusal (sym c.refused_as.ensures ∙ e)

@@ -1,6 +1,7 @@
 use Rattle.simulation.specs.Stores.{store}
 use Rattle.sim_run.proofs.SameCores.{same_cores}
 use Rattle.sim_run.proofs.Starting.{same_script}
+use Rattle.sim_run.proofs.Stopped.{same_stop}
 use Rattle.sim_run.proofs.run.run.Goals as goal
 
 pub run_events-requires : goal.run_events-requires
@@ -13,3 +14,7 @@ pub returns-in-Ok-clause-images : goal.returns-in-Ok-clause-images
 returns-in-Ok-clause-images g c = λ s e.
     same_script c.args.how _ s _ (store g.F.Fram.start g.F.Fram.log g.F.Fram.lost c.args.dev.now) (store g.F.Fram.start g.F.Fram.log g.F.Fram.lost c.run_events.new.dev) c.run_events.result c.in-Ok.ensures.reads e
     (record { written = c.run_events.ensures.images; whole = c.run_events.ensures.whole })
+
+pub returns-in-Ok-clause-stops : goal.returns-in-Ok-clause-stops
+returns-in-Ok-clause-stops g c = λ s e.
+    same_stop c.args.how _ s _ (store g.F.Fram.start g.F.Fram.log g.F.Fram.lost c.args.dev.now) (store g.F.Fram.start g.F.Fram.log g.F.Fram.lost c.run_events.new.dev) (g.K.Sink.seen c.args.out.now) (g.K.Sink.seen c.run_events.new.out) c.run_events.result c.in-Ok.ensures.reads e c.run_events.ensures.stops

@@ -5,7 +5,7 @@ use Rattle.power_trace.specs.Events.{event_of}
 use Rattle.simulation.specs.Runs.{Goes}
 use Rattle.simulation.specs.Stores.{store, words_in}
 use Rattle.simulation.proofs.Fronts.{rose_later}
-use Rattle.simulation.proofs.Going.{begun, boots_below, call_done, call_lost, goes_on, line_cut, line_done, line_named, listed_below, next_is, passes_on, rest_is, same_goes, set_at, some_left}
+use Rattle.simulation.proofs.Going.{begun, boots_below, call_done, call_lost, call_stops, goes_on, line_cut, line_done, line_named, line_stops, listed_below, next_is, passes_on, rest_is, same_goes, set_at, some_left}
 use Rattle.simulation.proofs.events.put_events.Goals as goal
 
 pub loop-init : goal.loop-init
@@ -73,6 +73,14 @@ returns-in_default-turn-clause-done g c = λ o b.
     call_done o events c.loop.counter c.pass.new.self _ (store g.F.Fram.start g.F.Fram.log g.F.Fram.lost c.loop.dev) (store g.F.Fram.start g.F.Fram.log g.F.Fram.lost c.turn.new.dev) c.in-Some.event _ _ c.images_follow_events.ensures.more
     (same_goes o (events_of c.args.schedule.now) c.loop.counter c.loop.kernel c.pass.new.self _ _ _ _ (c.pass.ensures.kept c.if-pass.false) (c.loop.invariant.goes o b)) is less c.in_default-turn.ensures.cut c.in_default-turn.ensures.start
 
+pub returns-in_default-turn-clause-stops : goal.returns-in_default-turn-clause-stops
+returns-in_default-turn-clause-stops g c = λ o b.
+    let events = events_of c.args.schedule.now in
+    let is = next_is events c.loop.counter (event_of c.in-Some.event) c.next.new.self (sym c.loop.invariant.left ∙ c.in-Some.ensures.steps) in
+    let less : c.loop.counter < length events = omega (arith, c.loop-test.true, c.len-end.ensures.count) in
+    call_stops o events c.loop.counter c.pass.new.self _ (store g.F.Fram.start g.F.Fram.log g.F.Fram.lost c.loop.dev) (store g.F.Fram.start g.F.Fram.log g.F.Fram.lost c.turn.new.dev) c.in-Some.event _ _ c.images_follow_events.ensures.more
+    (same_goes o (events_of c.args.schedule.now) c.loop.counter c.loop.kernel c.pass.new.self _ _ _ _ (c.pass.ensures.kept c.if-pass.false) (c.loop.invariant.goes o b)) is less c.in_default-turn.ensures.cut c.in_default-turn.ensures.start
+
 pub put_line-requires : goal.put_line-requires
 put_line-requires g c =
     let b = c.requires.begins in
@@ -94,6 +102,15 @@ returns-in_default-put_line-clause-done g c = λ o b.
     let less : c.loop.counter < length events = omega (arith, c.loop-test.true, c.len-end.ensures.count) in
     line_done o events c.loop.counter c.pass.new.self c.turn.new.self _ (store g.F.Fram.start g.F.Fram.log g.F.Fram.lost c.loop.dev) (store g.F.Fram.start g.F.Fram.log g.F.Fram.lost c.turn.new.dev) c.in-Some.event c.in-Ok.line _ _
     c.kernel_is_at_state.ensures.durable c.images_follow_events.ensures.more (same_goes o (events_of c.args.schedule.now) c.loop.counter c.loop.kernel c.pass.new.self _ _ _ _ (c.pass.ensures.kept c.if-pass.false) (c.loop.invariant.goes o b)) is less c.in-Ok.ensures.simulates c.in-Ok.ensures.start
+
+pub returns-in_default-put_line-clause-stops : goal.returns-in_default-put_line-clause-stops
+returns-in_default-put_line-clause-stops g c = λ o b.
+    let goes = same_goes o (events_of c.args.schedule.now) c.loop.counter c.loop.kernel c.pass.new.self _ _ _ _ (c.pass.ensures.kept c.if-pass.false) (c.loop.invariant.goes o b) in
+    let events = events_of c.args.schedule.now in
+    let is = next_is events c.loop.counter (event_of c.in-Some.event) c.next.new.self (sym c.loop.invariant.left ∙ c.in-Some.ensures.steps) in
+    let less : c.loop.counter < length events = omega (arith, c.loop-test.true, c.len-end.ensures.count) in
+    line_stops o events c.loop.counter c.pass.new.self c.turn.new.self _ (store g.F.Fram.start g.F.Fram.log g.F.Fram.lost c.loop.dev) (store g.F.Fram.start g.F.Fram.log g.F.Fram.lost c.turn.new.dev) c.in-Some.event c.in-Ok.line _ _ _ c.set.result.now
+    c.kernel_is_at_state.ensures.durable c.images_follow_events.ensures.more goes is less c.in-Ok.ensures.simulates c.in-Ok.ensures.start (c.set.ensures ∙ c.in-Ok.ensures.rest.set ∙ set_at o c.pass.new.self _ _ goes.at) c.in_default-put_line.ensures.front
 
 pub loop-preserved : goal.loop-preserved
 loop-preserved g c =

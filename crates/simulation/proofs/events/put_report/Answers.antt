@@ -6,9 +6,10 @@ use Rattle.device_model.specs.Words.{Change}
 use Rattle.headline.specs.Images.{HasImages}
 use Rattle.headline.specs.Report.{report_text}
 use Rattle.headline.specs.Runs.{after}
-use Rattle.simulation.specs.Runs.{IsHalted, first_lines_text, tail_text}
+use Rattle.simulation.specs.Runs.{IsHalted, Stops, first_lines_text, tail_text}
+use Rattle.simulation.specs.Stores.{store}
 use Rattle.simulation.proofs.Fronts.{puts_more}
-use Rattle.simulation.proofs.Going.{ended_report}
+use Rattle.simulation.proofs.Going.{end_stops, ended_report}
 use Rattle.simulation.proofs.Halting.{halted_next}
 use Rattle.simulation.proofs.events.put_report.Goals as goal
 
@@ -55,3 +56,20 @@ returns-clause-whole g c = λ o b.
     let goes = c.in_default.ensures.goes o b in
     on_ok_weaker c.put_tail.result
     (λ put. subst (λ (log : List Change). HasImages o events (g.F.Fram.start c.args.dev.now) (g.F.Fram.log c.args.dev.now) log (length events)) (sym c.put_tail.ensures.log) goes.images) (c.put_tail.ensures.put o s goes.at)
+
+pub returns-clause-stops : goal.returns-clause-stops
+returns-clause-stops g c = λ o b.
+    let events = events_of c.args.schedule.now in
+    let first = store g.F.Fram.start g.F.Fram.log g.F.Fram.lost c.args.dev.now in
+    let mid = store g.F.Fram.start g.F.Fram.log g.F.Fram.lost c.put_events.new.dev in
+    let now = store g.F.Fram.start g.F.Fram.log g.F.Fram.lost c.put_tail.new.dev in
+    let s = after o (take (length events) events) in
+    let goes = c.in_default.ensures.goes o b in
+    let l = g.F.Fram.lost c.put_events.new.dev in
+    let m = g.F.Fram.lost c.put_tail.new.dev in
+    let p = g.K.Sink.seen c.args.out.now in
+    let q = g.K.Sink.seen c.put_events.new.out in
+    let r = g.K.Sink.seen c.put_tail.new.out in
+    IfErr-weaker c.put_tail.result (IsHalted (tail_text o s) l m q r) (Stops o events first now p r)
+    (λ h e. end_stops o events _ first mid now l m p q r h goes c.put_tail.ensures.log e)
+    (c.put_tail.ensures.halted o s goes.at)
