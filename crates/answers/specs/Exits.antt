@@ -3,7 +3,9 @@ use Rattle.std.specs.Prelude.{ℕ, List, [], ◌++◌, codes}
 use Rattle.std.specs.Fmt.{decimal}
 use Rattle.script.specs.CauseWords.{cause_word}
 use Rattle.answers.specs.declared.status.Status.{Status}
-use Rattle.answers.specs.declared.status.Status.TheVariants.{Done, Usage, Script, Packed, ReadFault, WriteFault, NoMemory, DeviceLost, Small}
+use Rattle.answers.specs.declared.status.Status.TheVariants.{Done, Usage, Script, Packed, ReadFault, WriteFault, NoMemory, DeviceLost, Image, Small}
+use Rattle.answers.specs.declared.status.ImageFault.{ImageFault}
+use Rattle.answers.specs.declared.status.ImageFault.TheVariants.{Blank, Damaged, Worn}
 
 abbrev pub exit_of : Status → ℕ
 exit_of Done = 0
@@ -14,7 +16,14 @@ exit_of ReadFault = 4
 exit_of WriteFault = 5
 exit_of NoMemory = 6
 exit_of DeviceLost = 7
+exit_of (Image fault) = 8
 exit_of (Small need len) = 9
+
+-- why a device holds no state to go on from
+abbrev pub fault_line : ImageFault → List ℕ
+fault_line Blank = codes "error image blank\n"
+fault_line (Damaged place) = codes "error image damaged " ++ decimal place ++ codes "\n"
+fault_line Worn = codes "error image worn\n"
 
 -- with its line feed
 abbrev pub line_for : Status → List ℕ
@@ -26,4 +35,5 @@ line_for (Packed place) = codes "error packed " ++ decimal place ++ codes "\n"
 line_for ReadFault = codes "error read\n"
 line_for NoMemory = codes "error memory\n"
 line_for DeviceLost = codes "error device\n"
+line_for (Image fault) = fault_line fault
 line_for (Small need len) = codes "error small " ++ decimal need ++ codes " " ++ decimal len ++ codes "\n"

@@ -6,7 +6,7 @@ ghost use Rattle.arrayvec.specs.ArrayString.{array_string_len};
 ghost use Rattle.answers.specs.Exits.{line_for};
 ghost use Rattle.answers.specs.Names.{PutsName};
 
-use crate::status::Status;
+use crate::status::{ImageFault, Status};
 use arrayvec::ArrayString;
 use nv_base::{Sink, put_all};
 
@@ -56,6 +56,13 @@ fn line_for(status: Status) -> ArrayString<ROOM>
         Status::ReadFault => push(&mut line, "error read\n"),
         Status::NoMemory => push(&mut line, "error memory\n"),
         Status::DeviceLost => push(&mut line, "error device\n"),
+        Status::Image(ImageFault::Blank) => push(&mut line, "error image blank\n"),
+        Status::Image(ImageFault::Damaged(place)) => {
+            push(&mut line, "error image damaged ");
+            push_number(&mut line, place);
+            push(&mut line, "\n");
+        }
+        Status::Image(ImageFault::Worn) => push(&mut line, "error image worn\n"),
         Status::Small { need, len } => {
             push(&mut line, "error small ");
             push_number(&mut line, need);

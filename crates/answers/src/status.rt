@@ -24,6 +24,9 @@ pub enum Status {
     NoMemory,
     /// 7, `error device`: the device lost a call.
     DeviceLost,
+    /// 8, `error image blank`, `error image damaged PLACE` or `error image worn`: the device holds no state to go on from.
+    /// Nothing was written.
+    Image(ImageFault),
     /// 9, `error small NEED LEN`: the device has fewer words than the set needs. Nothing was written.
     Small {
         /// How many words the set needs.
@@ -33,8 +36,7 @@ pub enum Status {
     },
 }
 
-/// Why the words of a device hold no state to go on from. No command goes on from a device yet: the answer that holds
-/// this comes with the first that does.
+/// Why the words of a device hold no state to go on from.
 #[derive(Clone, Copy, PartialEq, Eq, Debug)]
 pub enum ImageFault {
     /// Nothing was formatted.
@@ -58,6 +60,7 @@ impl Status {
             Status::WriteFault => 5,
             Status::NoMemory => 6,
             Status::DeviceLost => 7,
+            Status::Image(_) => 8,
             Status::Small { .. } => 9,
         }
     }

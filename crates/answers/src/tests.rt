@@ -1,6 +1,6 @@
 // Each answer with its exit number and its line, and a sink that fails on the line.
 
-use crate::{Status, put_name};
+use crate::{ImageFault, Status, put_name};
 use nv_base::MemSink;
 use rv_asm::AsmCause;
 use script::{ScriptCause, ScriptError};
@@ -34,6 +34,13 @@ fn each_answer_has_its_exit_and_its_line(rt: HostRuntime) -> Result<(), Fail> {
         (Status::WriteFault, 5, ""),
         (Status::NoMemory, 6, "error memory\n"),
         (Status::DeviceLost, 7, "error device\n"),
+        (Status::Image(ImageFault::Blank), 8, "error image blank\n"),
+        (
+            Status::Image(ImageFault::Damaged(4_294_967_295)),
+            8,
+            "error image damaged 4294967295\n",
+        ),
+        (Status::Image(ImageFault::Worn), 8, "error image worn\n"),
         (
             Status::Small {
                 need: 4_294_967_295,

@@ -1,5 +1,5 @@
 -- One step of a try that runs.
-use Rattle.std.proofs.Common.{◌≡◌, List, Option, None, refl, sym, ◌∙◌, subst}
+use Rattle.std.proofs.Common.{◌≡◌, List, Option, None, Some, false, is_some, refl, sym, ◌∙◌, subst}
 use Rattle.nv_base.specs.declared.ids.ObjId.{ObjId}
 use Rattle.set_model.specs.Sets.{TaskSet}
 use Rattle.set_model.specs.Views.{outcome_of}
@@ -15,8 +15,14 @@ use Rattle.vol_copy.specs.declared.attempt.Stage.TheVariants as stage
 use Rattle.vol_copy.specs.declared.running.Need.TheVariants as need
 use Rattle.core_seats.specs.Holding.{StandsForBy}
 use Rattle.core_seats.specs.Steps.{Fetches, Leaves, RunsOn}
+use Rattle.core_seats.specs.declared.seat.Saving.{Saving}
 use Rattle.core_seats.specs.declared.seat.Seat.{Seat}
 use Rattle.core_seats.proofs.Standing.{leaves_still, running_try}
+
+-- no finish commits
+pub no_finish : (v : Option Saving) → is_some v ≡ false → v ≡ None
+no_finish None e = refl
+no_finish (Some v) e = cc e
 
 -- it runs on
 pub runs_on : (set : TaskSet) (chains : List Chain) (old : Seat) (a : Attempt) → old.saving ≡ None → old.attempt.stage ≡ stage.Running → a.stage ≡ stage.Running → Advances set old.attempt a need.Went → RunsOn set chains old (record old { attempt = a }) None

@@ -1,9 +1,10 @@
 //! What one core holds, and what its own steps make of it.
 
-ghost use Rattle.std.specs.Prelude.{◌≡◌, ◌<◌, ◌≤◌, ℕ, IfOk, Some, None, length, true};
+ghost use Rattle.std.specs.Prelude.{◌≡◌, ◌<◌, ◌≤◌, ℕ, IfOk, IsTrue, List, Some, None, false, length, true};
 ghost use Rattle.std.specs.Option.{option_map};
 ghost use Rattle.std.specs.List.{list_any};
 ghost use Rattle.object_sets.specs.ObjectSets.{is_among};
+ghost use Rattle.set_model.specs.Sets.{TaskSet};
 ghost use Rattle.set_model.specs.Views.{task_of};
 ghost use Rattle.device_model.specs.IndexWords.{Index};
 ghost use Rattle.task_model.specs.TaskSteps.{task_steps};
@@ -12,6 +13,7 @@ ghost use Rattle.table_machine.specs.Seats.{start_try};
 ghost use Rattle.kernel_model.specs.Chain.{cut as cut_at};
 ghost use Rattle.interval.specs.Ranges.{range_of};
 ghost use Rattle.validate.specs.Views.{view_of};
+ghost use Rattle.ver_table.specs.Chains.{Chain};
 ghost use Rattle.vol_copy.specs.Tries.{IsFor};
 ghost use Rattle.vol_copy.specs.Stages.{IsCopying, IsFetching, is_waiting};
 ghost use Rattle.vol_copy.specs.declared.attempt.Stage.{Stage};
@@ -104,6 +106,23 @@ impl Seat {
         }
     }
 
+    /// One step of a try that runs and runs on behind it, of a core of which no finish commits. Else nothing has changed,
+    /// and the turn is that of another call. It takes no memory, and asks nothing of the set and of the versions.
+    #[inline(always)]
+    pub fn go(&mut self) -> bool
+        ensures rests { result ≡ false → self.new ≡ self.old }
+        ensures running { IsTrue result → self.old.attempt.stage ≡ Stage.Running }
+        ensures trying { IsTrue result → self.old.saving ≡ None }
+        ensures kept { (set : TaskSet) → IsFor set self.old.attempt → IsFor set self.new.attempt }
+        ensures runs { IsTrue result
+            → (set : TaskSet) (chains : List Chain) → RunsOn set chains self.old self.new None }
+    {
+        if self.saving.is_some() {
+            return false;
+        }
+        self.attempt.go()
+    }
+
     // An outside read of an object.
     fn fetch(&mut self, versions: &Versions, object: ObjId) -> Option<Stale>
         requires kept { (set : TaskSet) × IsFor set self.old.attempt
@@ -183,6 +202,7 @@ impl Seat {
     }
 
     /// The task that the core holds, if it holds one.
+    #[inline(always)]
     pub fn task(&self) -> Option<TaskId>
         ensures { option_map (λ id. id.0) result ≡ task_in self.now }
     {

@@ -9,7 +9,7 @@ words_in m = m.words.items
 
 -- nothing was written yet, and nothing lost
 pub record IsNew (words : List ℕ) (m : MemFram) : Type 0 where
-  pub start : m.start.items ≡ words
+  pub start : m.start ≡ words
   pub log : m.log.items ≡ []
   pub lost : m.lost ≡ 0
 

@@ -3,6 +3,7 @@
 
 mod device;
 mod memory;
+mod start;
 
 pub use device::{Fram, Lost};
 pub use memory::MemFram;

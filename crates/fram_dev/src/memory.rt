@@ -1,17 +1,18 @@
 // A device in memory: it loses calls from a given write on.
 
-ghost use Rattle.std.specs.Prelude.{ℕ, ◌≡◌, ◌+◌, ◌-◌, ◌<◌, ◌≤◌, ◌⊎◌, false, List, [], ◌∷◌, ◌++◌, IfOk, OnOk, OnErr, IsOk, IsErr, slice_index, slice_set, length, vec_len, vec_capacity, if◌then◌else◌};
+ghost use Rattle.std.specs.Prelude.{ℕ, ◌≡◌, ◌+◌, ◌-◌, ◌<◌, ◌≤◌, ◌⊎◌, false, List, [], ◌∷◌, ◌++◌, IfOk, OnOk, OnErr, IsOk, IsErr, slice_index, slice_set, length, replicate, vec_len, vec_capacity, if◌then◌else◌};
 ghost use Rattle.nv_base.specs.Streams.{FaultCounted};
 ghost use Rattle.fram_dev.specs.Device.{Change, made_in};
 
 use crate::device::{Fram, Lost};
+use crate::start::StartWords;
 use nv_base::NoMemory;
 use std::alloc::Global;
 
 /// A device in memory.
 #[derive(Debug, Drop)]
 pub struct MemFram {
-    start: Vec<u32>,
+    start: StartWords,
     words: Vec<u32>,
     log: Vec<(u32, u32)>,
     // how many writes pass yet
@@ -21,9 +22,9 @@ pub struct MemFram {
     // the first write that is lost is made
     makes_lost: bool,
     lost: u64,
-    ghost same_words: { words.items ≡ made_in log.items start.items },
-    ghost same_len: { length words.items ≡ length start.items },
-    ghost small: { length start.items ≤ 65536 },
+    ghost same_words: { words.items ≡ made_in log.items start },
+    ghost same_len: { length words.items ≡ length start },
+    ghost small: { length start ≤ 65536 },
     ghost room: { vec_len log + passes + (if makes_lost then 1 else 0) ≤ vec_capacity log },
 }
 
@@ -38,6 +39,18 @@ impl MemFram {
         ensures passes { IfOk result (Passes room) }
     {
         MemFram::make(alloc, start, room, false, false)
+    }
+
+    /// A device of so many words, all 0, of which it keeps one list alone. It passes so many writes, and then loses every
+    /// call. `NoMemory` as for `new`.
+    pub fn zeros(alloc: Global, words: u32, room: u32) -> Result<MemFram, NoMemory>
+        requires { words ≤ 65536 }
+        ensures fresh { IfOk result (IsNew (replicate words 0)) }
+        ensures passes { IfOk result (Passes room) }
+    {
+        let start = StartWords::zeros(alloc, words as usize)?;
+        let zeros = vec![in alloc; 0u32; words as usize]?;
+        MemFram::begin(alloc, start, zeros, room, false, false)
     }
 
     /// A device with these words. It passes k writes and loses the next one, which is made where `new` holds; then it
@@ -76,7 +89,7 @@ impl MemFram {
         ensures lost { ⟦<MemFram as Fram>⟧.lost self.new ≡ ⟦<MemFram as Fram>⟧.lost self.old }
     {
         self.words[at as usize] = v;
-        self.start.copy_from_slice(&self.words);
+        self.start.set(&self.words);
         self.log.clear();
     }
 
@@ -93,9 +106,29 @@ impl MemFram {
         ensures fused { IfOk result (λ m. m.fused ≡ fused) }
         ensures makes { IfOk result (λ m. m.makes_lost ≡ makes_lost) }
     {
+        let words = start.to_vec(alloc)?;
+        let start = StartWords::given(alloc, start)?;
+        MemFram::begin(alloc, start, words, passes, fused, makes_lost)
+    }
+
+    fn begin(
+        alloc: Global,
+        start: StartWords,
+        words: Vec<u32>,
+        passes: u32,
+        fused: bool,
+        makes_lost: bool,
+    ) -> Result<MemFram, NoMemory>
+        requires same { words.items ≡ start }
+        requires small { length start ≤ 65536 }
+        ensures fresh { IfOk result (IsNew start) }
+        ensures passes { IfOk result (λ m. m.passes ≡ passes) }
+        ensures fused { IfOk result (λ m. m.fused ≡ fused) }
+        ensures makes { IfOk result (λ m. m.makes_lost ≡ makes_lost) }
+    {
         Ok(MemFram {
-            start: start.to_vec(alloc)?,
-            words: start.to_vec(alloc)?,
+            start,
+            words,
             log: Vec::with_capacity(alloc, passes as usize + 1)?,
             passes,
             fused,
@@ -122,22 +155,22 @@ impl MemFram {
 impl Fram for MemFram {
     ghost use Rattle.fram_dev.specs.Memory.{IsAlive, lost_log};
 
-    ghost start = { λ m. m.start.items };
+    ghost start = { λ m. m.start };
 
     ghost log = { λ m. m.log.items };
 
     ghost lost = { λ m. m.lost };
 
     fn len(&self) -> u32 {
-        self.start.len() as u32
+        self.words.len() as u32
     }
 
     fn read(&mut self, at: u32) -> Result<u32, Lost>
-        requires { at < length (self.old.start.items) }
+        requires { at < length (self.old.start) }
         ensures word { IfOk result (λ word. word
-            ≡ slice_index (made_in (self.old.log.items) (self.old.start.items)) at) }
+            ≡ slice_index (made_in (self.old.log.items) (self.old.start)) at) }
         ensures kept { self.new.log.items ≡ self.old.log.items }
-        ensures same { self.new.start.items ≡ self.old.start.items }
+        ensures same { self.new.start ≡ self.old.start }
         ensures failed { OnErr result (FaultCounted (self.old.lost) (self.new.lost)) }
         ensures never_falls { self.old.lost ≤ self.new.lost }
         ensures alive { IsAlive self.old → IsOk result }
@@ -152,11 +185,11 @@ impl Fram for MemFram {
     }
 
     fn write(&mut self, at: u32, word: u32) -> Result<(), Lost>
-        requires { at < length (self.old.start.items) }
+        requires { at < length (self.old.start) }
         ensures written { OnOk result (self.new.log.items ≡ self.old.log.items ++ (at, word) ∷ []) }
         ensures either { OnErr result ((self.new.log.items ≡ self.old.log.items)
             ⊎ (self.new.log.items ≡ self.old.log.items ++ (at, word) ∷ [])) }
-        ensures same { self.new.start.items ≡ self.old.start.items }
+        ensures same { self.new.start ≡ self.old.start }
         ensures failed { OnErr result (FaultCounted (self.old.lost) (self.new.lost)) }
         ensures never_falls { self.old.lost ≤ self.new.lost }
         ensures alive { 0 < self.old.passes

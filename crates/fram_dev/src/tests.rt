@@ -38,3 +38,17 @@ fn a_fused_device_loses_one_write_old_or_new(rt: HostRuntime) -> Result<(), Fail
     }
     Ok(())
 }
+
+#[test]
+fn a_device_of_zeros_begins_anew_at_a_poke(rt: HostRuntime) -> Result<(), Fail> {
+    let mut device = MemFram::zeros(rt.alloc(), 3, 2)?;
+    assert_eq!(rt; device.len(), 3);
+    assert!(rt; matches!(device.read(2), Ok(0)));
+    assert!(rt; matches!(device.write(1, 5), Ok(())));
+    device.poke(2, 7);
+    assert!(rt; device.words() == [0, 5, 7].as_slice());
+    assert!(rt; matches!(device.write(0, 6), Ok(())));
+    assert!(rt; device.write(0, 1).is_err());
+    assert!(rt; device.words() == [6, 5, 7].as_slice());
+    Ok(())
+}

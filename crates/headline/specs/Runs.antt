@@ -1,5 +1,5 @@
 -- A run of a task set's event machine, on a device that holds a state when the run begins. This project's own.
-use Rattle.std.specs.Prelude.{ℕ, List, take, Option, None}
+use Rattle.std.specs.Prelude.{ℕ, List, Option, None}
 use Rattle.rv_core.specs.State.{MachineState}
 use Rattle.kernel_model.specs.Items.{Entry}
 use Rattle.kernel_model.specs.Replay.{DeviceState}

@@ -1,19 +1,21 @@
 //! The headline holds of the event machine's own report, and the images of a device follow its events.
 
 ghost use Rattle.std.specs.Prelude.{ℕ, ◌≡◌, ◌+◌, ◌++◌, List, Option, length, slice_get, take};
+ghost use Rattle.kernel_model.specs.Items.{listing};
 ghost use Rattle.kernel_model.specs.Events.{Event};
-ghost use Rattle.kernel_model.specs.Durable.{event_writes};
+ghost use Rattle.kernel_model.specs.Durable.{event_writes, listed};
 ghost use Rattle.kernel_model.specs.Fit.{HasIds, IsSetUp};
 ghost use Rattle.device_model.specs.Words.{Change};
 ghost use Rattle.recovery.specs.Images.{words_of};
-ghost use Rattle.headline.specs.Runs.{Origin, after, first_state, world_from};
+ghost use Rattle.headline.specs.Runs.{Origin, after, first_state, state_read, world_from};
 ghost use Rattle.headline.specs.Report.{report_text};
 ghost use Rattle.headline.specs.Headline.{Headline};
+ghost use Rattle.headline.specs.Chains.{Follows, GoesOn, IsSerial};
 ghost use Rattle.headline.specs.Images.{Decodes, HasGrown, HasImages};
 
 use kernel_model::event_by_event::{one_event_more, start_line_is_fresh, writes_only_grow};
 use kernel_model::lines::{no_task_is_told_twice, report_tells_listing};
-use kernel_model::machine::listing_is_serial;
+use kernel_model::machine::{listing_goes_on, listing_is_serial};
 use rv_core::Machine;
 
 /// Of each run with ids for the children of as many finishes as it has events, the event machine's report keeps what the headline promises.
@@ -25,6 +27,20 @@ pub fn report_keeps_headline()
     report_tells_listing::<Machine>();
     no_task_is_told_twice::<Machine>();
     start_line_is_fresh::<Machine>();
+}
+
+/// A run goes on with what left its base; and two runs, the second on what the first left, list one history together.
+pub fn runs_are_one_history()
+    ensures goes_on { (o : Origin) (events : List Event) → IsSetUp (world_from o)
+        → HasIds o.base (length events) → GoesOn o events }
+    ensures together { (o p : Origin) (events more : List Event)
+        → IsSetUp (world_from o) → HasIds o.base (length events)
+        → IsSetUp (world_from p) → HasIds p.base (length more) → Follows o events p
+        → let first = listing (listed (after o events)) in
+        IsSerial o.device.set o.base (first ++ listing (listed (after p more))) (state_read p more) }
+{
+    listing_is_serial::<Machine>();
+    listing_goes_on::<Machine>();
 }
 
 /// Words that hold what is durable before the first event have all images of no event; and with each event whose writes are

@@ -24,3 +24,4 @@ pub mod Joined
 pub mod Stepping
 pub mod BegunAgain
 pub mod Moving
+pub mod Unchanged

@@ -105,7 +105,7 @@ never_fetches k words t n s object h g same e =
 
 -- ---- which of the two a core is
 
-power_on : (p : Power) → ((b : Boot) → p ≡ power.Boot b → ⊥) → p ≡ power.On
+pub power_on : (p : Power) → ((b : Boot) → p ≡ power.Boot b → ⊥) → p ≡ power.On
 power_on power.On off = refl
 power_on (power.Boot b) off = absurd (off b refl)
 

@@ -2,6 +2,7 @@
 use Rattle.std.specs.Prelude.{◌≡◌, ◌⊎◌, ℕ, List, ◌++◌}
 use Rattle.rv_core.specs.State.{MachineState}
 use Rattle.nv_base.specs.declared.lines.Line.{Line}
+use Rattle.nv_base.specs.declared.lines.Line.TheVariants.{Nothing}
 use Rattle.kernel_model.specs.Events.{CoreStep}
 use Rattle.device_model.specs.Words.{Change, Words, made}
 use Rattle.table_machine.specs.Tables.{Tables}
@@ -35,3 +36,13 @@ HasImage old n words later = (t : Tables MachineState) → Keeps old words t →
 -- they are made, or none is
 unfoldable pub MayHaveWritten : Kernel → (n : ℕ) → (words later : Words) → (log grown : List Change) → Type 0
 MayHaveWritten old n words later log grown = (t : Tables MachineState) → Keeps old words t → IsLawful old words t → (grown ≡ log) ⊎ HasMade (step_of old words t n).writes words later log grown
+
+-- a step of core n that leaves the words as they are, and tells nothing
+pub record PassesOn (old : Kernel) (n : ℕ) (new : Kernel) (words : Words) : Type 0 where
+  pub steps : Steps old n words new words Nothing
+  pub written : (log : List Change) → HasWritten old n words log log
+  pub image : HasImage old n words words
+
+-- whatever these are
+unfoldable pub Passes : Kernel → ℕ → Kernel → Type 0
+Passes old n new = (words : Words) → PassesOn old n new words

@@ -2,6 +2,7 @@
 use Rattle.std.specs.Prelude.{◌≡◌, ℕ, ◌<◌, ◌++◌, Bool, List, set, get_or, length, Some, None}
 use Rattle.rv_core.specs.State.{MachineState}
 use Rattle.nv_base.specs.declared.lines.Line.{Line}
+use Rattle.nv_base.specs.declared.lines.Line.TheVariants.{Nothing}
 use Rattle.kernel_model.specs.Cores.{all_but}
 use Rattle.set_model.specs.Views.{line_of}
 use Rattle.device_model.specs.Words.{Change, Words, made}
@@ -9,7 +10,9 @@ use Rattle.table_machine.specs.Tables.{Seat, Vacant, Tables}
 use Rattle.table_machine.specs.Seats.{SeatTurn, seat_turn}
 use Rattle.table_machine.specs.Events.{Answer, core_answer}
 use Rattle.vol_copy.specs.declared.attempt.Stage.{Stage}
+use Rattle.task_queue.specs.Queues.{is_held}
 use Rattle.core_seats.specs.declared.seat.Seat as own
+use Rattle.core_seats.specs.Others.{listed_if, task_in}
 use Rattle.core_seats.specs.declared.seat.Saving.{Saving}
 use Rattle.kernel_core.specs.Commits.{setting_on}
 use Rattle.kernel_core.specs.Keeping.{IsLawful, Keeps}
@@ -35,6 +38,10 @@ pub record IsSavingAt (k : Kernel) (n : ℕ) (is_whole : Bool) : Type 0 where
   pub saving_is : seat.saving ≡ Some saving
   pub whole : saving.is_whole ≡ is_whole
 
+-- whether a core holds a task
+abbrev pub is_on : (task : ℕ) → own.Seat → Bool
+is_on task s = is_held (listed_if (task_in s)) task
+
 -- what core n holds, and what its step makes of it
 abbrev pub held_at : Tables MachineState → ℕ → Seat MachineState
 held_at t n = get_or t.seats n Vacant
@@ -54,6 +61,10 @@ TurnsOn words old n new line = (t : Tables MachineState) → Keeps old words t �
 -- on any words
 unfoldable pub SeatTurns : Kernel → ℕ → Kernel → Line → Type 0
 SeatTurns old n new line = (words : Words) (t : Tables MachineState) → Keeps old words t → IsLawful old words t → HasTurned new words t n (turn_at old words t n) line
+
+-- that tells nothing
+abbrev pub SeatPasses : Kernel → ℕ → Kernel → Type 0
+SeatPasses old n new = SeatTurns old n new Nothing
 
 -- what a step of core n makes of the tables, and what it writes
 abbrev pub answer_at : Kernel → Words → Tables MachineState → ℕ → Answer MachineState

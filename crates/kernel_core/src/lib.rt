@@ -7,6 +7,7 @@ mod copying;
 mod kernel;
 pub mod laws;
 mod open;
+mod passing;
 mod power;
 mod running;
 mod start;

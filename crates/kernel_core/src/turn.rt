@@ -22,6 +22,7 @@ use vol_copy::Doing;
 impl Kernel {
     /// One event, with one write to the device at most: its line. `Lost` where the device lost the call: then its write is
     /// made, or it is not, and the kernel takes no event any more.
+    #[inline(never)]
     pub fn turn<F: Fram>(&mut self, dev: &mut F, event: Event) -> Result<Line, Lost>
         requires at { Stands self.old (words_of (F.log dev.old) (F.start dev.old)) }
         requires core { IsOfCores self.old.set.cores (event_of event) }

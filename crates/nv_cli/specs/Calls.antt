@@ -11,7 +11,7 @@ use Rattle.sim_run.specs.declared.command.Command.{Command}
 pub record EndsAs (command : Option Command) (x : Exchange) (status : Status) : Type 0 where
   pub answer : Answered command x status
   pub headline : KeepsHeadline command x status
-  pub images : KeepsImages command x
+  pub images : KeepsImages command x status
   pub device : LeavesDevice command x
   pub complete : IsComplete command x status
   pub few : HasReadFew x.source x.source_now status

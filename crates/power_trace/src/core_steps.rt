@@ -33,6 +33,7 @@ impl<'a> ItemSteps<'a> {
         }
     }
 
+    #[inline(always)]
     fn next_core(&mut self) -> Option<u8>
         ensures { YieldsFirst steps_left self.old result self.new }
     {
@@ -80,6 +81,7 @@ impl<'a> CoreSteps<'a> {
     }
 
     /// The core of the next step.
+    #[inline(always)]
     pub(crate) fn next_core(&mut self) -> Option<u8>
         ensures { YieldsFirst (λ cores. cores) self.old result self.new }
     {

@@ -50,6 +50,7 @@ impl<'a> Events<'a> {
         }
     }
 
+    #[inline(always)]
     fn next_event(&mut self) -> Option<Event>
         ensures { YieldsFirstBy event_of (λ events. events) self.old result self.new }
     {
@@ -73,12 +74,14 @@ impl<'a> Iterator for Events<'a> {
     ghost remaining = { item_count (λ events. events) };
 
     /// The next event: at most one step of the generator, and no search.
+    #[inline(always)]
     fn next(&mut self) -> Option<Event> {
         self.next_event()
     }
 }
 
 // The first on-time, and those after it.
+#[inline(always)]
 fn first_due(on: &[u32]) -> (Option<u32>, &[u32])
     ensures { due_times result.0 result.1.now ≡ on.now }
 {
@@ -88,6 +91,7 @@ fn first_due(on: &[u32]) -> (Option<u32>, &[u32])
     }
 }
 
+#[inline(always)]
 fn is_due(due: Option<u32>) -> bool
     ensures { IsTrue result ↔ (due ≡ Some 0) }
 {
@@ -95,6 +99,7 @@ fn is_due(due: Option<u32>) -> bool
 }
 
 // How many steps are left to the next failure after one step more.
+#[inline(always)]
 fn due_after_step(due: Option<u32>) -> Option<u32>
     ensures { result ≡ option_map (λ steps. steps - 1) due }
 {

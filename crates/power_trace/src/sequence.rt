@@ -47,6 +47,7 @@ impl<'a> Sequence<'a> {
     }
 
     /// The core of the next step.
+    #[inline(always)]
     pub(crate) fn next_core(&mut self) -> Option<u8>
         ensures { YieldsFirst (λ cores. cores) self.old result self.new }
     {

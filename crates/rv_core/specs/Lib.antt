@@ -10,3 +10,4 @@ pub mod Machine
 pub mod Example
 pub mod Products
 pub mod WorkedSteps
+pub mod Decoded

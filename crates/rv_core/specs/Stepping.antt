@@ -3,10 +3,12 @@
 use Rattle.std.specs.Prelude.{ℕ, zero, suc, ◌≡◌, ◌+◌, length, Option, Some, None, nat_le, if◌then◌else◌}
 use Rattle.rv_core.specs.State.{MachineState, StepResult, Next, Calls, Traps}
 use Rattle.rv_core.specs.Bytes.{word_at}
-use Rattle.rv_core.specs.Execution.{executed}
+use Rattle.rv_core.specs.Execution.{calls, executed, service_of}
 use Rattle.nv_base.specs.declared.causes.TrapCause.TheVariants as trap
 use Rattle.rv_isa.specs.Table.{instruction_of}
 use Rattle.rv_isa.specs.declared.instruction.Instr.{Instr}
+use Rattle.rv_core.specs.declared.services.Fate.{Fate}
+use Rattle.rv_core.specs.declared.services.Fate.TheVariants as fate
 use Rattle.rv_core.specs.declared.services.Step.{Step}
 use Rattle.rv_core.specs.declared.services.Step.TheVariants as step
 
@@ -39,6 +41,24 @@ abbrev pub answer : Step → MachineState → StepResult
 answer step.Went s = Next s
 answer (step.Call service) s = Calls s service
 answer (step.Trap cause) s = Traps s cause
+
+-- the same, by how an instruction ends
+abbrev pub fated : Fate → MachineState → StepResult
+fated fate.Went s = Next s
+fated fate.Calls s = calls s (service_of s)
+fated (fate.Stops cause) s = Traps s cause
+
+-- the instruction is not done
+abbrev pub IsStopped : Fate → Type 0
+IsStopped fate.Went = ⊥
+IsStopped fate.Calls = Unit {0}
+IsStopped (fate.Stops cause) = Unit {0}
+
+-- it calls
+abbrev pub HasCalled : Fate → Type 0
+HasCalled fate.Went = ⊥
+HasCalled fate.Calls = Unit {0}
+HasCalled (fate.Stops cause) = ⊥
 
 abbrev pub IsCall : Step → Type 0
 IsCall step.Went = ⊥

@@ -5,6 +5,7 @@ ghost use Rattle.rv_core.specs.Bytes.{word_at, half_at, put_half, put_word, word
 ghost use Rattle.rv_core.specs.Task.{loaded};
 
 /// The two bytes at an address, the low byte first.
+#[inline(always)]
 pub fn half_in(memory: &[u8], at: usize) -> u32
     requires { at + 2 ≤ length memory.now }
     ensures value { result ≡ half_at memory.now at }
@@ -14,6 +15,7 @@ pub fn half_in(memory: &[u8], at: usize) -> u32
 }
 
 /// The four bytes at an address, the low byte first.
+#[inline(always)]
 pub fn word_in(memory: &[u8], at: usize) -> u32
     requires { at + 4 ≤ length memory.now }
     ensures { result ≡ word_at memory.now at }
@@ -23,6 +25,7 @@ pub fn word_in(memory: &[u8], at: usize) -> u32
 }
 
 /// Puts 16 bits at an address, the low byte first.
+#[inline(always)]
 pub fn put_half_in(memory: &mut [u8], at: usize, half: u32)
     requires room { at + 2 ≤ length memory.old }
     requires fits { half < 2 ^ 16 }
@@ -33,6 +36,7 @@ pub fn put_half_in(memory: &mut [u8], at: usize, half: u32)
 }
 
 /// Puts 32 bits at an address, the low byte first.
+#[inline(always)]
 pub fn put_word_in(memory: &mut [u8], at: usize, word: u32)
     requires { at + 4 ≤ length memory.old }
     ensures { memory.new ≡ put_word memory.old at word }

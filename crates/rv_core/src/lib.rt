@@ -7,10 +7,12 @@ ghost use Rattle.rv_core.specs.Products.{AreComputed};
 ghost use Rattle.rv_core.specs.WorkedSteps.{AreStepped};
 
 mod bytes;
+mod decoded;
 #[cfg(test)]
 mod division_tests;
 mod machine;
 mod operations;
+mod quick;
 mod services;
 #[cfg(test)]
 mod tests;

@@ -1,23 +1,27 @@
 // The machine: its state, one step of it, and the calls between steps.
 
-ghost use Rattle.std.specs.Prelude.{◌≡◌, ◌+◌, ◌*◌, ◌/◌, ◌^◌, ◌<◌, ◌≤◌, ◌%◌, IfOk, OnOk, length};
+ghost use Rattle.std.specs.Prelude.{◌≡◌, ◌+◌, ◌*◌, ◌/◌, ◌^◌, ◌<◌, ◌≤◌, ◌%◌, IfOk, IsTrue, OnOk, false, length};
 ghost use Rattle.std.specs.Result.{result_err};
 ghost use Rattle.rv_isa.specs.Ranges.{IsInstr};
 ghost use Rattle.rv_core.specs.Bytes.{put_word, words_at};
 ghost use Rattle.rv_core.specs.State.{Next};
-ghost use Rattle.rv_core.specs.Operations.{register, with_register, sum_of, store_size, put_at};
+ghost use Rattle.std.specs.Int.{cast_unsigned, w32};
+ghost use Rattle.rv_core.specs.Decoded.{meant};
+ghost use Rattle.rv_core.specs.Operations.{computed, register, with_immediate, with_register, sum_of, store_size, put_at};
 ghost use Rattle.rv_core.specs.Execution.{goes_on, jumps, branches, loads, stores, calls, service_of, executed};
-ghost use Rattle.rv_core.specs.Stepping.{step_of, answer, IsCall, Keeps};
+ghost use Rattle.rv_core.specs.Stepping.{step_of, answer, fated, HasCalled, IsCall, IsStopped, Keeps};
 ghost use Rattle.rv_core.specs.Task.{blank, first_state, resumed, place_refusal, IsPlace};
 
 use crate::bytes::{load_code, word_in, words_out};
+use crate::decoded::Decoded;
 use crate::operations::{
     by_register, compute, put_in, read_in, size_of_load, size_of_store, taken,
 };
-use crate::services::{Service, Step};
+use crate::quick::Quick;
+use crate::services::{Fate, Service, Step};
 use nv_base::limits::MAX_MEMORY;
 use nv_base::{NoMemory, TrapCause};
-use rv_isa::{BranchOp, Instr, LoadOp, Reg, StoreOp, decode};
+use rv_isa::{BranchOp, ImmOp, LoadOp, Reg, RegOp, StoreOp};
 use std::alloc::Global;
 use std::marker::Model;
 
@@ -33,6 +37,9 @@ pub struct Machine {
     used: usize,
     count: u32,
     fuel: u32,
+
+    // instructions that were decoded before: no clause sees them
+    decoded: Decoded,
 }
 
 impl Model for Machine {
@@ -71,6 +78,7 @@ impl Machine {
             used: 0,
             count: 0,
             fuel: 0,
+            decoded: Decoded::new(alloc)?,
         })
     }
 
@@ -147,65 +155,159 @@ impl Machine {
         ensures limit { length self.new.memory ≤ MAX_MEMORY }
         ensures waits { IsCall result → self.new.pc + 4 ≤ length self.new.memory }
     {
+        match self.turn() {
+            Fate::Went => Step::Went,
+            Fate::Calls => self.service(),
+            Fate::Stops(cause) => Step::Trap(cause),
+        }
+    }
+
+    /// One step where it leads to a next state and nothing else: else nothing has changed, and `step` tells what comes.
+    #[inline(always)]
+    pub fn go(&mut self) -> bool
+        ensures went { IsTrue result → step_of self.old ≡ Next self.new }
+        ensures rests { result ≡ false → self.new ≡ self.old }
+        ensures fuel { self.new.fuel ≡ self.old.fuel }
+        ensures room { length self.new.memory ≡ length self.old.memory }
+        ensures limit { length self.new.memory ≤ MAX_MEMORY }
+    {
+        let count = self.count;
+        if let Fate::Went = self.turn() {
+            return true;
+        }
+        self.count = count;
+        false
+    }
+
+    /// Counts one instruction and does it, unless it calls or stops.
+    #[inline(always)]
+    fn turn(&mut self) -> Fate
+        ensures exact { step_of self.old ≡ fated result self.new }
+        ensures counted { self.old.count < self.old.fuel → self.new.count ≡ self.old.count + 1 }
+        ensures fuel { self.new.fuel ≡ self.old.fuel }
+        ensures room { length self.new.memory ≡ length self.old.memory }
+        ensures limit { length self.new.memory ≤ MAX_MEMORY }
+        ensures waits { HasCalled result → self.new.pc + 4 ≤ length self.new.memory }
+        ensures rests { IsStopped result → self.new ≡ record self.old { count = self.new.count } }
+    {
         if self.count >= self.fuel {
-            return Step::Trap(TrapCause::Fuel);
+            return Fate::Stops(TrapCause::Fuel);
         }
         self.count += 1;
         let at = self.pc as usize;
         if at + 4 > self.memory.len() {
-            return Step::Trap(TrapCause::Fetch);
+            return Fate::Stops(TrapCause::Fetch);
         }
         let word = word_in(self.memory.as_slice(), at);
-        match decode(word) {
-            None => Step::Trap(TrapCause::Illegal),
-            Some(i) => self.execute(i),
+        if !self.decoded.knows(at, word) {
+            return Fate::Stops(TrapCause::Illegal);
         }
+        let i = self.decoded.get(at);
+        self.execute(i)
     }
 
+    #[inline(always)]
     #[tactic(auto, unfolding(crate::specs::Execution::executed))]
-    fn execute(&mut self, i: Instr) -> Step
-        requires fits { IsInstr i }
+    fn execute(&mut self, i: Quick) -> Fate
+        requires fits { IsInstr (meant i) }
         requires next { self.old.pc + 4 < 2 ^ 32 }
-        ensures exact { executed self.old i ≡ answer result self.new }
-        ensures stays { IsCall result → self.new.pc ≡ self.old.pc }
+        ensures exact { executed self.old (meant i) ≡ fated result self.new }
+        ensures rests { IsStopped result → self.new ≡ self.old }
         ensures kept { Keeps self.old self.new }
     {
         match i {
-            Instr::Lui { rd, imm } => self.set_and_go(rd, imm << 12),
-            Instr::Auipc { rd, imm } => {
+            Quick::Lui(d, imm) => self.set_and_go(d, imm << 12),
+            Quick::Auipc(d, imm) => {
                 let value = self.pc.wrapping_add(imm << 12);
-                self.set_and_go(rd, value)
+                self.set_and_go(d, value)
             }
-            Instr::Jal { rd, offset } => {
+            Quick::Jal(d, offset) => {
                 let target = self.pc.wrapping_add_signed(offset);
-                self.jump(rd, target)
+                self.jump(d, target)
             }
-            Instr::Jalr { rd, rs1, imm } => {
-                let target = self.sum(rs1, imm) / 2 * 2;
-                self.jump(rd, target)
+            Quick::Jalr(d, a, imm) => {
+                let target = self.sum(a, imm) / 2 * 2;
+                self.jump(d, target)
             }
-            Instr::Branch {
-                op,
-                rs1,
-                rs2,
-                offset,
-            } => self.branch(op, rs1, rs2, offset),
-            Instr::Load { op, rd, rs1, imm } => self.load_value(op, rd, rs1, imm),
-            Instr::Store { op, rs1, rs2, imm } => self.store_value(op, rs1, rs2, imm),
-            Instr::OpImm { op, rd, rs1, imm } => {
-                let value = compute(by_register(op), self.register(rs1), imm.cast_unsigned());
-                self.set_and_go(rd, value)
-            }
-            Instr::Op { op, rd, rs1, rs2 } => {
-                let value = compute(op, self.register(rs1), self.register(rs2));
-                self.set_and_go(rd, value)
-            }
-            Instr::Fence { .. } => self.go_on(),
-            Instr::Ecall => self.service(),
-            Instr::Ebreak => Step::Trap(TrapCause::Break),
+            Quick::Beq(a, b, offset) => self.branch(BranchOp::Beq, a, b, offset),
+            Quick::Bne(a, b, offset) => self.branch(BranchOp::Bne, a, b, offset),
+            Quick::Blt(a, b, offset) => self.branch(BranchOp::Blt, a, b, offset),
+            Quick::Bge(a, b, offset) => self.branch(BranchOp::Bge, a, b, offset),
+            Quick::Bltu(a, b, offset) => self.branch(BranchOp::Bltu, a, b, offset),
+            Quick::Bgeu(a, b, offset) => self.branch(BranchOp::Bgeu, a, b, offset),
+            Quick::Lb(d, a, imm) => self.load_value(LoadOp::Lb, d, a, imm),
+            Quick::Lh(d, a, imm) => self.load_value(LoadOp::Lh, d, a, imm),
+            Quick::Lw(d, a, imm) => self.load_value(LoadOp::Lw, d, a, imm),
+            Quick::Lbu(d, a, imm) => self.load_value(LoadOp::Lbu, d, a, imm),
+            Quick::Lhu(d, a, imm) => self.load_value(LoadOp::Lhu, d, a, imm),
+            Quick::Sb(a, b, imm) => self.store_value(StoreOp::Sb, a, b, imm),
+            Quick::Sh(a, b, imm) => self.store_value(StoreOp::Sh, a, b, imm),
+            Quick::Sw(a, b, imm) => self.store_value(StoreOp::Sw, a, b, imm),
+            Quick::Addi(d, a, imm) => self.immediate(ImmOp::Addi, d, a, imm),
+            Quick::Slti(d, a, imm) => self.immediate(ImmOp::Slti, d, a, imm),
+            Quick::Sltiu(d, a, imm) => self.immediate(ImmOp::Sltiu, d, a, imm),
+            Quick::Xori(d, a, imm) => self.immediate(ImmOp::Xori, d, a, imm),
+            Quick::Ori(d, a, imm) => self.immediate(ImmOp::Ori, d, a, imm),
+            Quick::Andi(d, a, imm) => self.immediate(ImmOp::Andi, d, a, imm),
+            Quick::Slli(d, a, imm) => self.immediate(ImmOp::Slli, d, a, imm),
+            Quick::Srli(d, a, imm) => self.immediate(ImmOp::Srli, d, a, imm),
+            Quick::Srai(d, a, imm) => self.immediate(ImmOp::Srai, d, a, imm),
+            Quick::Add(d, a, b) => self.operation(RegOp::Add, d, a, b),
+            Quick::Sub(d, a, b) => self.operation(RegOp::Sub, d, a, b),
+            Quick::Sll(d, a, b) => self.operation(RegOp::Sll, d, a, b),
+            Quick::Slt(d, a, b) => self.operation(RegOp::Slt, d, a, b),
+            Quick::Sltu(d, a, b) => self.operation(RegOp::Sltu, d, a, b),
+            Quick::Xor(d, a, b) => self.operation(RegOp::Xor, d, a, b),
+            Quick::Srl(d, a, b) => self.operation(RegOp::Srl, d, a, b),
+            Quick::Sra(d, a, b) => self.operation(RegOp::Sra, d, a, b),
+            Quick::Or(d, a, b) => self.operation(RegOp::Or, d, a, b),
+            Quick::And(d, a, b) => self.operation(RegOp::And, d, a, b),
+            Quick::Mul(d, a, b) => self.operation(RegOp::Mul, d, a, b),
+            Quick::Mulh(d, a, b) => self.operation(RegOp::Mulh, d, a, b),
+            Quick::Mulhsu(d, a, b) => self.operation(RegOp::Mulhsu, d, a, b),
+            Quick::Mulhu(d, a, b) => self.operation(RegOp::Mulhu, d, a, b),
+            Quick::Div(d, a, b) => self.operation(RegOp::Div, d, a, b),
+            Quick::Divu(d, a, b) => self.operation(RegOp::Divu, d, a, b),
+            Quick::Rem(d, a, b) => self.operation(RegOp::Rem, d, a, b),
+            Quick::Remu(d, a, b) => self.operation(RegOp::Remu, d, a, b),
+            Quick::Fence(..) => self.go_on(),
+            Quick::Ecall => Fate::Calls,
+            Quick::Ebreak => Fate::Stops(TrapCause::Break),
         }
     }
 
+    #[inline(always)]
+    fn immediate(&mut self, op: ImmOp, rd: Reg, rs1: Reg, imm: i32) -> Fate
+        requires fits { rd.0 < 32 }
+        requires base { rs1.0 < 32 }
+        requires next { self.old.pc + 4 < 2 ^ 32 }
+        ensures exact { let value = computed (with_immediate op) (register self.old rs1.0)
+            (cast_unsigned w32 imm) in
+            goes_on (with_register self.old rd.0 value) ≡ fated result self.new }
+        ensures rests { IsStopped result → self.new ≡ self.old }
+        ensures kept { Keeps self.old self.new }
+    {
+        let value = compute(by_register(op), self.register(rs1), imm.cast_unsigned());
+        self.set_and_go(rd, value)
+    }
+
+    #[inline(always)]
+    fn operation(&mut self, op: RegOp, rd: Reg, rs1: Reg, rs2: Reg) -> Fate
+        requires fits { rd.0 < 32 }
+        requires first { rs1.0 < 32 }
+        requires second { rs2.0 < 32 }
+        requires next { self.old.pc + 4 < 2 ^ 32 }
+        ensures exact { let value = computed op (register self.old rs1.0)
+            (register self.old rs2.0) in
+            goes_on (with_register self.old rd.0 value) ≡ fated result self.new }
+        ensures rests { IsStopped result → self.new ≡ self.old }
+        ensures kept { Keeps self.old self.new }
+    {
+        let value = compute(op, self.register(rs1), self.register(rs2));
+        self.set_and_go(rd, value)
+    }
+
+    #[inline(always)]
     fn register(&self, r: Reg) -> u32
         requires { r.0 < 32 }
         ensures { result ≡ register self.now r.0 }
@@ -213,6 +315,7 @@ impl Machine {
         self.registers[r.0 as usize]
     }
 
+    #[inline(always)]
     fn set_register(&mut self, r: Reg, value: u32)
         requires { r.0 < 32 }
         ensures exact { self.new ≡ with_register self.old r.0 value }
@@ -223,6 +326,7 @@ impl Machine {
         }
     }
 
+    #[inline(always)]
     fn sum(&self, r: Reg, imm: i32) -> u32
         requires { r.0 < 32 }
         ensures { result ≡ sum_of self.now r imm }
@@ -230,52 +334,56 @@ impl Machine {
         self.register(r).wrapping_add_signed(imm)
     }
 
-    fn go_on(&mut self) -> Step
+    #[inline(always)]
+    fn go_on(&mut self) -> Fate
         requires { self.old.pc + 4 < 2 ^ 32 }
-        ensures exact { goes_on self.old ≡ answer result self.new }
-        ensures stays { IsCall result → self.new.pc ≡ self.old.pc }
+        ensures exact { goes_on self.old ≡ fated result self.new }
+        ensures rests { IsStopped result → self.new ≡ self.old }
         ensures kept { Keeps self.old self.new }
     {
         self.pc += 4;
-        Step::Went
+        Fate::Went
     }
 
-    fn set_and_go(&mut self, rd: Reg, value: u32) -> Step
+    #[inline(always)]
+    fn set_and_go(&mut self, rd: Reg, value: u32) -> Fate
         requires fits { rd.0 < 32 }
         requires next { self.old.pc + 4 < 2 ^ 32 }
-        ensures exact { goes_on (with_register self.old rd.0 value) ≡ answer result self.new }
-        ensures stays { IsCall result → self.new.pc ≡ self.old.pc }
+        ensures exact { goes_on (with_register self.old rd.0 value) ≡ fated result self.new }
+        ensures rests { IsStopped result → self.new ≡ self.old }
         ensures kept { Keeps self.old self.new }
     {
         self.set_register(rd, value);
         self.pc += 4;
-        Step::Went
+        Fate::Went
     }
 
     // The link register is written last, since the target may have been read from it.
-    fn jump(&mut self, rd: Reg, target: u32) -> Step
+    #[inline(always)]
+    fn jump(&mut self, rd: Reg, target: u32) -> Fate
         requires fits { rd.0 < 32 }
         requires next { self.old.pc + 4 < 2 ^ 32 }
         ensures exact { let linked = with_register self.old rd.0 (self.old.pc + 4) in
-            jumps self.old target linked ≡ answer result self.new }
-        ensures stays { IsCall result → self.new.pc ≡ self.old.pc }
+            jumps self.old target linked ≡ fated result self.new }
+        ensures rests { IsStopped result → self.new ≡ self.old }
         ensures kept { Keeps self.old self.new }
     {
         if target % 4 != 0 {
-            return Step::Trap(TrapCause::Jump);
+            return Fate::Stops(TrapCause::Jump);
         }
         let link = self.pc + 4;
         self.set_register(rd, link);
         self.pc = target;
-        Step::Went
+        Fate::Went
     }
 
-    fn branch(&mut self, op: BranchOp, rs1: Reg, rs2: Reg, offset: i32) -> Step
+    #[inline(always)]
+    fn branch(&mut self, op: BranchOp, rs1: Reg, rs2: Reg, offset: i32) -> Fate
         requires first { rs1.0 < 32 }
         requires second { rs2.0 < 32 }
         requires next { self.old.pc + 4 < 2 ^ 32 }
-        ensures exact { branches self.old op rs1 rs2 offset ≡ answer result self.new }
-        ensures stays { IsCall result → self.new.pc ≡ self.old.pc }
+        ensures exact { branches self.old op rs1 rs2 offset ≡ fated result self.new }
+        ensures rests { IsStopped result → self.new ≡ self.old }
         ensures kept { Keeps self.old self.new }
     {
         if !taken(op, self.register(rs1), self.register(rs2)) {
@@ -283,56 +391,59 @@ impl Machine {
         }
         let target = self.pc.wrapping_add_signed(offset);
         if target % 4 != 0 {
-            return Step::Trap(TrapCause::Jump);
+            return Fate::Stops(TrapCause::Jump);
         }
         self.pc = target;
-        Step::Went
+        Fate::Went
     }
 
-    fn load_value(&mut self, op: LoadOp, rd: Reg, rs1: Reg, imm: i32) -> Step
+    #[inline(always)]
+    fn load_value(&mut self, op: LoadOp, rd: Reg, rs1: Reg, imm: i32) -> Fate
         requires fits { rd.0 < 32 }
         requires base { rs1.0 < 32 }
         requires next { self.old.pc + 4 < 2 ^ 32 }
-        ensures exact { loads self.old op rd.0 (sum_of self.old rs1 imm) ≡ answer result self.new }
-        ensures stays { IsCall result → self.new.pc ≡ self.old.pc }
+        ensures exact { loads self.old op rd.0 (sum_of self.old rs1 imm) ≡ fated result self.new }
+        ensures rests { IsStopped result → self.new ≡ self.old }
         ensures kept { Keeps self.old self.new }
     {
         let at = self.sum(rs1, imm);
         let size = size_of_load(op);
         if at % size != 0 {
-            return Step::Trap(TrapCause::LoadAlign);
+            return Fate::Stops(TrapCause::LoadAlign);
         }
         let at = at as usize;
         if at + size as usize > self.memory.len() {
-            return Step::Trap(TrapCause::Load);
+            return Fate::Stops(TrapCause::Load);
         }
         let value = read_in(op, self.memory.as_slice(), at);
         self.set_and_go(rd, value)
     }
 
-    fn store_value(&mut self, op: StoreOp, rs1: Reg, rs2: Reg, imm: i32) -> Step
+    #[inline(always)]
+    fn store_value(&mut self, op: StoreOp, rs1: Reg, rs2: Reg, imm: i32) -> Fate
         requires base { rs1.0 < 32 }
         requires source { rs2.0 < 32 }
         requires next { self.old.pc + 4 < 2 ^ 32 }
         ensures exact { stores self.old op (sum_of self.old rs1 imm) (register self.old rs2.0)
-            ≡ answer result self.new }
-        ensures stays { IsCall result → self.new.pc ≡ self.old.pc }
+            ≡ fated result self.new }
+        ensures rests { IsStopped result → self.new ≡ self.old }
         ensures kept { Keeps self.old self.new }
     {
         let at = self.sum(rs1, imm);
         let word = self.register(rs2);
         let size = size_of_store(op);
         if at % size != 0 {
-            return Step::Trap(TrapCause::StoreAlign);
+            return Fate::Stops(TrapCause::StoreAlign);
         }
         let at = at as usize;
         if at + size as usize > self.memory.len() {
-            return Step::Trap(TrapCause::Store);
+            return Fate::Stops(TrapCause::Store);
         }
         self.put(op, at, word);
         self.go_on()
     }
 
+    #[inline(always)]
     fn put(&mut self, op: StoreOp, at: usize, word: u32)
         requires { at + store_size op ≤ length self.old.memory }
         ensures exact { self.new ≡ record self.old { memory = put_at op self.old.memory at word } }

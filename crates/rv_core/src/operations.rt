@@ -9,6 +9,7 @@ use crate::bytes::{half_in, put_half_in, put_word_in, word_in};
 use rv_isa::{BranchOp, ImmOp, LoadOp, RegOp, StoreOp};
 
 /// How many bytes a load reads.
+#[inline(always)]
 pub fn size_of_load(op: LoadOp) -> u32
     ensures size { result ≡ load_size op }
     ensures range { (0 < result) × (result ≤ 4) }
@@ -21,6 +22,7 @@ pub fn size_of_load(op: LoadOp) -> u32
 }
 
 /// How many bytes a store writes.
+#[inline(always)]
 pub fn size_of_store(op: StoreOp) -> u32
     ensures size { result ≡ store_size op }
     ensures range { (0 < result) × (result ≤ 4) }
@@ -33,6 +35,7 @@ pub fn size_of_store(op: StoreOp) -> u32
 }
 
 /// What a load reads at an address, extended to 32 bits.
+#[inline(always)]
 pub fn read_in(op: LoadOp, memory: &[u8], at: usize) -> u32
     requires { at + load_size op ≤ length memory.now }
     ensures { result ≡ read_at op memory.now at }
@@ -47,6 +50,7 @@ pub fn read_in(op: LoadOp, memory: &[u8], at: usize) -> u32
 }
 
 /// Puts the low bytes of a word at an address, as many as the store writes.
+#[inline(always)]
 pub fn put_in(op: StoreOp, memory: &mut [u8], at: usize, word: u32)
     requires { at + store_size op ≤ length memory.old }
     ensures exact { memory.new ≡ put_at op memory.old at word }
@@ -120,6 +124,7 @@ fn remainder_unsigned(a: u32, b: u32) -> u32
 
 /// What an operation makes of two registers; sums, differences and the lower words of products wrap, shifts
 /// use the low five bits, and a division by zero gives all ones and leaves the dividend.
+#[inline(always)]
 pub fn compute(op: RegOp, a: u32, b: u32) -> u32
     ensures { result ≡ computed op a b }
 {
@@ -146,6 +151,7 @@ pub fn compute(op: RegOp, a: u32, b: u32) -> u32
 }
 
 /// The operation that takes a register in place of the immediate.
+#[inline(always)]
 pub fn by_register(op: ImmOp) -> RegOp
     ensures { result ≡ with_immediate op }
 {
@@ -163,6 +169,7 @@ pub fn by_register(op: ImmOp) -> RegOp
 }
 
 /// Whether a branch is taken.
+#[inline(always)]
 pub fn taken(op: BranchOp, a: u32, b: u32) -> bool
     ensures { result ≡ is_taken op a b }
 {

@@ -50,3 +50,14 @@ pub enum Step {
     /// The task is stopped.
     Trap(TrapCause),
 }
+
+/// How an instruction ends. Where it is not done, it has changed nothing.
+#[derive(Clone, Copy, PartialEq, Eq, Debug)]
+pub(crate) enum Fate {
+    /// It was done, and the next one is up.
+    Went,
+    /// It calls a service.
+    Calls,
+    /// It stops the task.
+    Stops(TrapCause),
+}

@@ -4,9 +4,9 @@ use Rattle.std.proofs.lemmas.Bool.{cases_eq}
 use Rattle.std.proofs.lemmas.List.Sums.{sum_by-cons}
 use Rattle.std.proofs.lemmas.Nat.{mul-le}
 use Rattle.std.proofs.lemmas.List.{get_or-set_same, get_or-set_other}
-use Rattle.set_model.specs.Sets.{ObjPart, ProgPart}
+use Rattle.set_model.specs.Sets.{ObjPart, ProgPart, TaskSet, object_at}
 use Rattle.set_model.specs.Limits.{IsObject}
-use Rattle.device_model.specs.Layouts.{code_before, slots_words}
+use Rattle.device_model.specs.Layouts.{code_before, slots_words, words_before}
 use Rattle.shadow_index.specs.Looks.{looked}
 
 -- one number more
@@ -66,3 +66,12 @@ few_words p h =
 pub code_all : (programs : List ProgPart) → code_before programs (length programs) ≡ sum_by (λ p. length p.code) programs
 code_all [] = refl
 code_all (q ∷ programs) = omega (arith, code_all programs, sum_by-cons (λ (p : ProgPart). length p.code) q programs)
+
+-- the row of an object: its first slot, and how far its slots are apart
+abbrev pub slot_row : (at : ℕ) → TaskSet → (o j : ℕ) → ℕ
+slot_row at set o zero = at + words_before set.objects o
+slot_row at set o (suc j) = (object_at set o).size
+
+-- one object more has few words before it
+pub few_more : (objects : List ObjPart) (n : ℕ) → words_before objects n ≤ 512 * n → ((o : ℕ) → o < n → words_before objects o ≤ 512 * o) → (o : ℕ) → o < n + 1 → words_before objects o ≤ 512 * o
+few_more objects n e h o l = ⊎_elim (λ s. subst (λ (k : ℕ). words_before objects k ≤ 512 * k) (sym s) e) (λ d. h o (omega (arith, l, d))) (cases_eq o n)

@@ -1,7 +1,8 @@
 -- What a layout tells, by its parts.
-use Rattle.std.proofs.Common.{◌≡◌, ◌≢◌, ℕ, ◌+◌, ◌*◌, ◌<◌, sum_by, arith, refl, ap, ap₂, ◌∙◌}
+use Rattle.std.proofs.Common.{◌≡◌, ◌≢◌, ℕ, ◌+◌, ◌*◌, ◌%◌, ◌<◌, ◌≤◌, sum_by, arith, refl, ap, ap₂, ◌∙◌}
 use Rattle.set_model.specs.Sets.{TaskSet, object_at}
 use Rattle.std.proofs.lemmas.Bool.{eq-eqb, ne_eqb, lt-ltb}
+use Rattle.std.proofs.lemmas.Nat.{mul-le}
 use Rattle.set_model.specs.Numbers.{first_index}
 use Rattle.device_model.specs.Formats.{format_word, fresh_word}
 use Rattle.device_model.specs.Layouts.{Kind, Plain, Paged, Migrated, Layout, copy_place, header_word, index_reads, magic_of, layout_of, need, slot_place, slots_at, slots_words, words_before}
@@ -28,6 +29,13 @@ copy_is_at l s page copy h = ap₂ (λ (a b : ℕ). a + (2 * page + copy) * b) h
 
 pub slot_is_at : (l : Layout) (set : TaskSet) (at o slot : ℕ) → at ≡ slots_at l → at + words_before set.objects o + (object_at set o).size * slot ≡ slot_place l set o slot
 slot_is_at l set at o slot e = ap (λ (a : ℕ). a + words_before set.objects o + (object_at set o).size * slot) e
+
+-- the place of a slot is a word: no sum of these wraps
+pub in_words : (x size slot f s k : ℕ) → f ≡ x + size * 0 → s ≡ size → k ≡ slot → x + size * 0 ≤ 161978 → size ≤ 64 → slot < 8 → (f + s * k % 4294967296) % 4294967296 ≡ x + size * slot
+in_words x size slot f s k e g h small thin few =
+    let most = mul-le size slot 64 8 thin (omega (arith, few)) in
+    let same : s * k ≡ size * slot = ap₂ (λ (a b : ℕ). a * b) g h in
+    omega (arith, e, most, same, small)
 
 pub magic_is : (kind : Kind) (set : TaskSet) → magic_of kind ≡ (layout_of kind set).magic
 magic_is Plain set = refl

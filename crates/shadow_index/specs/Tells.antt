@@ -1,9 +1,11 @@
 -- A layout tells the places of a device. This project's own.
-use Rattle.std.specs.Prelude.{◌≡◌, ◌⊎◌, ℕ, List, ◌-◌, ◌<◌, ◌==◌, length, slice_index, if◌then◌else◌}
+use Rattle.std.specs.Prelude.{◌≡◌, ◌⊎◌, ℕ, List, ◌-◌, ◌<◌, ◌≤◌, ◌==◌, length, slice_index, if◌then◌else◌}
+use Rattle.nv_base.specs.declared.limits.TheConstants.{MAX_SIZE}
 use Rattle.set_model.specs.Sets.{TaskSet, object_at}
 use Rattle.set_model.specs.Numbers.{first_index, index_words, words_needed}
 use Rattle.device_model.specs.Layouts.{Kind, Plain, Paged, Migrated, code_place, copy_place, index_reads, slot_place}
 use Rattle.device_model.specs.Devices.{Device, layout_on, need_on}
+use Rattle.shadow_index.specs.declared.bounds.TheConstants.{MAX_NEED}
 use Rattle.shadow_index.specs.declared.kind.DeviceKind.{DeviceKind}
 use Rattle.shadow_index.specs.declared.layout.Layout.{Layout}
 use Rattle.shadow_index.specs.Views.{kind_of}
@@ -31,6 +33,13 @@ abbrev pub AreCodePlaces : TaskSet → List ℕ → Type 0
 AreCodePlaces set places =
     (p : ℕ) → p < length set.programs → slice_index places p ≡ code_place set p
 
+-- a row of a table has the place of an object's first slot, and how far its slots are apart
+pub record HasSlots (first size : ℕ) (row : ℕ → ℕ) : Type 0 where
+  pub first_is : row 0 ≡ first
+  pub size_is : row 1 ≡ size
+  pub small : first ≤ MAX_NEED
+  pub thin : size ≤ MAX_SIZE
+
 -- its numbers and its tables are those of a device
 pub record IsLayoutOf (d : Device) (l : Layout) : Type 0 where
   pub kind : kind_of l.kind ≡ d.kind
@@ -44,6 +53,5 @@ pub record IsLayoutOf (d : Device) (l : Layout) : Type 0 where
   pub page_words : l.page_words ≡ (layout_on d).page_words
   pub page_places : (page copy : ℕ) → page < (layout_on d).pages → copy < 2
       → looked l.page_places page copy ≡ copy_place (layout_on d) page copy 0
-  pub slot_places : (o slot : ℕ) → o < length d.set.objects → slot < (object_at d.set o).slots
-      → looked l.slot_places o slot ≡ slot_place (layout_on d) d.set o slot
+  pub slot_places : (o : ℕ) → o < length d.set.objects → HasSlots (slot_place (layout_on d) d.set o 0) (object_at d.set o).size (looked l.slot_places o)
   pub code_places : AreCodePlaces d.set l.code_places

@@ -146,7 +146,8 @@ impl Layout {
             → o.0 < length d.set.objects → slot < (object_at d.set o.0).slots
             → result ≡ slot_place (layout_on d) d.set o.0 slot }
     {
-        self.slot_places[usize::from(o.0)][usize::from(slot)]
+        let [first, size] = self.slot_places[usize::from(o.0)];
+        first.wrapping_add(size.wrapping_mul(u32::from(slot)))
     }
 
     /// The place of a program's code.

@@ -7,7 +7,6 @@ ghost use Rattle.shadow_index.specs.Looks.{looked};
 
 use crate::bounds::{MAX_INDEX_WORDS, MAX_NEED, MAX_PAGES_AT, MAX_SLOTS_AT};
 use crate::shape::Shape;
-use nv_base::limits::MAX_SIZE;
 use nv_base::{ObjId, ProgId, limits};
 use task_set::TaskSet;
 
@@ -26,8 +25,8 @@ pub(crate) const MAX_PROGRAMS: usize = limits::MAX_PROGRAMS as usize;
 /// The place of each copy of each page.
 pub(crate) type PagePlaces = [[u32; 2]; MAX_PAGES];
 
-/// The place of each slot of each object.
-pub(crate) type SlotPlaces = [[u32; MAX_SLOTS]; MAX_OBJECTS];
+/// The place of each object's first slot, and how far its slots are apart.
+pub(crate) type SlotPlaces = [[u32; 2]; MAX_OBJECTS];
 
 /// The place of each program's code.
 pub(crate) type CodePlaces = [u32; MAX_PROGRAMS];
@@ -52,31 +51,19 @@ pub(crate) fn page_places(shape: Shape) -> PagePlaces
 /// The slots of each object stand one after another, from a place on.
 pub(crate) fn slot_places(set: &TaskSet, slots_at: u32) -> SlotPlaces
     requires { slots_at ≤ MAX_SLOTS_AT }
-    ensures { (o slot : ℕ) → o < length set.now.objects → slot < MAX_SLOTS
-        → looked result o slot
-        ≡ slots_at + words_before set.now.objects o + (object_at set.now o).size * slot }
+    ensures first { (o : ℕ) → o < length set.now.objects
+        → looked result o 0 ≡ slots_at + words_before set.now.objects o }
+    ensures size { (o : ℕ) → o < length set.now.objects
+        → looked result o 1 ≡ (object_at set.now o).size }
+    ensures small { (o : ℕ) → o < length set.now.objects
+        → slots_at + words_before set.now.objects o ≤ MAX_NEED }
 {
-    let mut places = [[0; MAX_SLOTS]; MAX_OBJECTS];
+    let mut places = [[0; 2]; MAX_OBJECTS];
     let mut at = slots_at;
     for o in 0..set.objects() {
         let size = u32::from(set.size(ObjId(o)));
-        places[usize::from(o)] = slots_from(at, size);
+        places[usize::from(o)] = [at, size];
         at += size * u32::from(set.slots(ObjId(o)));
-    }
-    places
-}
-
-/// So many places, a size apart.
-fn slots_from(first: u32, size: u32) -> [u32; MAX_SLOTS]
-    requires at { first ≤ MAX_NEED }
-    requires small { size ≤ MAX_SIZE }
-    ensures { (slot : ℕ) → slot < MAX_SLOTS → slice_index result slot ≡ first + size * slot }
-{
-    let mut places = [0; MAX_SLOTS];
-    let mut at = first;
-    for slot in 0..MAX_SLOTS {
-        places[slot] = at;
-        at += size;
     }
     places
 }

@@ -1,14 +1,16 @@
 -- From what a call has done, and the line that names its answer, to the answer.
-use Rattle.std.proofs.Common.{◌≡◌, ℕ, ◌≤◌, ◌⊎◌, List, [], Option, Some, None, inl, inr, refl, ap, sym, ◌∙◌, subst, arith}
+use Rattle.std.proofs.Common.{◌≡◌, ℕ, ◌≤◌, ◌⊎◌, List, [], Option, Some, None, inl, inr, refl, ap, sym, subst, arith}
 use Rattle.nv_base.specs.Streams.{PutsFront, PutsText, FaultCounted, Stream}
-use Rattle.sim_run.specs.Replies.{Refuses, Reply, status_of}
+use Rattle.sim_run.specs.Replies.{Finds, Puts, Refuses, Reply, refused_by, status_of}
 use Rattle.answers.specs.Names.{PutsName}
-use Rattle.sim_run.specs.Answers.{Answered, AnsweredTo, Exchange, IsComplete, IsCutOff, IsDone, IsStopped, NoFault, OfInput, reply_in}
+use Rattle.sim_run.specs.Answers.{Answered, AnsweredTo, Exchange, IsComplete, IsCutOff, IsDone, IsSpared, IsStopped, NoFault, OfInput, reply_in}
 use Rattle.sim_run.specs.BeforeAnswerLine.{BeforeAnswerLine, LeavesStore, PutOrLost, PutReply}
 use Rattle.simulation.specs.Stores.{Store}
+use Rattle.kernel_core.specs.declared.open.How.{How}
+use Rattle.kernel_core.specs.declared.open.How.TheVariants.{Fresh, Again}
 use Rattle.sim_run.specs.declared.command.Command.{Command}
 use Rattle.answers.specs.declared.status.Status.{Status}
-use Rattle.answers.specs.declared.status.Status.TheVariants.{Done, Usage, ReadFault, WriteFault, NoMemory, DeviceLost, Small, Script, Packed}
+use Rattle.answers.specs.declared.status.Status.TheVariants.{Done, Usage, ReadFault, WriteFault, NoMemory, DeviceLost, Image, Small, Script, Packed}
 use Rattle.simulation.proofs.Fronts.{nothing_cut, nothing_put}
 
 -- ---- counts
@@ -27,6 +29,7 @@ reply_counts r o q WriteFault h = h.2.counted.0
 reply_counts r o q NoMemory h = same_count o q h
 reply_counts r o q DeviceLost h = stood o.faults q.faults h.2.put.still
 reply_counts r o q (Small need len) h = same_count o q h.1
+reply_counts r o q (Image fault) h = same_count o q h.1
 reply_counts r o q (Script e) h = same_count o q h.1
 reply_counts r o q (Packed p) h = same_count o q h.1
 
@@ -38,20 +41,26 @@ none_lost r o q ReadFault h = h
 none_lost r o q WriteFault h = h
 none_lost r o q NoMemory h = h
 none_lost r o q DeviceLost h = absurd h
-none_lost r o q (Small need len) h = h
+none_lost r o q (Small need len) h = (ap refused_by h.0, h.1)
+none_lost r o q (Image fault) h = (ap refused_by h.0, h.1)
 none_lost r o q (Script e) h = h
 none_lost r o q (Packed p) h = h
 
-pub none_left : (r : Reply) (o q : Stream) (s : Store) (status : Status) → PutReply r o q status → LeavesStore s s status
-none_left r o q s Done h = tt
-none_left r o q s Usage h = refl
-none_left r o q s ReadFault h = refl
-none_left r o q s WriteFault h = tt
-none_left r o q s NoMemory h = refl
-none_left r o q s DeviceLost h = absurd h
-none_left r o q s (Small need len) h = refl
-none_left r o q s (Script e) h = refl
-none_left r o q s (Packed p) h = refl
+spared_same : (how : How) (s : Store) → IsSpared how s s
+spared_same Fresh s = refl
+spared_same Again s = record { start = refl; log = refl; losses = omega arith }
+
+pub none_left : (how : How) (r : Reply) (o q : Stream) (s : Store) (status : Status) → PutReply r o q status → LeavesStore how s s status
+none_left how r o q s Done h = tt
+none_left how r o q s Usage h = refl
+none_left how r o q s ReadFault h = refl
+none_left how r o q s WriteFault h = tt
+none_left how r o q s NoMemory h = refl
+none_left how r o q s DeviceLost h = absurd h
+none_left how r o q s (Small need len) h = spared_same how s
+none_left how r o q s (Image fault) h = spared_same how s
+none_left how r o q s (Script e) h = refl
+none_left how r o q s (Packed p) h = refl
 
 pub name_counts : (status : Status) (o q : Stream) → PutsName status o q → o.faults ≤ q.faults
 name_counts status o q (inl h) = stood o.faults q.faults h.still
@@ -72,7 +81,7 @@ later x new = record x { sink_now = new }
 named : (x : Exchange) (new : Stream) (status : Status) → x.sink_now ≡ x.sink → PutsName status x.sink_now new → PutsName status x.sink new
 named x new status e h = subst (λ s. PutsName status s new) e h
 
-on_input : (left : Option (List ℕ)) (P Q : List ℕ → Type 0) → ((input : List ℕ) → P input → Q input) → OfInput left P → OfInput left Q
+pub on_input : (left : Option (List ℕ)) (P Q : List ℕ → Type 0) → ((input : List ℕ) → P input → Q input) → OfInput left P → OfInput left Q
 on_input None P Q f h = tt
 on_input (Some input) P Q f h = f input h
 
@@ -113,6 +122,7 @@ answered_to c x new NoMemory name h = (h.0, named x new NoMemory h.1 name)
 answered_to c x new DeviceLost name h =
     (h.0, h.1, on_input x.source.bytes (IsStopped (Unnamed x) c x) (IsStopped (Named new) c (later x new)) (λ input d. still_stopped c x new input name d) h.2)
 answered_to c x new (Small need len) name h = (h.0, h.1, h.2, named x new (Small need len) h.3 name)
+answered_to c x new (Image fault) name h = (h.0, h.1, h.2, named x new (Image fault) h.3 name)
 answered_to c x new (Script e) name h = (h.0, h.1, h.2, named x new (Script e) h.3 name)
 answered_to c x new (Packed place) name h = (h.0, h.1, h.2, named x new (Packed place) h.3 name)
 
@@ -133,6 +143,14 @@ out_of_memory x c (Some input) = inr refl
 refused : (c : Command) (x : Exchange) (status : Status) → OfInput x.source.bytes (λ input. reply_in x c input ≡ Refuses status) → OfInput x.source.bytes (IsReplied x c status)
 refused c x status h = on_input x.source.bytes (λ input. reply_in x c input ≡ Refuses status) (IsReplied x c status) (λ input d. inl (sym (ap status_of d))) h
 
+by_refused : (r : Reply) (status : Status) → refused_by r ≡ Some status → status ≡ status_of r
+by_refused (Puts text) status e = absurd (cc e)
+by_refused (Refuses other) status e = cc e
+by_refused (Finds other) status e = cc e
+
+found : (c : Command) (x : Exchange) (status : Status) → OfInput x.source.bytes (λ input. refused_by (reply_in x c input) ≡ Some status) → OfInput x.source.bytes (IsReplied x c status)
+found c x status h = on_input x.source.bytes (λ input. refused_by (reply_in x c input) ≡ Some status) (IsReplied x c status) (λ input d. inl (by_refused (reply_in x c input) status d)) h
+
 complete_to : (Names : Stream → Status → Type 0) (c : Command) (x : Exchange) (status : Status) → AnsweredTo Names c x status → NoFault x → OfInput x.source.bytes (IsReplied x c status)
 complete_to Names c x Done h ok = on_input x.source.bytes (IsDone c x) (IsReplied x c Done) (λ input d. inl (sym (ap status_of d.replies))) h.1
 complete_to Names c x Usage h ok = absurd h
@@ -140,7 +158,8 @@ complete_to Names c x ReadFault h ok = absurd (ok.0 h.0)
 complete_to Names c x WriteFault h ok = absurd (ok.1 h.0)
 complete_to Names c x NoMemory h ok = out_of_memory x c x.source.bytes
 complete_to Names c x DeviceLost h ok = absurd (ok.2 h.0)
-complete_to Names c x (Small need len) h ok = refused c x (Small need len) h.2
+complete_to Names c x (Small need len) h ok = found c x (Small need len) h.2
+complete_to Names c x (Image fault) h ok = found c x (Image fault) h.2
 complete_to Names c x (Script e) h ok = refused c x (Script e) h.2
 complete_to Names c x (Packed p) h ok = refused c x (Packed p) h.2
 

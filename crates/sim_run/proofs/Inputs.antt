@@ -2,38 +2,40 @@
 use Rattle.std.proofs.Common.{◌≡◌, ℕ, ◌+◌, ◌≤◌, cond, true, List, [], length, Option, Some, None, inl, inr, ap, sym, subst, refl, arith, ltb}
 use Rattle.std.proofs.lemmas.Bool.{lt-ltb}
 use Rattle.nv_base.specs.Streams.{AreGone, GaveAll, ReadsAll, Stream}
-use Rattle.sim_run.specs.Replies.{Refuses, reply, reply_within, too_long, most_input}
-use Rattle.sim_run.specs.Answers.{Exchange, HasReadFew, IsCutOff, IsDone, IsStopped, OfInput, TellsReadFault, reply_in}
+use Rattle.sim_run.specs.Replies.{Refuses, refused_by, reply, reply_within, too_long, most_input}
+use Rattle.sim_run.specs.Answers.{Exchange, HasReadFew, IsCutOff, IsDone, IsStopped, OfInput, TellsReadFault, how_of, reply_in}
 use Rattle.sim_run.specs.BeforeAnswerLine.{BeforeAnswerLine, LeavesStore, PutOrLost, Unread}
+use Rattle.simulation.specs.Stores.{Store}
 use Rattle.sim_run.specs.declared.command.Command.{Command}
 use Rattle.answers.specs.declared.status.Status.{Status}
-use Rattle.answers.specs.declared.status.Status.TheVariants.{Done, Usage, ReadFault, WriteFault, NoMemory, DeviceLost, Small, Script, Packed}
+use Rattle.answers.specs.declared.status.Status.TheVariants.{Done, Usage, ReadFault, WriteFault, NoMemory, DeviceLost, Image, Small, Script, Packed}
 use Rattle.sim_run.proofs.Answering.{stood}
 use Rattle.sim_run.proofs.Gone.{all_gone}
 
 -- ---- an input that was not read
 
 -- more bytes than a call reads
-refuses_long : (c : Command) (len : ℕ) (input : List ℕ) → most_input + 1 ≤ length input → reply c len input ≡ Refuses (Script too_long)
+refuses_long : (c : Command) (s : Store) (input : List ℕ) → most_input + 1 ≤ length input → reply c s input ≡ Refuses (Script too_long)
 unfolding reply
-refuses_long c len input h =
+refuses_long c s input h =
     let long : ltb most_input (length input) ≡ true = lt-ltb _ _ (omega arith) in
-    ap (λ b. cond b (Refuses (Script too_long)) (reply_within c len input)) long
+    ap (λ b. cond b (Refuses (Script too_long)) (reply_within c s input)) long
 
-long_input : (c : Command) (len : ℕ) (left now : Option (List ℕ)) → AreGone left now (most_input + 1) → OfInput left (λ input. reply c len input ≡ Refuses (Script too_long))
-long_input c len None now h = tt
-long_input c len (Some input) now h = refuses_long c len input h.0
+long_input : (c : Command) (s : Store) (left now : Option (List ℕ)) → AreGone left now (most_input + 1) → OfInput left (λ input. reply c s input ≡ Refuses (Script too_long))
+long_input c s None now h = tt
+long_input c s (Some input) now h = refuses_long c s input h.0
 
 pub unread : (c : Command) (x : Exchange) (status : Status) → x.sink_now ≡ x.sink → x.device_now ≡ x.device → Unread x.source x.source_now status → BeforeAnswerLine (Some c) x status
 unread c x ReadFault e f h = (h.1, f, e)
 unread c x (Script s) e f h =
-    (inr h.1.0, f, subst (λ t. OfInput x.source.bytes (λ input. reply_in x c input ≡ Refuses (Script t))) (sym h.0) (long_input c (length x.device.start) x.source.bytes x.source_now.bytes h.1.0), e)
+    (inr h.1.0, f, subst (λ t. OfInput x.source.bytes (λ input. reply_in x c input ≡ Refuses (Script t))) (sym h.0) (long_input c x.device x.source.bytes x.source_now.bytes h.1.0), e)
 unread c x NoMemory e f h = (f, e)
 unread c x Done e f h = absurd h
 unread c x Usage e f h = absurd h
 unread c x WriteFault e f h = absurd h
 unread c x DeviceLost e f h = absurd h
 unread c x (Small need len) e f h = absurd h
+unread c x (Image fault) e f h = absurd h
 unread c x (Packed p) e f h = absurd h
 
 pub unread_few : (old new : Stream) (status : Status) → Unread old new status → HasReadFew old new status
@@ -45,6 +47,7 @@ unread_few old new Usage h = absurd h
 unread_few old new WriteFault h = absurd h
 unread_few old new DeviceLost h = absurd h
 unread_few old new (Small need len) h = absurd h
+unread_few old new (Image fault) h = absurd h
 unread_few old new (Packed p) h = absurd h
 
 pub unread_told : (old new : Stream) (status : Status) → Unread old new status → TellsReadFault old new status
@@ -56,6 +59,7 @@ unread_told old new Usage h = absurd h
 unread_told old new WriteFault h = absurd h
 unread_told old new DeviceLost h = absurd h
 unread_told old new (Small need len) h = absurd h
+unread_told old new (Image fault) h = absurd h
 unread_told old new (Packed p) h = absurd h
 
 pub unread_counts : (old new : Stream) (status : Status) → Unread old new status → old.faults ≤ new.faults
@@ -67,6 +71,7 @@ unread_counts old new Usage h = absurd h
 unread_counts old new WriteFault h = absurd h
 unread_counts old new DeviceLost h = absurd h
 unread_counts old new (Small need len) h = absurd h
+unread_counts old new (Image fault) h = absurd h
 unread_counts old new (Packed p) h = absurd h
 
 -- ---- an input that was read
@@ -79,12 +84,16 @@ of_given : (left now : Option (List ℕ)) (bytes : List ℕ) (P : List ℕ → T
 of_given None now bytes P h p = tt
 of_given (Some input) now bytes P h p = subst P (sym h.0) p
 
+found : (c : Command) (x : Exchange) (bytes : List ℕ) (status : Status) → GaveAll x.source.bytes x.source_now.bytes bytes → refused_by (reply_in x c bytes) ≡ Some status
+    → OfInput x.source.bytes (λ input. refused_by (reply_in x c input) ≡ Some status)
+found c x bytes status g e = of_given x.source.bytes x.source_now.bytes bytes (λ input. refused_by (reply_in x c input) ≡ Some status) g e
+
 refused : (c : Command) (x : Exchange) (bytes : List ℕ) (status : Status) → GaveAll x.source.bytes x.source_now.bytes bytes → reply_in x c bytes ≡ Refuses status
     → OfInput x.source.bytes (λ input. reply_in x c input ≡ Refuses status)
 refused c x bytes status g e = of_given x.source.bytes x.source_now.bytes bytes (λ input. reply_in x c input ≡ Refuses status) g e
 
 replied_to : (c : Command) (x : Exchange) (bytes : List ℕ) (status : Status) → GaveAll x.source.bytes x.source_now.bytes bytes → PutOrLost (reply_in x c bytes) x.sink x.sink_now status
-    → LeavesStore x.device x.device_now status → BeforeAnswerLine (Some c) x status
+    → LeavesStore (how_of c) x.device x.device_now status → BeforeAnswerLine (Some c) x status
 replied_to c x bytes Done g h f = (all_read _ _ _ g, of_given x.source.bytes x.source_now.bytes bytes (IsDone c x) g (record { text = h.0; replies = h.1; put = h.2 }))
 replied_to c x bytes Usage g h f = absurd h
 replied_to c x bytes ReadFault g h f = absurd h
@@ -93,11 +102,12 @@ replied_to c x bytes WriteFault g h f =
 replied_to c x bytes NoMemory g h f = (f, h)
 replied_to c x bytes DeviceLost g h f =
     (f, all_read _ _ _ g, of_given x.source.bytes x.source_now.bytes bytes (IsStopped (λ from status. x.sink_now ≡ from) c x) g (record { text = h.0; replies = h.1; middle = x.sink_now; put = h.2; named = refl }))
-replied_to c x bytes (Small need len) g h f = (inl (all_read _ _ _ g), f, refused c x bytes (Small need len) g h.0, h.1)
+replied_to c x bytes (Small need len) g h f = (inl (all_read _ _ _ g), f, found c x bytes (Small need len) g h.0, h.1)
+replied_to c x bytes (Image fault) g h f = (inl (all_read _ _ _ g), f, found c x bytes (Image fault) g h.0, h.1)
 replied_to c x bytes (Script s) g h f = (inl (all_read _ _ _ g), f, refused c x bytes (Script s) g h.0, h.1)
 replied_to c x bytes (Packed p) g h f = (inl (all_read _ _ _ g), f, refused c x bytes (Packed p) g h.0, h.1)
 
-pub replied : (c : Command) (x : Exchange) (bytes : List ℕ) (status : Status) → ReadsAll bytes x.source x.source_now → PutOrLost (reply_in x c bytes) x.sink x.sink_now status → LeavesStore x.device x.device_now status
+pub replied : (c : Command) (x : Exchange) (bytes : List ℕ) (status : Status) → ReadsAll bytes x.source x.source_now → PutOrLost (reply_in x c bytes) x.sink x.sink_now status → LeavesStore (how_of c) x.device x.device_now status
     → BeforeAnswerLine (Some c) x status
 replied c x bytes status g h f = replied_to c x bytes status g.gave h f
 

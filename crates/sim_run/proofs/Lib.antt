@@ -4,4 +4,6 @@ pub mod SameCores
 pub mod Promising
 pub mod Inputs
 pub mod Gone
+pub mod Sizes
+pub mod BegunRuns
 pub mod Starting

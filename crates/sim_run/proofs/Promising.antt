@@ -1,48 +1,79 @@
 -- The report that was put is the one of which the headline holds.
-use Rattle.std.proofs.Common.{◌≡◌, ℕ, Bool, true, false, cond, List, length, Option, Some, None, Ok, subst, sym, ap, ◌∙◌, ltb}
+use Rattle.std.proofs.Common.{◌≡◌, ℕ, Bool, true, false, cond, List, length, Option, Some, None, Result, Ok, refl, subst, sym, ap, ◌∙◌, ltb}
 use Rattle.schedule_model.specs.Failures.{events_of}
-use Rattle.device_model.specs.Devices.{need_on}
 use Rattle.headline.specs.Headline.{Headline}
 use Rattle.headline.specs.Report.{report_text}
+use Rattle.headline.specs.Runs.{Origin}
+use Rattle.kernel_core.specs.declared.open.How.{How}
+use Rattle.kernel_core.specs.declared.open.How.TheVariants.{Fresh, Again}
 use Rattle.script.specs.Parts as scripts
+use Rattle.script.specs.Causes.{ScriptError}
 use Rattle.script.specs.Reading.{read}
+use Rattle.simulation.specs.Stores.{Store, words_in}
 use Rattle.answers.specs.declared.status.Status.{Status}
-use Rattle.answers.specs.declared.status.Status.TheVariants.{Done, Small, Script}
+use Rattle.answers.specs.declared.status.Status.TheVariants.{Done, Script}
 use Rattle.sim_run.specs.declared.command.Command.{Command}
-use Rattle.sim_run.specs.declared.command.Command.TheVariants.{Run}
-use Rattle.sim_run.specs.Replies.{Puts, Refuses, device_for, fresh_run, most_input, reply, run_reply, too_long}
+use Rattle.sim_run.specs.declared.command.Command.TheVariants.{Run, Resume, Asm, Dis, Pack}
+use Rattle.sim_run.specs.Origins.{begin_on}
+use Rattle.sim_run.specs.Replies.{Puts, Refuses, most_input, reply, run_reply, too_long}
 use Rattle.sim_run.specs.Answers.{Answered, Exchange, IsDone, OfInput}
-use Rattle.sim_run.specs.Promises.{IsHeadlined, IsPromised, KeepsHeadline}
+use Rattle.sim_run.specs.Promises.{IsHeadlined, IsPromised, KeepsHeadline, KeepsImages, KeepsPromise}
+use Rattle.nv_base.specs.Streams.{Stream}
+use Rattle.sim_run.proofs.Answering.{later}
+use Rattle.sim_run.proofs.Sizes.{text_begun}
 
-by_size : (b : Bool) (need len : ℕ) (report text : List ℕ) → cond b (Refuses (Small need len)) (Puts report) ≡ Puts text → report ≡ text
-by_size true need len report text e = absurd cc
-by_size false need len report text e = cc
+-- what a run puts is the report from where it begins
+by_length : (long : Bool) (how : How) (d : Store) (r : Result scripts.Script ScriptError) (s : scripts.Script) (o : Origin) (text : List ℕ) → r ≡ Ok s → begin_on how s.set (words_in d) ≡ Some o → cond long (Refuses (Script too_long)) (run_reply how d r) ≡ Puts text
+    → report_text o (events_of s.schedule) ≡ text
+by_length true how d r s o text e b h = absurd (cc h)
+by_length false how d r s o text e b h = text_begun how (length d.start) s.set (words_in d) (events_of s.schedule) o text b (sym (ap (run_reply how d) e) ∙ h)
 
-by_length : (long b : Bool) (need len : ℕ) (report text : List ℕ) → cond long (Refuses (Script too_long)) (cond b (Refuses (Small need len)) (Puts report)) ≡ Puts text → report ≡ text
-by_length true b need len report text e = absurd cc
-by_length false b need len report text e = by_size b need len report text e
+-- commands that run
+record Runs (c : Command) (how : How) : Type 0 where
+  says : (d : Store) (input : List ℕ) → reply c d input ≡ cond (ltb most_input (length input)) (Refuses (Script too_long)) (run_reply how d (read input))
 
--- what `run` puts is the report
-same_report : (len : ℕ) (input text : List ℕ) (s : scripts.Script) → read input ≡ Ok s → reply Run len input ≡ Puts text → report_text (fresh_run s.set) (events_of s.schedule) ≡ text
+headlined : (c : Command) (how : How) (x : Exchange) (input : List ℕ) → Runs c how → IsPromised how (words_in x.device) input → IsDone c x input → IsHeadlined how x input
+headlined c how x input r p d =
+    let o = p.run.origin in
+    let events = events_of p.script.schedule in
+    let same = by_length (ltb most_input (length input)) how x.device (read input) p.script o d.text p.reads p.run.begins (sym (r.says x.device input) ∙ d.replies) in record {
+      script = p.script;
+      reads = p.reads;
+      origin = o;
+      begins = p.run.begins;
+      text = d.text;
+      promise = subst (Headline o events) same p.run.promise;
+      put = d.put;
+    }
+
+both : (c : Command) (how : How) (x : Exchange) (status : Status) (left : Option (List ℕ)) → Runs c how → status ≡ Done → OfInput left (λ input. status ≡ Done → IsPromised how (words_in x.device) input) → OfInput left (IsDone c x) → OfInput left (IsHeadlined how x)
+both c how x status None r e p d = tt
+both c how x status (Some input) r e p d = headlined c how x input r (p e) d
+
+run_is : Runs Run Fresh
 unfolding reply
-same_report len input text s e r =
-    by_length (ltb most_input (length input)) (ltb len (need_on (device_for s.set))) (need_on (device_for s.set)) len (report_text (fresh_run s.set) (events_of s.schedule)) text
-    (ap (λ x. cond (ltb most_input (length input)) (Refuses (Script too_long)) (run_reply len x)) (sym e) ∙ r)
+run_is = record { says = λ d input. refl }
 
-headlined : (x : Exchange) (input : List ℕ) → IsPromised input → IsDone Run x input → IsHeadlined x input
-headlined x input p d = record {
-  script = p.script;
-  reads = p.reads;
-  text = d.text;
-  promise = subst (Headline (fresh_run p.script.set) (events_of p.script.schedule)) (same_report (length x.device.start) input d.text p.script p.reads d.replies) p.promise;
-  put = d.put;
-}
+resume_is : Runs Resume Again
+unfolding reply
+resume_is = record { says = λ d input. refl }
 
-both : (x : Exchange) (left : Option (List ℕ)) → OfInput left IsPromised → OfInput left (IsDone Run x) → OfInput left (IsHeadlined x)
-both x None p d = tt
-both x (Some input) p d = headlined x input p d
+done_at : (c : Command) (x : Exchange) (status : Status) → status ≡ Done → Answered (Some c) x status → OfInput x.source.bytes (IsDone c x)
+done_at c x status e h = let at : Answered (Some c) x Done = subst (λ (s : Status). Answered (Some c) x s) e h in at.1
 
-pub keeps_headline : (command : Option Command) (x : Exchange) (status : Status) → (command ≡ Some Run → status ≡ Done → OfInput x.source.bytes IsPromised) → Answered command x status → KeepsHeadline command x status
-keeps_headline command x status p h = λ run done.
-    let at : Answered (Some Run) x Done = subst (λ s. Answered (Some Run) x s) done (subst (λ c. Answered c x status) run h) in
-    both x x.source.bytes (p run done) at.1
+pub keeps_headline : (command : Option Command) (x : Exchange) (status : Status) → Answered command x status → KeepsPromise command x status → KeepsHeadline command x status
+keeps_headline None x status h p = tt
+keeps_headline (Some Run) x status h p = λ e. both Run Fresh x status x.source.bytes run_is e p (done_at Run x status e h)
+keeps_headline (Some Resume) x status h p = λ e. both Resume Again x status x.source.bytes resume_is e p (done_at Resume x status e h)
+keeps_headline (Some Asm) x status h p = tt
+keeps_headline (Some Dis) x status h p = tt
+keeps_headline (Some Pack) x status h p = tt
+
+-- also behind the line that names the answer
+pub promise_later : (command : Option Command) (x : Exchange) (new : Stream) (status : Status) → KeepsPromise command x status → KeepsPromise command (later x new) status
+promise_later None x new status h = tt
+promise_later (Some c) x new status h = h
+
+pub images_later : (command : Option Command) (x : Exchange) (new : Stream) (status : Status) → KeepsImages command x status → KeepsImages command (later x new) status
+images_later None x new status h = tt
+images_later (Some c) x new status h = h

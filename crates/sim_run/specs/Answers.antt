@@ -1,14 +1,16 @@
 -- The answers of a call, each with its cause, and with what was put and written. This project's own.
-use Rattle.std.specs.Prelude.{◌≡◌, ℕ, ◌+◌, ◌≤◌, ◌⊎◌, List, [], length, Option, Some, None}
+use Rattle.std.specs.Prelude.{◌≡◌, ℕ, ◌+◌, ◌≤◌, ◌⊎◌, List, [], Option, Some, None}
 use Rattle.nv_base.specs.Streams.{AreGone, AtMostGone, PutsFront, PutsText, FaultCounted, Stream}
-use Rattle.sim_run.specs.Replies.{Puts, Refuses, Reply, reply, status_of, most_input, too_long}
+use Rattle.sim_run.specs.Replies.{Puts, Refuses, Reply, reply, refused_by, status_of, text_by, most_input, too_long}
 use Rattle.simulation.specs.Runs.{PutsStart}
 use Rattle.simulation.specs.Stores.{Store}
 use Rattle.answers.specs.Names.{PutsName}
 use Rattle.sim_run.specs.declared.command.Command.{Command}
 use Rattle.answers.specs.declared.status.Status.{Status}
-use Rattle.answers.specs.declared.status.Status.TheVariants.{Done, Usage, Script, ReadFault, WriteFault, NoMemory, DeviceLost}
-use Rattle.sim_run.specs.declared.command.Command.TheVariants.{Run}
+use Rattle.answers.specs.declared.status.Status.TheVariants.{Done, Usage, Script, ReadFault, WriteFault, NoMemory, DeviceLost, Image, Small}
+use Rattle.kernel_core.specs.declared.open.How.{How}
+use Rattle.kernel_core.specs.declared.open.How.TheVariants.{Fresh, Again}
+use Rattle.sim_run.specs.declared.command.Command.TheVariants.{Run, Resume}
 
 -- a source, a sink and a device, at the call and at the return
 pub record Exchange : Type 0 where
@@ -43,6 +45,22 @@ DeviceFailed x = FaultCounted x.device.losses x.device_now.losses
 abbrev pub IsUntouched : Exchange → Type 0
 IsUntouched x = x.device_now ≡ x.device
 
+-- nothing was written
+pub record IsUnwritten (old new : Store) : Type 0 where
+  pub start : new.start ≡ old.start
+  pub log : new.log ≡ old.log
+  pub losses : old.losses ≤ new.losses
+
+-- of a device that is too small, or holds no state: nothing was written, and where it was to be formatted no call was lost
+abbrev pub IsSpared : How → (old new : Store) → Type 0
+IsSpared Fresh old new = new ≡ old
+IsSpared Again old new = IsUnwritten old new
+
+-- on what a command begins: `resume` alone on what its device holds
+abbrev pub how_of : Command → How
+how_of Resume = Again
+how_of _ = Fresh
+
 -- no count of faults falls
 pub record NeverFalls (x : Exchange) : Type 0 where
   pub source : x.source.faults ≤ x.source_now.faults
@@ -64,7 +82,7 @@ HasReadEnough x = HasReadAll x ⊎ AreGone x.source.bytes x.source_now.bytes (mo
 
 -- what a command replies to an input
 abbrev pub reply_in : Exchange → Command → List ℕ → Reply
-reply_in x c input = reply c (length x.device.start) input
+reply_in x c input = reply c x.device input
 
 -- the command's text, put whole
 pub record IsDone (c : Command) (x : Exchange) (input : List ℕ) : Type 0 where
@@ -81,7 +99,7 @@ pub record IsCutOff (c : Command) (x : Exchange) (input : List ℕ) : Type 0 whe
 -- a front of it whole, and then what names that the device lost a call
 pub record IsStopped (Names : Stream → Status → Type 0) (c : Command) (x : Exchange) (input : List ℕ) : Type 0 where
   pub text : List ℕ
-  pub replies : reply_in x c input ≡ Puts text
+  pub replies : text_by (reply_in x c input) ≡ Some text
   pub middle : Stream
   pub put : PutsStart text x.sink middle
   pub named : Names middle DeviceLost
@@ -94,6 +112,12 @@ AnsweredTo Names c x ReadFault = ReadFailed x × IsUntouched x × Names x.sink R
 AnsweredTo Names c x WriteFault = WriteFailed x × HasReadAll x × OfInput x.source.bytes (IsCutOff c x)
 AnsweredTo Names c x NoMemory = IsUntouched x × Names x.sink NoMemory
 AnsweredTo Names c x DeviceLost = DeviceFailed x × HasReadAll x × OfInput x.source.bytes (IsStopped Names c x)
+AnsweredTo Names c x (Small need len) =
+    HasReadEnough x × IsSpared (how_of c) x.device x.device_now × OfInput x.source.bytes (λ input. refused_by (reply_in x c input) ≡ Some (Small need len))
+    × Names x.sink (Small need len)
+AnsweredTo Names c x (Image fault) =
+    HasReadEnough x × IsSpared (how_of c) x.device x.device_now × OfInput x.source.bytes (λ input. refused_by (reply_in x c input) ≡ Some (Image fault))
+    × Names x.sink (Image fault)
 AnsweredTo Names c x status = HasReadEnough x × IsUntouched x × OfInput x.source.bytes (λ input. reply_in x c input ≡ Refuses status) × Names x.sink status
 
 -- words that are no command are answered by Usage, and nothing is read
@@ -105,10 +129,15 @@ AnsweredBy Names (Some c) x status = AnsweredTo Names c x status
 abbrev pub Answered : Option Command → Exchange → Status → Type 0
 Answered command x status = AnsweredBy (λ from named. PutsName named from x.sink_now) command x status
 
--- only `run` may touch the device
+-- only `run` and `resume` may touch the device
+abbrev pub MayUse : Command → (old new : Store) → Type 0
+MayUse Run old new = new.start ≡ old.start
+MayUse Resume old new = new.start ≡ old.start
+MayUse _ old new = new ≡ old
+
 abbrev pub LeavesDevice : Option Command → Exchange → Type 0
-LeavesDevice (Some Run) x = x.device_now.start ≡ x.device.start
-LeavesDevice _ x = IsUntouched x
+LeavesDevice None x = IsUntouched x
+LeavesDevice (Some c) x = MayUse c x.device x.device_now
 
 -- neither the source nor the sink nor the device failed
 abbrev pub NoFault : Exchange → Type 0

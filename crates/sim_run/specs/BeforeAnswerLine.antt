@@ -1,15 +1,16 @@
 -- What a call has done before the line that names its answer.
-use Rattle.std.specs.Prelude.{◌≡◌, List, ℕ, Option}
+use Rattle.std.specs.Prelude.{◌≡◌, List, ℕ, Option, Some}
 use Rattle.nv_base.specs.Streams.{PutsFront, PutsText, FaultCounted, Stream}
 use Rattle.nv_base.specs.WholeInputs.{Stops}
 use Rattle.nv_base.specs.declared.whole.ReadRefusal.TheVariants as reading
-use Rattle.sim_run.specs.Replies.{Reply, Puts, Refuses, too_long, most_input}
-use Rattle.sim_run.specs.Answers.{AnsweredBy, Exchange}
+use Rattle.sim_run.specs.Replies.{Reply, Puts, Refuses, refused_by, text_by, too_long, most_input}
+use Rattle.sim_run.specs.Answers.{AnsweredBy, Exchange, IsSpared}
 use Rattle.simulation.specs.Runs.{PutsStart}
 use Rattle.simulation.specs.Stores.{Store}
+use Rattle.kernel_core.specs.declared.open.How.{How}
 use Rattle.sim_run.specs.declared.command.Command.{Command}
 use Rattle.answers.specs.declared.status.Status.{Status}
-use Rattle.answers.specs.declared.status.Status.TheVariants.{Done, Usage, ReadFault, WriteFault, NoMemory, DeviceLost, Script}
+use Rattle.answers.specs.declared.status.Status.TheVariants.{Done, Usage, ReadFault, WriteFault, NoMemory, DeviceLost, Script, Small, Image}
 
 -- the answer stands, and nothing was put to name it
 abbrev pub BeforeAnswerLine : Option Command → Exchange → Status → Type 0
@@ -23,11 +24,13 @@ Unread old new NoMemory = Stops most_input old new reading.NoMemory
 Unread old new _ = ⊥
 
 -- what became of the device by way of a reply: nothing where memory ran out or the reply refuses, and a call was lost where the answer says so
-abbrev pub LeavesStore : Store → Store → Status → Type 0
-LeavesStore old new Done = Unit {0}
-LeavesStore old new WriteFault = Unit {0}
-LeavesStore old new DeviceLost = FaultCounted old.losses new.losses
-LeavesStore old new status = new ≡ old
+abbrev pub LeavesStore : How → Store → Store → Status → Type 0
+LeavesStore how old new Done = Unit {0}
+LeavesStore how old new WriteFault = Unit {0}
+LeavesStore how old new DeviceLost = FaultCounted old.losses new.losses
+LeavesStore how old new (Small need len) = IsSpared how old new
+LeavesStore how old new (Image fault) = IsSpared how old new
+LeavesStore how old new status = new ≡ old
 
 -- what was put by way of a reply
 abbrev pub PutReply : Reply → Stream → Stream → Status → Type 0
@@ -41,5 +44,7 @@ PutReply r old new status = (r ≡ Refuses status) × (new ≡ old)
 
 -- the same of a command that uses a device, which may lose a call
 abbrev pub PutOrLost : Reply → Stream → Stream → Status → Type 0
-PutOrLost r old new DeviceLost = (text : List ℕ) × (r ≡ Puts text) × PutsStart text old new
+PutOrLost r old new DeviceLost = (text : List ℕ) × (text_by r ≡ Some text) × PutsStart text old new
+PutOrLost r old new (Small need len) = (refused_by r ≡ Some (Small need len)) × (new ≡ old)
+PutOrLost r old new (Image fault) = (refused_by r ≡ Some (Image fault)) × (new ≡ old)
 PutOrLost r old new status = PutReply r old new status

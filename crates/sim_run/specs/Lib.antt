@@ -1,4 +1,5 @@
 pub mod Commands
+pub mod Origins
 pub mod Replies
 pub mod Answers
 pub mod Promises

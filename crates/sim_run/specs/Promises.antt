@@ -1,50 +1,114 @@
--- What the headline promises of the answer to a run. This project's own.
-use Rattle.std.specs.Prelude.{◌≡◌, ◌⊎◌, ℕ, List, ◌++◌, Option, Some, Ok}
+-- What the headline promises of the answers to `run` and `resume`. This project's own.
+use Rattle.std.specs.Prelude.{◌≡◌, ◌⊎◌, ◌≤◌, ℕ, List, ◌++◌, Option, None, Some, Ok}
 use Rattle.nv_base.specs.Streams.{PutsText}
 use Rattle.schedule_model.specs.Failures.{events_of}
 use Rattle.headline.specs.Headline.{Headline}
 use Rattle.headline.specs.Report.{report_text}
+use Rattle.headline.specs.Runs.{Origin}
 use Rattle.script.specs.Parts.{Script}
 use Rattle.script.specs.Reading.{read}
 use Rattle.answers.specs.declared.status.Status.{Status}
 use Rattle.answers.specs.declared.status.Status.TheVariants.{Done}
 use Rattle.sim_run.specs.declared.command.Command.{Command}
-use Rattle.sim_run.specs.declared.command.Command.TheVariants.{Run}
-use Rattle.sim_run.specs.Replies.{device_for, fresh_run}
+use Rattle.sim_run.specs.declared.command.Command.TheVariants.{Run, Resume}
+use Rattle.sim_run.specs.Origins.{begin_on, opened_on}
+use Rattle.sim_run.specs.Replies.{Puts, device_reply}
 use Rattle.kernel_model.specs.Events.{Event}
 use Rattle.set_model.specs.Sets.{TaskSet}
-use Rattle.device_model.specs.Devices.{format_on}
+use Rattle.device_model.specs.Words.{Words}
 use Rattle.device_format.specs.Puts.{HasFront}
-use Rattle.simulation.specs.Runs.{HasDone}
-use Rattle.simulation.specs.Stores.{Store}
+use Rattle.kernel_core.specs.Opening.{IsLeft, opening_writes}
+use Rattle.kernel_core.specs.declared.kernel.Kernel.{Kernel}
+use Rattle.kernel_core.specs.declared.open.How.{How}
+use Rattle.kernel_core.specs.declared.open.How.TheVariants.{Fresh, Again}
+use Rattle.simulation.specs.Runs.{Begins, HasDone, HasDoneAll}
+use Rattle.simulation.specs.Stores.{Store, words_in}
 use Rattle.sim_run.specs.Answers.{Exchange, OfInput}
 
--- the input is a script, of whose report the headline holds
-pub record IsPromised (input : List ℕ) : Type 0 where
+-- a run begins on the words at entry, of whose report the headline holds
+pub record HasPromise (how : How) (set : TaskSet) (events : List Event) (words : Words) : Type 0 where
+  pub origin : Origin
+  pub begins : begin_on how set words ≡ Some origin
+  pub promise : Headline origin events (report_text origin events)
+
+-- the input is the script of such a run
+pub record IsPromised (how : How) (words : Words) (input : List ℕ) : Type 0 where
   pub script : Script
   pub reads : read input ≡ Ok script
-  pub promise : Headline (fresh_run script.set) (events_of script.schedule) (report_text (fresh_run script.set) (events_of script.schedule))
+  pub run : HasPromise how script.set (events_of script.schedule) words
 
 -- and that report was put, whole
-pub record IsHeadlined (x : Exchange) (input : List ℕ) : Type 0 where
+pub record IsHeadlined (how : How) (x : Exchange) (input : List ℕ) : Type 0 where
   pub script : Script
   pub reads : read input ≡ Ok script
+  pub origin : Origin
+  pub begins : begin_on how script.set (words_in x.device) ≡ Some origin
   pub text : List ℕ
-  pub promise : Headline (fresh_run script.set) (events_of script.schedule) text
+  pub promise : Headline origin (events_of script.schedule) text
   pub put : PutsText text x.sink x.sink_now
 
--- what a run has written so far: a front of a format; or all of it, and then what some of the events write
-abbrev pub HasRun : TaskSet → List Event → (old new : Store) → Type 0
-HasRun set events old new =
-    HasFront (format_on (device_for set)) old.log new.log
-    ⊎ HasDone (fresh_run set) events (record old { log = old.log ++ format_on (device_for set) }) new
+-- what was written of a format or a migration, and what stands there then
+pub record HasOpenedPart (how : How) (set : TaskSet) (old new : Store) : Type 0 where
+  pub front : HasFront (opening_writes how set (words_in old)) old.log new.log
+  pub left : IsLeft how set (words_in old) (words_in new)
 
--- of `run`, at each answer: so each image of the device is known
-abbrev pub KeepsImages : Option Command → Exchange → Type 0
-KeepsImages command x =
-    command ≡ Some Run → OfInput x.source.bytes
-    (λ input. (s : Script) → read input ≡ Ok s → HasRun s.set (events_of s.schedule) x.device x.device_now)
+-- what a run has written so far: a front of its format or migration; or all of it, and then what some of the events write
+abbrev pub HasRun : How → TaskSet → List Event → (old new : Store) → Type 0
+HasRun how set events old new =
+    HasOpenedPart how set old new
+    ⊎ ((o : Origin) × (begin_on how set (words_in old) ≡ Some o) × HasDone o events (opened_on how set old) new)
 
--- `run` that is answered by Done
+-- all of it, and then just as many writes as all events make
+abbrev pub HasRunAll : How → TaskSet → List Event → (old new : Store) → Type 0
+HasRunAll how set events old new =
+    (o : Origin) × (begin_on how set (words_in old) ≡ Some o) × HasDoneAll o events (opened_on how set old) new
+
+-- what a run that ends so has written; at Done all of it
+pub record IsImaged (how : How) (set : TaskSet) (events : List Event) (old new : Store) (status : Status) : Type 0 where
+  pub written : HasRun how set events old new
+  pub whole : status ≡ Done → HasRunAll how set events old new
+
+-- ---- of a command and its input
+
+abbrev pub PromisesTo : Command → Words → Status → (input : List ℕ) → Type 0
+PromisesTo Run words status input = status ≡ Done → IsPromised Fresh words input
+PromisesTo Resume words status input = status ≡ Done → IsPromised Again words input
+PromisesTo _ words status input = Unit {0}
+
+abbrev pub HasImagesOf : How → (old new : Store) → Status → (input : List ℕ) → Type 0
+HasImagesOf how old new status input =
+    (s : Script) → read input ≡ Ok s → IsImaged how s.set (events_of s.schedule) old new status
+
+abbrev pub ImagesTo : Command → (old new : Store) → Status → (input : List ℕ) → Type 0
+ImagesTo Run old new status input = HasImagesOf Fresh old new status input
+ImagesTo Resume old new status input = HasImagesOf Again old new status input
+ImagesTo _ old new status input = Unit {0}
+
+-- ---- of a call
+
+-- of `run` and `resume`, at each answer: so each image of the device is known
+abbrev pub KeepsImages : Option Command → Exchange → Status → Type 0
+KeepsImages None x status = Unit {0}
+KeepsImages (Some c) x status = OfInput x.source.bytes (ImagesTo c x.device x.device_now status)
+
+-- where they are answered by Done
 abbrev pub KeepsHeadline : Option Command → Exchange → Status → Type 0
-KeepsHeadline command x status = command ≡ Some Run → status ≡ Done → OfInput x.source.bytes (IsHeadlined x)
+KeepsHeadline (Some Run) x status = status ≡ Done → OfInput x.source.bytes (IsHeadlined Fresh x)
+KeepsHeadline (Some Resume) x status = status ≡ Done → OfInput x.source.bytes (IsHeadlined Again x)
+KeepsHeadline _ x status = Unit {0}
+
+-- ---- within
+
+abbrev pub KeepsPromise : Option Command → Exchange → Status → Type 0
+KeepsPromise None x status = Unit {0}
+KeepsPromise (Some c) x status = OfInput x.source.bytes (PromisesTo c (words_in x.device) status)
+
+-- a kernel stands before the first event of a run on the words at entry
+pub record IsBegun (how : How) (set : TaskSet) (events : List Event) (old new : Store) (k : Kernel) : Type 0 where
+  pub origin : Origin
+  pub is : begin_on how set (words_in old) ≡ Some origin
+  pub replies : device_reply how old set events ≡ Puts (report_text origin events)
+  pub begins : Begins origin events k new
+  pub written : new.log ≡ old.log ++ opening_writes how set (words_in old)
+  pub start : new.start ≡ old.start
+  pub few : old.losses ≤ new.losses

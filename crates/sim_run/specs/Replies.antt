@@ -1,4 +1,4 @@
--- What each command replies to an input, where nothing fails and memory is found: `run` also by how many words its device has. This project's own.
+-- What each command replies to an input, where nothing fails and memory is found: `run` and `resume` also by their device, at entry. This project's own.
 use Rattle.std.specs.Prelude.{ℕ, ◌+◌, nat_lt, List, [], ◌∷◌, ◌++◌, length, position, Option, Some, None, Result, Ok, Err, if◌then◌else◌}
 use Rattle.std.specs.List.{flat_map}
 use Rattle.std.specs.Str.Lines.{lines}
@@ -10,10 +10,16 @@ use Rattle.rv_asm.specs.Causes.{AsmError}
 use Rattle.set_model.specs.Sets.{TaskSet}
 use Rattle.kernel_model.specs.Events.{Event}
 use Rattle.schedule_model.specs.Failures.{events_of}
-use Rattle.device_model.specs.Devices.{Device, need_on}
-use Rattle.shadow_index.specs.Tells.{device_of}
-use Rattle.headline.specs.Runs.{Origin, formatted_origin}
+use Rattle.device_model.specs.Words.{Words}
+use Rattle.device_model.specs.Decoding.{decode, durable_of, is_worn}
+use Rattle.device_model.specs.Decoding as stored
+use Rattle.device_model.specs.Devices.{need_on}
+use Rattle.headline.specs.Runs.{booting_origin}
 use Rattle.headline.specs.Report.{report_text}
+use Rattle.kernel_core.specs.Opening.{need_for}
+use Rattle.kernel_core.specs.declared.open.How.{How}
+use Rattle.kernel_core.specs.declared.open.How.TheVariants.{Fresh, Again}
+use Rattle.simulation.specs.Stores.{Store, words_in}
 use Rattle.task_image.specs.Packed.{packed}
 use Rattle.task_image.specs.Unpacked.{unpacked}
 use Rattle.script.specs.Parts as scripts
@@ -22,18 +28,34 @@ use Rattle.script_text.specs.ScriptText.{script_text}
 use Rattle.script.specs.declared.refusals.ScriptCause.TheVariants.{Long, Byte, Code}
 use Rattle.script.specs.Causes.{ScriptError}
 use Rattle.answers.specs.declared.status.Status.{Status}
-use Rattle.answers.specs.declared.status.Status.TheVariants.{Done, Script, Packed, Small}
+use Rattle.answers.specs.declared.status.Status.TheVariants.{Done, Script, Packed, Small, Image}
+use Rattle.answers.specs.declared.status.ImageFault.TheVariants as fault
+use Rattle.sim_run.specs.Origins.{device_for, device_from, fresh_run}
 use Rattle.sim_run.specs.declared.command.Command.{Command}
-use Rattle.sim_run.specs.declared.command.Command.TheVariants.{Run, Asm, Dis, Pack}
+use Rattle.sim_run.specs.declared.command.Command.TheVariants.{Run, Resume, Asm, Dis, Pack}
 
--- a text, or the answer that refuses the input
+-- a text, or the answer that refuses the input, or the one that tells what was found on the device
 pub data Reply : Type 0 where
   Puts : (text : List ℕ) → Reply
   Refuses : (status : Status) → Reply
+  Finds : (status : Status) → Reply
 
 abbrev pub status_of : Reply → Status
 status_of (Puts text) = Done
 status_of (Refuses status) = status
+status_of (Finds status) = status
+
+-- the answer, where no text is put
+abbrev pub refused_by : Reply → Option Status
+refused_by (Puts text) = None
+refused_by (Refuses status) = Some status
+refused_by (Finds status) = Some status
+
+-- the text that is put once the device is used, where it is
+abbrev pub text_by : Reply → Option (List ℕ)
+text_by (Puts text) = Some text
+text_by (Refuses status) = None
+text_by (Finds status) = Some []
 
 -- how many bytes a call reads at most
 abbrev pub most_input : ℕ
@@ -43,24 +65,33 @@ most_input = MAX_INPUT
 abbrev pub too_long : ScriptError
 too_long = record { line = 0; cause = Long }
 
--- ---- `run`: the event machine's report of a run on a formatted device
+-- ---- `run` and `resume`: the event machine's report of a run on a formatted device, or from what a device holds
 
--- the device that a format makes for a set, and a run there
-abbrev pub device_for : TaskSet → Device
-device_for set = device_of set 0
+-- by what stands there: its state, unless it is worn
+abbrev pub found_reply : TaskSet → List Event → stored.Stored → Reply
+found_reply set events stored.Blank = Finds (Image fault.Blank)
+found_reply set events (stored.Damaged place) = Finds (Image (fault.Damaged place))
+found_reply set events (stored.Holds kind h) =
+    if is_worn (durable_of h) then Finds (Image fault.Worn)
+    else Puts (report_text (booting_origin (device_from set kind) h) events)
 
-abbrev pub fresh_run : TaskSet → Origin
-fresh_run set = formatted_origin (device_for set)
+abbrev pub large_reply : How → TaskSet → Words → List Event → Reply
+large_reply Fresh set words events = Puts (report_text (fresh_run set) events)
+large_reply Again set words events = found_reply set events (decode set words)
 
--- on a device of so many words
-abbrev pub fresh_reply : (len : ℕ) → TaskSet → List Event → Reply
-fresh_reply len set events =
+-- on a device of so many words: fewer than the set needs are told before the device is used, and fewer than a migration needs behind word 0
+abbrev pub sized_reply : How → (len : ℕ) → TaskSet → Words → List Event → Reply
+sized_reply how len set words events =
     if nat_lt len (need_on (device_for set)) then Refuses (Small (need_on (device_for set)) len)
-    else Puts (report_text (fresh_run set) events)
+    else if nat_lt len (need_for how set words len) then Finds (Small (need_for how set words len) len)
+    else large_reply how set words events
 
-abbrev pub run_reply : (len : ℕ) → Result scripts.Script ScriptError → Reply
-run_reply len (Err e) = Refuses (Script e)
-run_reply len (Ok s) = fresh_reply len s.set (events_of s.schedule)
+abbrev pub device_reply : How → Store → TaskSet → List Event → Reply
+device_reply how s set events = sized_reply how (length s.start) set (words_in s) events
+
+abbrev pub run_reply : How → Store → Result scripts.Script ScriptError → Reply
+run_reply how s (Err e) = Refuses (Script e)
+run_reply how s (Ok script) = device_reply how s script.set (events_of script.schedule)
 
 -- ---- `asm`: the words of a text, each a line of 8 hexadecimal digits
 
@@ -93,11 +124,12 @@ pack_reply (Err e) = Refuses (Script e)
 
 -- ---- all of them
 
-abbrev pub reply_within : Command → (len : ℕ) → List ℕ → Reply
-reply_within Run len input = run_reply len (read input)
-reply_within Asm len input = asm_reply (lines input)
-reply_within Dis len input = dis_reply (unpacked input)
-reply_within Pack len input = pack_reply (read input)
+abbrev pub reply_within : Command → Store → List ℕ → Reply
+reply_within Run s input = run_reply Fresh s (read input)
+reply_within Resume s input = run_reply Again s (read input)
+reply_within Asm s input = asm_reply (lines input)
+reply_within Dis s input = dis_reply (unpacked input)
+reply_within Pack s input = pack_reply (read input)
 
-unfoldable pub reply : Command → (len : ℕ) → List ℕ → Reply
-reply c len input = if nat_lt most_input (length input) then Refuses (Script too_long) else reply_within c len input
+unfoldable pub reply : Command → Store → List ℕ → Reply
+reply c s input = if nat_lt most_input (length input) then Refuses (Script too_long) else reply_within c s input

@@ -8,7 +8,7 @@ use Rattle.kernel_model.specs.Events.{CoreStep, Event}
 use Rattle.kernel_model.specs.WorkedTasks.{shown}
 use Rattle.set_model.specs.Sets.{TaskSet}
 use Rattle.headline.specs.Runs.{all_lines, state_read}
-use Rattle.sim_run.specs.Replies.{fresh_run}
+use Rattle.sim_run.specs.Origins.{fresh_run}
 use Rattle.sim_run.specs.Set.{set_with}
 
 -- addi s0, a0, 0; addi a0, zero, 0; addi a1, zero, 512; addi a7, zero, 1; ecall; lw t0, 512(zero); add t0, t0, s0; sw t0, 512(zero); addi a7, zero, 2; ecall; addi a7, zero, 4; ecall

@@ -1,17 +1,12 @@
 //! The call that a program makes.
 
-ghost use Rattle.std.specs.Prelude.{◌≡◌, ◌≤◌, Ok, Some, length, map};
+ghost use Rattle.std.specs.Prelude.{◌≤◌, length, map};
 ghost use Rattle.std.specs.Rc.{rc_str_bytes};
+ghost use Rattle.simulation.specs.Stores.{store, words_in};
 ghost use Rattle.sim_run.specs.Commands.{command_of};
 ghost use Rattle.sim_run.specs.Replies.{reply};
-ghost use Rattle.schedule_model.specs.Failures.{events_of};
-ghost use Rattle.script.specs.Parts.{Script};
-ghost use Rattle.script.specs.Reading.{read};
-ghost use Rattle.simulation.specs.Stores.{store};
-ghost use Rattle.sim_run.specs.Answers.{Answered, HasReadFew, IsComplete, LeavesDevice, NeverFalls, OfInput, TellsReadFault, exchange};
-ghost use Rattle.answers.specs.declared.status.Status.TheVariants as Status;
-ghost use Rattle.sim_run.specs.declared.command.Command.TheVariants as Command;
-ghost use Rattle.sim_run.specs.Promises.{HasRun, IsPromised, KeepsHeadline, KeepsImages};
+ghost use Rattle.sim_run.specs.Answers.{Answered, HasReadFew, IsComplete, LeavesDevice, MayUse, NeverFalls, TellsReadFault, exchange, how_of};
+ghost use Rattle.sim_run.specs.Promises.{ImagesTo, KeepsHeadline, KeepsImages, KeepsPromise, PromisesTo};
 ghost use Rattle.sim_run.specs.BeforeAnswerLine.{BeforeAnswerLine, LeavesStore, PutOrLost};
 
 use crate::assembly::asm;
@@ -21,6 +16,7 @@ use crate::packing::{dis, pack};
 use crate::run::run;
 use answers::{Status, put_name};
 use fram_dev::Fram;
+use kernel_core::How;
 use nv_base::limits::MAX_INPUT;
 use nv_base::{Sink, Source};
 use std::alloc::Global;
@@ -36,22 +32,21 @@ fn answer<K: Sink, F: Fram>(
     dev: &mut F,
 ) -> Status
     requires { length input.now ≤ MAX_INPUT }
-    ensures replied { let reply = reply command (length (F.start dev.old)) input.now in
+    ensures replied { let reply = reply command (store F.start F.log F.lost dev.old) input.now in
         PutOrLost reply (K.seen out.old) (K.seen out.new) result }
     ensures store { let old = store F.start F.log F.lost dev.old in
-        LeavesStore old (store F.start F.log F.lost dev.new) result }
-    ensures headline { command ≡ Command.Run → result ≡ Status.Done → IsPromised input.now }
+        LeavesStore (how_of command) old (store F.start F.log F.lost dev.new) result }
+    ensures headline { let words = words_in (store F.start F.log F.lost dev.old) in
+        PromisesTo command words result input.now }
     ensures images { let old = store F.start F.log F.lost dev.old in
-        let new = store F.start F.log F.lost dev.new in
-        command ≡ Command.Run → (s : Script) → read input.now ≡ Ok s
-        → HasRun s.set (events_of s.schedule) old new }
-    ensures others { let old = store F.start F.log F.lost dev.old in
-        (command ≡ Command.Run → ⊥) → store F.start F.log F.lost dev.new ≡ old }
-    ensures start { F.start dev.new ≡ F.start dev.old }
+        ImagesTo command old (store F.start F.log F.lost dev.new) result input.now }
+    ensures device { let old = store F.start F.log F.lost dev.old in
+        MayUse command old (store F.start F.log F.lost dev.new) }
     ensures never_falls { F.lost dev.old ≤ F.lost dev.new }
 {
     match command {
-        Command::Run => run(alloc, input, out, dev),
+        Command::Run => run(alloc, input, How::Fresh, out, dev),
+        Command::Resume => run(alloc, input, How::Again, out, dev),
         Command::Asm => asm(alloc, input, out),
         Command::Dis => dis(alloc, input, out),
         Command::Pack => pack(alloc, input, out),
@@ -70,12 +65,12 @@ fn carry_out<S: Source, K: Sink, F: Fram>(
     ensures answer { let seen = store F.start F.log F.lost in
         let x = exchange S.seen K.seen seen src.old src.new out.old out.new dev.old dev.new in
         BeforeAnswerLine (command_of (map rc_str_bytes words.now)) x result }
-    ensures headline { let command = command_of (map rc_str_bytes words.now) in
-        command ≡ Some Command.Run → result ≡ Status.Done
-        → OfInput (S.seen src.old).bytes IsPromised }
+    ensures headline { let seen = store F.start F.log F.lost in
+        let x = exchange S.seen K.seen seen src.old src.new out.old out.new dev.old dev.new in
+        KeepsPromise (command_of (map rc_str_bytes words.now)) x result }
     ensures images { let seen = store F.start F.log F.lost in
         let x = exchange S.seen K.seen seen src.old src.new out.old out.new dev.old dev.new in
-        KeepsImages (command_of (map rc_str_bytes words.now)) x }
+        KeepsImages (command_of (map rc_str_bytes words.now)) x result }
     ensures device { let seen = store F.start F.log F.lost in
         let x = exchange S.seen K.seen seen src.old src.new out.old out.new dev.old dev.new in
         LeavesDevice (command_of (map rc_str_bytes words.now)) x }
@@ -95,8 +90,8 @@ fn carry_out<S: Source, K: Sink, F: Fram>(
 
 /// Carries out a command: reads the source to its end, and puts what the command replies to the input. Every other
 /// answer is named by a line, and then nothing else was put, but for a sink that failed on the way, or a device that lost
-/// a call. `run` formats the device and puts the event machine's report, of which the headline holds; what the device
-/// holds is known at each of its writes. No other command touches it. It waits for nobody, and takes all its memory before
+/// a call. `run` formats the device, `resume` goes on from what it holds, and each puts the event machine's report, of which
+/// the headline holds; what the device holds is known at each of its writes. No other command touches it. It waits for nobody, and takes all its memory before
 /// anything is put or written.
 pub fn simulate<S: Source, K: Sink, F: Fram>(
     alloc: Global,
@@ -113,7 +108,7 @@ pub fn simulate<S: Source, K: Sink, F: Fram>(
         KeepsHeadline (command_of (map rc_str_bytes words.now)) x result }
     ensures images { let seen = store F.start F.log F.lost in
         let x = exchange S.seen K.seen seen src.old src.new out.old out.new dev.old dev.new in
-        KeepsImages (command_of (map rc_str_bytes words.now)) x }
+        KeepsImages (command_of (map rc_str_bytes words.now)) x result }
     ensures device { let seen = store F.start F.log F.lost in
         let x = exchange S.seen K.seen seen src.old src.new out.old out.new dev.old dev.new in
         LeavesDevice (command_of (map rc_str_bytes words.now)) x }

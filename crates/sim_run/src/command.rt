@@ -11,6 +11,8 @@ use std::rc::RcStr;
 pub enum Command {
     /// `run`: a script in, the event machine's report out.
     Run,
+    /// `resume`: a script in, the event machine's report out, from the state that the device holds.
+    Resume,
     /// `asm`: assembler text in, its words out, one a line.
     Asm,
     /// `dis`: a packed set in, its script text out.
@@ -31,6 +33,8 @@ fn named(word: &str) -> Option<Command>
 {
     if word == "run" {
         Some(Command::Run)
+    } else if word == "resume" {
+        Some(Command::Resume)
     } else if word == "asm" {
         Some(Command::Asm)
     } else if word == "dis" {

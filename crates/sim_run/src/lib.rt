@@ -5,6 +5,7 @@ mod assembly;
 mod call;
 mod command;
 mod input;
+mod opening;
 mod packing;
 pub mod rows;
 mod run;

@@ -1,5 +1,5 @@
 -- A run of the kernel, event by event.
-use Rattle.std.proofs.Common.{◌≡◌, ℕ, zero, suc, ◌+◌, ◌<◌, ◌≤◌, ◌⊎◌, inl, inr, List, [], ◌∷◌, ◌++◌, Bool, true, false, cond, nat_eq, length, take, drop, Option, Some, None, refl, ap, ap₂, sym, ◌∙◌, subst, append_assoc, add-one, arith}
+use Rattle.std.proofs.Common.{◌≡◌, ℕ, zero, suc, ◌+◌, ◌<◌, ◌≤◌, inl, inr, List, [], ◌∷◌, ◌++◌, true, false, cond, nat_eq, length, take, drop, Option, Some, refl, ap, sym, ◌∙◌, subst, append_assoc, add-one, arith}
 use Rattle.std.specs.Prelude.{slice_get}
 use Rattle.std.proofs.lemmas.Grind.{flat_map-append}
 use Rattle.std.proofs.lemmas.List.{append-nil, length-map, length-take-le, take_all, take-append-drop}
@@ -29,15 +29,14 @@ use Rattle.report_text.specs.Report.{end_part, lines_text}
 use Rattle.headline.specs.Runs.{Origin, after, event_lines, first_state, state_read, world_from}
 use Rattle.headline.specs.Images.{Decodes, HasGrown, HasImages}
 use Rattle.headline.specs.Report.{report_text}
-use Rattle.kernel_core.specs.Events.{CutsEvent, IsAt, SimulatesEvent}
+use Rattle.kernel_core.specs.Events.{CutsEvent, IsAt, PassesEvent, SimulatesEvent}
 use Rattle.kernel_core.specs.Steps.{KeepsSet}
 use Rattle.kernel_core.specs.declared.kernel.Kernel.{Kernel}
 use Rattle.kernel_core.proofs.Lawful.{listed_at}
-use Rattle.simulation.specs.Runs.{Begins, Goes, HasDone, IsHalted, PutsStart, first_lines_text, found_text, tail_text}
+use Rattle.simulation.specs.Runs.{Begins, Goes, HasDone, PutsStart, first_lines_text, tail_text}
 use Rattle.simulation.specs.Stores.{Store, words_in}
-use Rattle.simulation.specs.declared.halt.Halt.{Halt}
 use Rattle.simulation.proofs.Fronts.{front_later, puts_more, puts_nothing}
-use Rattle.simulation.proofs.Halting.{halted_here, halted_middle, start_here, whole_start}
+use Rattle.simulation.proofs.Halting.{start_here, whole_start}
 
 -- the laws of a kernel at a state, and of images
 abbrev pub DurableLaw : Type 0
@@ -130,6 +129,17 @@ goes_on o events n k j first now later e l p q r at durable follows g is turns s
       images = t.images;
       puts = subst (λ (x : List ℕ). PutsText x p r) (sym t.text) (puts_more p q r (first_lines_text o events n) (line_text o.device.set (line_of l)) g.puts (subst (λ (x : TaskSet). PutsText (line_text x (line_of l)) q r) set put));
     }
+
+-- a kernel that is the same
+pub same_goes : (o : Origin) (events : List Event) (n : ℕ) (k j : Kernel) (first now : Store) (p q : Stream) → j ≡ k → Goes o events n k first now p q → Goes o events n j first now p q
+same_goes o events n k j first now p q e g = subst (λ (x : Kernel). Goes o events n x first now p q) (sym e) g
+
+-- an event that leaves the device alone, and tells nothing
+pub passes_on : (o : Origin) (events : List Event) (n : ℕ) (k j : Kernel) (first now : Store) (e : own.Event) (p q : Stream) → DurableLaw → MoreLaw → Goes o events n k first now p q → slice_get events n ≡ Some (event_of e)
+    → PassesEvent k e j → KeepsSet k j → j.lost ≡ k.lost → Goes o events (n + 1) j first now p q
+unfolding PassesEvent
+passes_on o events n k j first now e p q durable follows g is passes kept live =
+    goes_on o events n k j first now now e own_line.Nothing p q q o.device.set durable follows g is (passes (words_in now) now.log) refl (omega arith) kept (live ∙ g.live) refl (puts_nothing q)
 
 -- ---- the report is the lines of all events, and then what comes after them
 

@@ -1,8 +1,8 @@
 -- What was put of a text by a run that stopped.
-use Rattle.std.proofs.Common.{◌≡◌, ℕ, ◌+◌, ◌≤◌, List, [], ◌++◌, length, take, refl, sym, ap, ◌∙◌, subst, length-append, append_assoc, arith}
+use Rattle.std.proofs.Common.{◌≡◌, ℕ, ◌+◌, ◌≤◌, List, ◌++◌, length, take, sym, subst, length-append, arith}
 use Rattle.std.proofs.lemmas.List.{take_all, take-append-le}
 use Rattle.std.proofs.Math.Seq.{take-append-add}
-use Rattle.nv_base.specs.Streams.{PutsFront, PutsText, FaultCounted, Stream}
+use Rattle.nv_base.specs.Streams.{PutsText, Stream}
 use Rattle.simulation.specs.Runs.{IsHalted, PutsStart}
 use Rattle.simulation.specs.declared.halt.Halt.{Halt}
 use Rattle.simulation.specs.declared.halt.Halt.TheVariants.{WriteFault, DeviceLost}

@@ -25,7 +25,7 @@ use Rattle.kernel_core.proofs.Opened.{kept_on}
 use Rattle.simulation.specs.Runs.{IsHalted, numbers_part, open_part, read_at}
 use Rattle.simulation.specs.declared.halt.Halt.{Halt}
 use Rattle.simulation.proofs.Halting.{halted_middle}
-use Rattle.simulation.proofs.Fronts.{front_here, front_later, front_next, puts_more}
+use Rattle.simulation.proofs.Fronts.{front_later, puts_more}
 
 -- ---- texts of a list, one after another
 

@@ -1,5 +1,5 @@
 -- What is read back at a state of a run is what is durable then.
-use Rattle.std.proofs.Common.{◌≡◌, ℕ, List, sym, ap, ◌∙◌, subst}
+use Rattle.std.proofs.Common.{◌≡◌, ℕ, sym, ap, ◌∙◌, subst}
 use Rattle.rv_core.specs.State.{MachineState}
 use Rattle.kernel_model.specs.Events.{State}
 use Rattle.kernel_model.specs.Durable.{Durable, listed, state_left}

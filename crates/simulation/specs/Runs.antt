@@ -17,7 +17,6 @@ use Rattle.report_text.specs.Lines.{end_text, object_text, open_text}
 use Rattle.report_text.specs.Report.{end_part, lines_text, objects_text}
 use Rattle.headline.specs.Runs.{Origin, after, event_lines, first_state}
 use Rattle.headline.specs.Images.{HasImages}
-use Rattle.headline.specs.Report.{report_text}
 use Rattle.kernel_core.specs.Events.{IsAt}
 use Rattle.kernel_core.specs.declared.kernel.Kernel.{Kernel}
 use Rattle.simulation.specs.Stores.{Store, words_in}
@@ -90,6 +89,10 @@ pub record Goes (o : Origin) (events : List Event) (n : ℕ) (k : Kernel) (first
 abbrev pub HasDone : (o : Origin) (events : List Event) (first now : Store) → Type 0
 HasDone o events first now =
     (n : ℕ) × (n ≤ length events) × HasImages o events first.start first.log now.log n
+
+-- all events were done: the device has just as many writes as they make, with all images
+abbrev pub HasDoneAll : (o : Origin) (events : List Event) (first now : Store) → Type 0
+HasDoneAll o events first now = HasImages o events first.start first.log now.log (length events)
 
 -- why a run stops before its end, and what was put of a text, where so many calls were lost before and now
 abbrev pub IsHalted : (text : List ℕ) → (before now : ℕ) → (old new : Stream) → Halt → Type 0

@@ -6,7 +6,7 @@ ghost use Rattle.schedule_model.specs.Failures.{events_of};
 ghost use Rattle.headline.specs.Report.{report_text};
 ghost use Rattle.headline.specs.Runs.{Origin};
 ghost use Rattle.simulation.specs.Places.{HasPlace};
-ghost use Rattle.simulation.specs.Runs.{Begins, Goes, HasDone, IsHalted};
+ghost use Rattle.simulation.specs.Runs.{Begins, Goes, HasDone, HasDoneAll, IsHalted};
 ghost use Rattle.simulation.specs.Stores.{store};
 
 use crate::halt::Halt;
@@ -57,6 +57,10 @@ fn put_events<K: Sink, F: Fram>(
         let Some(event) = events.next() else {
             unreachable!();
         };
+        // most events only step a machine, or find nothing to do
+        if kernel.pass(event) {
+            continue;
+        }
         let Ok(line) = kernel.turn(dev, event) else {
             return Err(Halt::DeviceLost);
         };
@@ -91,6 +95,10 @@ pub fn put_report<K: Sink, F: Fram>(
         let first = store F.start F.log F.lost dev.old in
         let now = store F.start F.log F.lost dev.new in
         (o : Origin) → Begins o events kernel first → HasDone o events first now }
+    ensures whole { let events = events_of schedule.now in
+        let first = store F.start F.log F.lost dev.old in
+        let now = store F.start F.log F.lost dev.new in
+        (o : Origin) → Begins o events kernel first → OnOk result (HasDoneAll o events first now) }
     ensures start { F.start dev.new ≡ F.start dev.old }
     ensures never_falls { F.lost dev.old ≤ F.lost dev.new }
 {

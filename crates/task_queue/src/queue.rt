@@ -74,6 +74,7 @@ fn append(tasks: &mut Vec<TaskRec>, first: u32, spawns: &[Spawn])
 }
 
 // Whether a core holds a task.
+#[inline(always)]
 fn holds(held: &[TaskId], task: TaskId) -> bool
     ensures { result ≡ is_held (map (λ id. id.0) held.now) task.0 }
 {
@@ -160,6 +161,7 @@ impl Queue {
     }
 
     /// Whether so many children of an open task would find records.
+    #[inline(always)]
     pub fn room_for(&self, spawns: u8) -> bool
         ensures { result ≡ has_room spawns self.now }
     {
@@ -167,6 +169,7 @@ impl Queue {
     }
 
     /// How many tasks are open.
+    #[inline(always)]
     pub fn pending(&self) -> u16
         ensures { result ≡ length self.now.tasks }
     {
@@ -176,6 +179,7 @@ impl Queue {
     }
 
     /// The open tasks, in order of id.
+    #[inline(always)]
     pub fn open_tasks(&self) -> &[TaskRec]
         ensures { map task_of result.now ≡ self.now.tasks }
     {
@@ -183,6 +187,7 @@ impl Queue {
     }
 
     /// The id of the next task.
+    #[inline(always)]
     pub fn next(&self) -> TaskId
         ensures { result.0 ≡ self.now.next }
     {

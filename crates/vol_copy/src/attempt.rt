@@ -124,6 +124,7 @@ impl Attempt {
     }
 
     /// The task that was loaded last.
+    #[inline(always)]
     pub fn task(&self) -> TaskId
         ensures { result ≡ self.now.task }
     {
@@ -131,6 +132,7 @@ impl Attempt {
     }
 
     /// The point from which the last try may read.
+    #[inline(always)]
     pub fn start(&self) -> Point
         ensures { result ≡ self.now.start }
     {
@@ -138,6 +140,7 @@ impl Attempt {
     }
 
     /// Whether it runs: then `advance` is its next turn.
+    #[inline(always)]
     pub fn is_running(&self) -> bool
         ensures exact { result ≡ is_running_in self.now.stage }
         ensures running { IsTrue result → self.now.stage ≡ Stage.Running }
@@ -158,6 +161,7 @@ impl Attempt {
     }
 
     /// Whether it has ended, and asks for its finish.
+    #[inline(always)]
     pub fn is_ready(&self) -> bool
         ensures { result ≡ is_waiting self.now.stage }
     {
@@ -179,6 +183,7 @@ impl Attempt {
     }
 
     /// The objects that it has read from outside.
+    #[inline(always)]
     pub fn reads(&self) -> ObjSet
         ensures { result ≡ self.now.reads }
     {
@@ -186,6 +191,7 @@ impl Attempt {
     }
 
     /// The objects that it has written: none, where it has ended by a trap.
+    #[inline(always)]
     pub fn written(&self) -> ObjSet
         ensures { result ≡ self.now.written }
     {
@@ -193,6 +199,7 @@ impl Attempt {
     }
 
     /// The tasks that it has spawned, in order: none, where it has ended by a trap.
+    #[inline(always)]
     pub fn spawns(&self) -> &[Spawn]
         ensures { result.now ≡ self.now.spawns }
     {

@@ -23,6 +23,7 @@ pub enum Doing {
 
 impl Attempt {
     /// What the attempt does.
+    #[inline(always)]
     pub fn doing(&self) -> Doing
         ensures { result ≡ doing_in self.now.stage }
     {

@@ -1,8 +1,9 @@
 //! One turn of an attempt that runs.
 
-ghost use Rattle.std.specs.Prelude.{◌≡◌, ◌≤◌, ◌+◌, [], Some, length};
+ghost use Rattle.std.specs.Prelude.{◌≡◌, ◌≤◌, ◌+◌, IsTrue, [], Some, false, length};
 ghost use Rattle.rv_core.specs.Machine.{service_of};
 ghost use Rattle.rv_core.specs.declared.services.Service.{Service};
+ghost use Rattle.set_model.specs.Sets.{TaskSet};
 ghost use Rattle.vol_copy.specs.Tries.{IsFor};
 ghost use Rattle.vol_copy.specs.Received.{ended_so};
 ghost use Rattle.vol_copy.specs.Turns.{Advances, IsInNeed, Serves};
@@ -40,6 +41,24 @@ impl Attempt {
             Step::Trap(cause) => self.end(Outcome::Trap(cause)),
             Step::Call(service) => self.serve(set, service),
         }
+    }
+
+    /// One step of the machine, where the attempt runs and runs on behind it. Else nothing has changed, and the turn is
+    /// that of another call. It takes no memory, and asks nothing of the set.
+    #[inline(always)]
+    pub fn go(&mut self) -> bool
+        ensures rests { result ≡ false → self.new ≡ self.old }
+        ensures running { IsTrue result → (self.old.stage ≡ Stage.Running)
+            × (self.new.stage ≡ Stage.Running) }
+        ensures kept { (set : TaskSet) → IsFor set self.old → IsFor set self.new }
+        ensures start { self.new.start ≡ self.old.start }
+        ensures advances { IsTrue result
+            → (set : TaskSet) → Advances set self.old self.new Need.Went }
+    {
+        if !self.is_running() {
+            return false;
+        }
+        self.machine.go()
     }
 
     /// The service that the machine waits on.

@@ -1,8 +1,10 @@
-use Rattle.std.proofs.Common.{inl, length, refl, subst}
+use Rattle.std.proofs.Common.{inl, refl, subst}
+use Rattle.simulation.specs.Stores.{store, words_in}
+use Rattle.sim_run.specs.Promises.{ImagesTo, PromisesTo}
 use Rattle.sim_run.specs.Replies.{reply}
 use Rattle.sim_run.specs.BeforeAnswerLine.{PutOrLost}
 use Rattle.sim_run.proofs.Answering.{reply_counts, stood}
-use Rattle.sim_run.proofs.Inputs.{read_few, replied, unread, unread_counts, unread_few, unread_told}
+use Rattle.sim_run.proofs.Inputs.{promised, read_few, replied, unread, unread_counts, unread_few, unread_told}
 use Rattle.sim_run.proofs.call.carry_out.Goals as goal
 
 pub returns-in-Err-clause-answer : goal.returns-in-Err-clause-answer
@@ -20,7 +22,7 @@ returns-in-Err-clause-never_falls g c = record { source = unread_counts _ _ c.in
 pub returns-in-Ok-read_input-clause-answer : goal.returns-in-Ok-read_input-clause-answer
 returns-in-Ok-read_input-clause-answer g c =
     rw c.in-Ok.ensures (replied c.in-Ok.command _ c.in-Ok-read_input.input.items c.answer.result c.in-Ok-read_input.ensures.given
-    (subst (λ b. PutOrLost (reply c.in-Ok.command (length (g.F.Fram.start c.args.dev.now)) b) (g.K.Sink.seen c.args.out.now) (g.K.Sink.seen c.answer.new.out) c.answer.result) c.as_slice.ensures.value c.answer.ensures.replied)
+    (subst (λ b. PutOrLost (reply c.in-Ok.command (store g.F.Fram.start g.F.Fram.log g.F.Fram.lost c.args.dev.now) b) (g.K.Sink.seen c.args.out.now) (g.K.Sink.seen c.answer.new.out) c.answer.result) c.as_slice.ensures.value c.answer.ensures.replied)
     c.answer.ensures.store)
 
 pub returns-in-Ok-read_input-clause-few : goal.returns-in-Ok-read_input-clause-few
@@ -31,3 +33,16 @@ returns-in-Ok-read_input-clause-told g c = inl c.in-Ok-read_input.ensures.given.
 
 pub returns-in-Ok-read_input-clause-never_falls : goal.returns-in-Ok-read_input-clause-never_falls
 returns-in-Ok-read_input-clause-never_falls g c = record { source = stood _ _ c.in-Ok-read_input.ensures.given.still; sink = reply_counts _ _ _ _ c.answer.ensures.replied; device = c.answer.ensures.never_falls }
+
+pub returns-in-Ok-read_input-clause-headline : goal.returns-in-Ok-read_input-clause-headline
+returns-in-Ok-read_input-clause-headline g c =
+    let old = store g.F.Fram.start g.F.Fram.log g.F.Fram.lost c.args.dev.now in
+    rw c.in-Ok.ensures (promised (PromisesTo c.in-Ok.command (words_in old) c.answer.result) _ _ c.in-Ok-read_input.input.items c.in-Ok-read_input.ensures.given
+    (subst (PromisesTo c.in-Ok.command (words_in old) c.answer.result) c.as_slice.ensures.value c.answer.ensures.headline))
+
+pub returns-in-Ok-read_input-clause-images : goal.returns-in-Ok-read_input-clause-images
+returns-in-Ok-read_input-clause-images g c =
+    let old = store g.F.Fram.start g.F.Fram.log g.F.Fram.lost c.args.dev.now in
+    let new = store g.F.Fram.start g.F.Fram.log g.F.Fram.lost c.answer.new.dev in
+    rw c.in-Ok.ensures (promised (ImagesTo c.in-Ok.command old new c.answer.result) _ _ c.in-Ok-read_input.input.items c.in-Ok-read_input.ensures.given
+    (subst (ImagesTo c.in-Ok.command old new c.answer.result) c.as_slice.ensures.value c.answer.ensures.images))

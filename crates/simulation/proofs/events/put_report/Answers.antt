@@ -1,4 +1,4 @@
-use Rattle.std.proofs.Common.{ℕ, List, length, take, ap, sym, subst}
+use Rattle.std.proofs.Common.{ℕ, List, length, take, sym, subst}
 use Rattle.std.proofs.lemmas.Result.{IfErr-weaker, on_ok_weaker}
 use Rattle.nv_base.specs.Streams.{PutsText}
 use Rattle.schedule_model.specs.Failures.{events_of}
@@ -47,3 +47,11 @@ returns-clause-done g c = λ o b.
       done.1,
       subst (λ (log : List Change). HasImages o events (g.F.Fram.start c.args.dev.now) (g.F.Fram.log c.args.dev.now) log done.0) (sym c.put_tail.ensures.log) done.2,
     )
+
+pub returns-clause-whole : goal.returns-clause-whole
+returns-clause-whole g c = λ o b.
+    let events = events_of c.args.schedule.now in
+    let s = after o (take (length events) events) in
+    let goes = c.in_default.ensures.goes o b in
+    on_ok_weaker c.put_tail.result
+    (λ put. subst (λ (log : List Change). HasImages o events (g.F.Fram.start c.args.dev.now) (g.F.Fram.log c.args.dev.now) log (length events)) (sym c.put_tail.ensures.log) goes.images) (c.put_tail.ensures.put o s goes.at)

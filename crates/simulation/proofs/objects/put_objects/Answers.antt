@@ -1,8 +1,7 @@
-use Rattle.std.proofs.Common.{◌≡◌, ◌<◌, ℕ, length, refl, ap₂, sym, ◌∙◌, subst, arith}
+use Rattle.std.proofs.Common.{◌<◌, length, refl, ap₂, ◌∙◌, subst, arith}
 use Rattle.nv_base.specs.Streams.{PutsText}
 use Rattle.device_model.specs.Words.{Words}
 use Rattle.recovery.specs.Images.{words_of}
-use Rattle.recovery.specs.Reading.{IsRead}
 use Rattle.simulation.specs.Runs.{IsHalted, object_part, read_at}
 use Rattle.simulation.proofs.Fronts.{puts_nothing}
 use Rattle.simulation.proofs.ReadBack.{halted_object, last_object, next_object, read_keeps}

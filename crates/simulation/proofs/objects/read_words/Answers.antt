@@ -1,4 +1,4 @@
-use Rattle.std.proofs.Common.{◌≡◌, ◌<◌, ℕ, length, ap, ap₂, sym, ◌∙◌, subst, arith}
+use Rattle.std.proofs.Common.{length, ap, ap₂, sym, ◌∙◌, subst, arith}
 use Rattle.std.proofs.lemmas.List.{take_all}
 use Rattle.kernel_model.specs.Effects.{object_words}
 use Rattle.device_model.specs.Words.{Words}

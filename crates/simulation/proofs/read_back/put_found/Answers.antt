@@ -1,11 +1,8 @@
-use Rattle.std.proofs.Common.{ℕ, List, Option, ap, sym, ◌∙◌, subst}
+use Rattle.std.proofs.Common.{ℕ, List, Option, ◌∙◌, subst}
 use Rattle.std.proofs.lemmas.Result.{on_err_weaker, on_ok_weaker}
 use Rattle.nv_base.specs.Streams.{PutsFront, PutsText}
 use Rattle.kernel_model.specs.Items.{Entry}
 use Rattle.kernel_model.specs.Report.{found_lines}
-use Rattle.set_model.specs.Sets.{TaskSet}
-use Rattle.set_model.specs.Views.{line_of}
-use Rattle.report_text.specs.Lines.{line_text}
 use Rattle.report_text.specs.Report.{lines_text}
 use Rattle.simulation.proofs.Fronts.{puts_nothing}
 use Rattle.simulation.proofs.Going.{one_found, set_at}

@@ -1,4 +1,4 @@
-use Rattle.std.proofs.Common.{◌≡◌, ◌<◌, ℕ, List, ap, ap₂, sym, ◌∙◌, subst}
+use Rattle.std.proofs.Common.{◌<◌, ℕ, List, ap₂, sym, ◌∙◌, subst}
 use Rattle.std.specs.List.{AllByRecursion}
 use Rattle.std.specs.Prelude.{length}
 use Rattle.std.proofs.lemmas.Result.{IfErr-weaker, on_ok_weaker}
@@ -6,9 +6,8 @@ use Rattle.nv_base.specs.Streams.{PutsText}
 use Rattle.kernel_model.specs.Durable.{listed, state_left}
 use Rattle.set_model.specs.Sets.{TaskSet}
 use Rattle.set_model.specs.Limits.{IsTaskSet}
-use Rattle.device_model.specs.Words.{Words}
 use Rattle.recovery.specs.Images.{words_of}
-use Rattle.recovery.specs.Reading.{IsRead, IsRefused}
+use Rattle.recovery.specs.Reading.{IsRefused}
 use Rattle.report_text.specs.Report.{end_part}
 use Rattle.simulation.specs.Runs.{IsHalted, found_text, read_text, tail_text}
 use Rattle.simulation.proofs.Fronts.{front_here, puts_more}

@@ -28,8 +28,14 @@ returns c =
       pages = h.pages;
       page_words = h.page_words;
       page_places = λ page copy a b. c.page_places.ensures page copy (omega (arith, a, h.pages)) b ∙ copy_is_at l s page copy h;
-      slot_places = λ o slot a b.
+      slot_places = λ o a.
           let within = all_at IsObject set.objects none o c.index_words.ensures.limits.each_object a in
-          c.slot_places.ensures o slot a (omega (arith, b, within.slots.1)) ∙ slot_is_at l set _ o slot at;
+          let first = slot_is_at l set _ o 0 at in
+          record {
+            first_is = c.slot_places.ensures.first o a ∙ omega (arith, first);
+            size_is = c.slot_places.ensures.size o a;
+            small = let small = c.slot_places.ensures.small o a in omega (arith, first, small);
+            thin = within.size.1;
+          };
       code_places = c.code_places.ensures;
     }
