@@ -133,7 +133,7 @@ fn device_in(
     writes: u32,
 ) -> Result<MemFram, Unready>
     requires { words ≤ 65536 }
-    ensures length { IfOk result (λ device. length device.start.items ≡ words) }
+    ensures length { IfOk result (λ device. length (⟦<MemFram as Fram>⟧.start device) ≡ words) }
     ensures writes { IfOk result (Passes writes) }
 {
     let start = file.load(rt, rt.alloc(), words)?;
