@@ -121,8 +121,7 @@ fn new_device(alloc: Global, words: u32, writes: u32) -> Result<MemFram, NoMemor
     ensures zeros { IfOk result (IsZeros words) }
     ensures writes { IfOk result (Passes writes) }
 {
-    let zeros = vec![in alloc; 0u32; words as usize]?;
-    MemFram::new(alloc, zeros.as_slice(), writes)
+    MemFram::zeros(alloc, words, writes)
 }
 
 /// A device that has the words of a file, and passes so many writes.
