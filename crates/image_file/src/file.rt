@@ -73,7 +73,8 @@ pub fn loaded<F: Read + Drop>(
     count: u32,
 ) -> Result<Vec<u32>, LoadFault>
     ensures missing { IfErr opened (λ e. error_kind e ≡ NotFound → IfOk result (λ words. AreZeros count words.items)) }
-    ensures made { IfErr opened (λ e. error_kind e ≡ NotFound → result ≢ Err Read) }
+    ensures made { IfErr opened (λ e. error_kind e ≡ NotFound
+        → IfErr result (λ fault. fault ≡ LoadFault.NoMemory)) }
     ensures closed { IfErr opened (λ e. error_kind e ≢ NotFound → result ≡ Err Read) }
     ensures words { IfOk opened (λ file. IfSome (F.remaining file)
         (λ bytes. IfOk result (λ words. image_of words.items ≡ bytes))) }
@@ -112,7 +113,6 @@ pub struct ImageFile {
     path: String,
     beside: String,
     bytes: Vec<u8>,
-    count: u32,
 }
 
 // where a path leads, behind all links, or itself where that is not known
@@ -142,15 +142,19 @@ impl ImageFile {
             path,
             beside,
             bytes: vec![in alloc; 0u8; 4 * count as usize]?,
-            count,
         })
     }
 
-    /// The words in it, or zeros where there is no such file.
-    pub fn load<R: Files>(&self, files: &R, alloc: Global) -> Result<Vec<u32>, LoadFault>
-        ensures { IfOk result (λ words. length words.items ≡ self.now.count) }
+    /// The so many words in it, or zeros where there is no such file.
+    pub fn load<R: Files>(
+        &self,
+        files: &R,
+        alloc: Global,
+        count: u32,
+    ) -> Result<Vec<u32>, LoadFault>
+        ensures { IfOk result (λ words. length words.items ≡ count) }
     {
-        loaded(alloc, fs::open(files, self.path.as_str()), self.count)
+        loaded(alloc, fs::open(files, self.path.as_str()), count)
     }
 
     // The words in a new file that takes the place of the old one. False where no file can be made there.

@@ -4,7 +4,7 @@
 //! with.
 #![tactic(auto)]
 
-ghost use Rattle.std.specs.Prelude.{◌≡◌, ◌↔◌, ◌≤◌, [], IfErr, IfOk, IsErr, OnErr, OnOk, drop, map, string_bytes};
+ghost use Rattle.std.specs.Prelude.{◌≡◌, ◌↔◌, ◌≤◌, [], IfErr, IfOk, IsErr, OnErr, OnOk, drop, length, map, string_bytes};
 ghost use Rattle.std.specs.IoError.{error_kind};
 ghost use Rattle.std.specs.declared.io.ErrorKind.TheVariants.{OutOfMemory};
 ghost use Rattle.std.specs.Process.{exit_status};
@@ -132,12 +132,10 @@ fn device_in(
     writes: u32,
 ) -> Result<MemFram, Unready>
     requires { words ≤ 65536 }
-    ensures { IfOk result (Passes writes) }
+    ensures length { IfOk result (λ device. length (⟦<MemFram as Fram>⟧.start device) ≡ words) }
+    ensures writes { IfOk result (Passes writes) }
 {
-    let start = file.load(rt, rt.alloc())?;
-    if start.len() > words as usize {
-        return Err(Unready::Size);
-    }
+    let start = file.load(rt, rt.alloc(), words)?;
     match MemFram::new(rt.alloc(), start.as_slice(), writes) {
         Ok(device) => Ok(device),
         Err(NoMemory) => Err(Unready::NoMemory),
