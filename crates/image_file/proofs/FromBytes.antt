@@ -1,6 +1,5 @@
 -- Words that are read four bytes each have those bytes again.
-use Rattle.std.proofs.Common.{◌≡◌, ◌≢◌, Bool, true, false, eqb, Option, Some, None, IfSome, take, option_map, ℕ, zero, suc, ◌+◌, ◌*◌, ◌/◌, ◌%◌, ◌^◌, ◌<◌, List, [], ◌∷◌, ◌++◌, length, drop, slice_index, refl, sym, ap, ◌∙◌, subst, arith, eqb-true}
-use Rattle.std.proofs.lemmas.Bool.{eqb-false}
+use Rattle.std.proofs.Common.{◌≡◌, ℕ, suc, ◌+◌, ◌*◌, ◌/◌, ◌%◌, ◌^◌, ◌<◌, List, [], ◌∷◌, ◌++◌, length, drop, slice_index, refl, sym, ap, ◌∙◌, arith}
 use Rattle.byteorder.specs.Endian.{IsRead, little_bytes, little_number}
 use Rattle.byteorder.specs.Numbers.{little_number-reads_back}
 use Rattle.image_file.specs.Images.{image_of}
@@ -34,25 +33,6 @@ image_is (w ∷ words) (a ∷ b ∷ c ∷ d ∷ bytes) n small read =
     rest_read k l =
         let e : 4 * suc k ≡ suc (suc (suc (suc (4 * k)))) = omega arith in
         read (suc k) (omega (arith, l)) ∙ ap (λ (j : ℕ). little_number 4 (drop j (a ∷ b ∷ c ∷ d ∷ bytes))) e
-
--- what is shorter than the limit of its reading is all that there was
-all_taken : (limit : ℕ) (all : List ℕ) → length (take limit all) < limit → take limit all ≡ all
-all_taken zero all l = absurd (omega (arith, l))
-all_taken (suc n) [] l = refl
-all_taken (suc n) (x ∷ xs) l = ap (λ (ys : List ℕ). x ∷ ys) (all_taken n xs (omega (arith, l)))
-
--- what holds of the bytes up to one more than so many, and of all where there are not so many of these, holds of all
-pub of_whole : (known : Option (List ℕ)) (P : List ℕ → Type 0) (n : ℕ) (bytes read : List ℕ) → bytes ≡ read → IfSome (option_map (take (n + 1)) known) (λ xs. read ≡ xs)
-    → P bytes → (length bytes ≢ n → (all : List ℕ) → P all) → IfSome known P
-of_whole None P n bytes read g h p q = tt
-of_whole (Some all) P n bytes read g h p q = at (eqb (length bytes) n) refl
-  where
-    at : (b : Bool) → eqb (length bytes) n ≡ b → P all
-    at true e =
-        let long = eqb-true (length bytes) n e in
-        let same = ap (λ (xs : List ℕ). length xs) (g ∙ h) in
-        subst P (g ∙ h ∙ all_taken (n + 1) all (omega (arith, long, same))) p
-    at false e = q (eqb-false (length bytes) n e) all
 
 -- words with the same bytes are the same
 pub same_words : (xs ys : List ℕ) → ((i : ℕ) → slice_index xs i < 2 ^ 32) → ((i : ℕ) → slice_index ys i < 2 ^ 32) → image_of xs ≡ image_of ys → xs ≡ ys

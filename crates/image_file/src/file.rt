@@ -1,18 +1,17 @@
 //! A device in a file: it is read whole, and written whole to a new file that takes its place.
 //! What std says of the files is taken on trust. Contracts speak of any reader and writer.
 
-ghost use Rattle.std.specs.Prelude.{◌≡◌, ◌≢◌, ◌*◌, ◌≤◌, Err, IfErr, IfOk, IfSome, OnOk, length};
+ghost use Rattle.std.specs.Prelude.{◌≡◌, ◌≢◌, ◌*◌, IfErr, IfOk, OnErr, OnOk, length, vec_len};
 ghost use Rattle.std.specs.IoError.{error_kind};
-ghost use Rattle.std.specs.Io.KnownBytes.{Appends};
 ghost use Rattle.std.specs.declared.io.ErrorKind.TheVariants.{NotFound};
-ghost use Rattle.image_file.specs.Images.{AreZeros, image_of};
-ghost use Rattle.image_file.specs.declared.words.LoadFault.TheVariants.{Read, Size};
+ghost use Rattle.nv_base.specs.Streams.{PutsFront, PutsText, ReadsAll, Stream};
+ghost use Rattle.image_file.specs.Images.{AreZeros, GivesNone, image_of};
 
 use crate::words::{LoadFault, put_image, words_of, zeros};
-use nv_base::NoMemory;
+use nv_base::{NoMemory, ReadRefusal, Sink, Source, StdSink, StdSource, put_all, read_all};
 use std::alloc::Global;
 use std::fs::{OpenFile, OpenOptions};
-use std::io::{ErrorKind, Read, Write};
+use std::io::{ErrorKind, Write};
 use std::rt::Files;
 use std::{fs, io};
 
@@ -20,36 +19,19 @@ use std::{fs, io};
 #[derive(Clone, Copy, Debug, PartialEq, Eq)]
 pub struct Unstored;
 
-// what became of a read that failed
-fn read_fault(error: &io::Error) -> LoadFault
-    ensures { result ≢ Size }
-{
-    if error.kind() == ErrorKind::OutOfMemory {
-        LoadFault::NoMemory
-    } else {
-        LoadFault::Read
-    }
-}
-
-/// The so many words that a reader has, to its end. `Size` exactly where it gives another number of bytes than four for
-/// each word; `Read` where it fails.
-pub fn read_image<R: Read + Drop>(
-    alloc: Global,
-    reader: R,
-    count: u32,
-) -> Result<Vec<u32>, LoadFault>
-    ensures words { IfSome (R.remaining reader)
-        (λ bytes. IfOk result (λ words. image_of words.items ≡ bytes)) }
+/// The so many words that a source has, to its end. `Size` exactly where it gives another number of bytes than four for
+/// each word; `Read` only where it fails.
+pub fn read_image<S: Source>(alloc: Global, src: &mut S, count: u32) -> Result<Vec<u32>, LoadFault>
+    ensures words { IfOk result
+        (λ words. ReadsAll (image_of words.items) (S.seen src.old) (S.seen src.new)) }
     ensures number { IfOk result (λ words. length words.items ≡ count) }
-    ensures size { IfSome (R.remaining reader)
-        (λ bytes. result ≡ Err Size → length bytes ≢ 4 * count) }
+    ensures none { IfErr result (GivesNone count (S.seen src.old) (S.seen src.new)) }
 {
-    let mut bytes = Vec::new(alloc);
-    // one byte more than a device has tells a file that is too long
-    let mut limited = reader.take(4 * u64::from(count) + 1);
-    match limited.read_to_end(&mut bytes) {
-        Err(error) => Err(read_fault(&error)),
-        Ok(_) => words_of(alloc, bytes.as_slice(), count),
+    match read_all(alloc, src, 4 * count as usize) {
+        Ok(bytes) => words_of(alloc, bytes.as_slice(), count),
+        Err(ReadRefusal::ReadFault) => Err(LoadFault::Read),
+        Err(ReadRefusal::TooLong) => Err(LoadFault::Size),
+        Err(ReadRefusal::NoMemory) => Err(LoadFault::NoMemory),
     }
 }
 
@@ -67,41 +49,38 @@ fn no_file(alloc: Global, count: u32) -> Result<Vec<u32>, LoadFault>
 }
 
 /// The words of a file that was opened so: those that it has, or zeros where there is no file.
-pub fn loaded<F: Read + Drop>(
+pub fn loaded<S: Source + Drop>(
     alloc: Global,
-    opened: io::Result<F>,
+    opened: io::Result<S>,
     count: u32,
 ) -> Result<Vec<u32>, LoadFault>
-    ensures missing { IfErr opened (λ e. error_kind e ≡ NotFound → IfOk result (λ words. AreZeros count words.items)) }
+    ensures missing { IfErr opened (λ e. error_kind e ≡ NotFound
+        → IfOk result (λ words. AreZeros count words.items)) }
     ensures made { IfErr opened (λ e. error_kind e ≡ NotFound
         → IfErr result (λ fault. fault ≡ LoadFault.NoMemory)) }
-    ensures closed { IfErr opened (λ e. error_kind e ≢ NotFound → result ≡ Err Read) }
-    ensures words { IfOk opened (λ file. IfSome (F.remaining file)
-        (λ bytes. IfOk result (λ words. image_of words.items ≡ bytes))) }
-    ensures size { IfOk opened (λ file. IfSome (F.remaining file)
-        (λ bytes. result ≡ Err Size → length bytes ≢ 4 * count)) }
+    ensures closed { IfErr opened (λ e. error_kind e ≢ NotFound → result ≡ Err LoadFault.Read) }
+    ensures words { IfOk opened (λ src. IfOk result
+        (λ words. (new : Stream) × ReadsAll (image_of words.items) (S.seen src) new)) }
+    ensures none { IfOk opened (λ src. IfErr result
+        (λ fault. (new : Stream) × GivesNone count (S.seen src) new fault)) }
     ensures number { IfOk result (λ words. length words.items ≡ count) }
 {
     match opened {
-        Ok(file) => read_image(alloc, file, count),
+        Ok(mut src) => read_image(alloc, &mut src, count),
         Err(error) if error.kind() == ErrorKind::NotFound => no_file(alloc, count),
         Err(_) => Err(LoadFault::Read),
     }
 }
 
-/// Writes these words, with a buffer for their bytes. `Unstored` where the buffer has not four bytes for each word, or
-/// the writer fails.
-pub fn write_image<W: Write>(
-    writer: &mut W,
-    words: &[u32],
-    bytes: &mut [u8],
-) -> Result<(), Unstored>
-    ensures { OnOk result (Appends (W.contents writer.old) (W.contents writer.new) (image_of words.now)) }
+/// Puts these words, with a buffer for their bytes. `Unstored` only where the sink fails.
+pub fn write_image<K: Sink>(out: &mut K, words: &[u32], bytes: &mut [u8]) -> Result<(), Unstored>
+    requires { length bytes.old ≡ 4 * length words.now }
+    ensures all { OnOk result (PutsText (image_of words.now) (K.seen out.old) (K.seen out.new)) }
+    ensures front { OnErr result
+        (PutsFront (image_of words.now) (K.seen out.old) (K.seen out.new)) }
 {
-    if !put_image(words, bytes) {
-        return Err(Unstored);
-    }
-    match writer.write_all(bytes) {
+    put_image(words, bytes);
+    match put_all(out, bytes) {
         Ok(()) => Ok(()),
         Err(_) => Err(Unstored),
     }
@@ -124,8 +103,14 @@ fn real_path<R: Files>(files: &R, alloc: Global, path: &str) -> Result<String, N
 }
 
 // whether these words were written to a file and have reached its disk
-fn is_written<F: Write + OpenFile>(file: &mut F, words: &[u32], bytes: &mut [u8]) -> bool {
-    write_image(file, words, bytes).is_ok() && file.sync_all().is_ok()
+fn is_written<F: Write + OpenFile>(file: &mut F, words: &[u32], bytes: &mut [u8]) -> bool
+    requires { length bytes.old ≡ 4 * length words.now }
+{
+    let mut sink = StdSink::new(&mut *file);
+    if write_image(&mut sink, words, bytes).is_err() {
+        return false;
+    }
+    file.sync_all().is_ok()
 }
 
 impl ImageFile {
@@ -154,7 +139,11 @@ impl ImageFile {
     ) -> Result<Vec<u32>, LoadFault>
         ensures { IfOk result (λ words. length words.items ≡ count) }
     {
-        loaded(alloc, fs::open(files, self.path.as_str()), count)
+        let opened = match fs::open(files, self.path.as_str()) {
+            Ok(file) => Ok(StdSource::new(file)),
+            Err(error) => Err(error),
+        };
+        loaded(alloc, opened, count)
     }
 
     // The words in a new file that takes the place of the old one. False where no file can be made there.
@@ -163,7 +152,10 @@ impl ImageFile {
         files: &R,
         old: &io::Result<R::File>,
         words: &[u32],
-    ) -> Result<bool, Unstored> {
+    ) -> Result<bool, Unstored>
+        requires { vec_len self.old.bytes ≡ 4 * length words.now }
+        ensures { vec_len self.new.bytes ≡ vec_len self.old.bytes }
+    {
         let Ok(mut file) = fs::create(files, self.beside.as_str()) else {
             return Ok(false);
         };
@@ -181,6 +173,9 @@ impl ImageFile {
     /// one or the other whole; where its folder takes no new file, into the old one. `Unstored` where that fails, where
     /// the old file may not be written, and where there are not as many words as the device has.
     pub fn store<R: Files>(&mut self, files: &R, words: &[u32]) -> Result<(), Unstored> {
+        if self.bytes.len() != 4 * words.len() {
+            return Err(Unstored);
+        }
         let old = OpenOptions::new()
             .write(true)
             .open(files, self.path.as_str());

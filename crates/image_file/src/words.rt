@@ -1,6 +1,6 @@
 //! The words of a device as bytes, and bytes as words.
 
-ghost use Rattle.std.specs.Prelude.{◌≡◌, ◌≢◌, ◌↔◌, ◌*◌, Err, IfOk, IsTrue, length, replicate};
+ghost use Rattle.std.specs.Prelude.{◌≡◌, ◌≢◌, ◌↔◌, ◌*◌, Err, IfOk, length, replicate};
 ghost use Rattle.image_file.specs.Images.{image_of};
 ghost use Rattle.image_file.specs.declared.words.LoadFault.TheVariants.{Read, Size};
 
@@ -51,16 +51,10 @@ pub fn words_of(alloc: Global, bytes: &[u8], count: u32) -> Result<Vec<u32>, Loa
     Ok(words)
 }
 
-/// Puts the bytes of these words in place of those in a buffer. False where it has not four bytes for each word, and
-/// then it stays as it is.
-pub fn put_image(words: &[u32], bytes: &mut [u8]) -> bool
-    ensures fits { IsTrue result ↔ (length bytes.old ≡ 4 * length words.now) }
-    ensures image { IsTrue result → bytes.new ≡ image_of words.now }
-    ensures same { length bytes.old ≢ 4 * length words.now → bytes.new ≡ bytes.old }
+/// Puts the bytes of these words in place of those in a buffer.
+pub fn put_image(words: &[u32], bytes: &mut [u8])
+    requires { length bytes.old ≡ 4 * length words.now }
+    ensures { bytes.new ≡ image_of words.now }
 {
-    if bytes.len() != 4 * words.len() {
-        return false;
-    }
     LittleEndian::write_u32_into(words, bytes);
-    true
 }

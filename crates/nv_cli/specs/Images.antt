@@ -3,6 +3,8 @@ use Rattle.std.specs.Prelude.{ℕ, List, ◌∷◌, Option, Some, None, if◌the
 use Rattle.std.specs.Cmp.Lexicographic.{pointwise}
 use Rattle.answers.specs.declared.status.Status.{Status}
 use Rattle.answers.specs.declared.status.Status.TheVariants.{Done, WriteFault}
+use Rattle.image_file.specs.declared.words.LoadFault.{LoadFault}
+use Rattle.image_file.specs.declared.words.LoadFault.TheVariants as fault
 use Rattle.nv_cli.specs.declared.image.Unready.{Unready}
 use Rattle.nv_cli.specs.declared.image.Unready.TheVariants.{Read, Size, Write, NoMemory}
 
@@ -15,6 +17,19 @@ image_path _ = None
 abbrev pub command_part : List (List ℕ) → List (List ℕ)
 command_part (flag ∷ path ∷ words) = if pointwise nat_eq flag (codes "--image") then words else flag ∷ path ∷ words
 command_part words = words
+
+-- what a fault in reading the file is told as
+abbrev pub unloaded : LoadFault → Unready
+unloaded fault.Read = Read
+unloaded fault.Size = Size
+unloaded fault.NoMemory = NoMemory
+
+-- what want of memory is told as, and a device that could not be written back
+abbrev pub no_memory : Unready
+no_memory = NoMemory
+
+abbrev pub not_kept : Unready
+not_kept = Write
 
 -- the exit number where there is no device, or it is not kept
 abbrev pub exit_unready : Unready → ℕ

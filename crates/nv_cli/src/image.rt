@@ -3,7 +3,7 @@
 ghost use Rattle.std.specs.Prelude.{◌≡◌, map, option_map};
 ghost use Rattle.std.specs.Process.{exit_status};
 ghost use Rattle.std.specs.Rc.{rc_str_bytes};
-ghost use Rattle.nv_cli.specs.Images.{command_part, exit_unready, image_path, line_unready};
+ghost use Rattle.nv_cli.specs.Images.{command_part, exit_unready, image_path, line_unready, no_memory, not_kept, unloaded};
 
 use image_file::{LoadFault, Unstored};
 use nv_base::NoMemory;
@@ -27,12 +27,16 @@ pub enum Unready {
 }
 
 impl From<NoMemory> for Unready {
+    ghost from_gives = { λ _ why. why ≡ no_memory };
+
     fn from(_: NoMemory) -> Unready {
         Unready::NoMemory
     }
 }
 
 impl From<LoadFault> for Unready {
+    ghost from_gives = { λ fault why. why ≡ unloaded fault };
+
     fn from(fault: LoadFault) -> Unready {
         match fault {
             LoadFault::Read => Unready::Read,
@@ -43,6 +47,8 @@ impl From<LoadFault> for Unready {
 }
 
 impl From<Unstored> for Unready {
+    ghost from_gives = { λ _ why. why ≡ not_kept };
+
     fn from(_: Unstored) -> Unready {
         Unready::Write
     }

@@ -147,7 +147,9 @@ fn answer(
     rt: &HostRuntime,
     words: &Result<Vec<RcStr>, NoMemory>,
     device: &mut MemFram,
-) -> Result<Status, Unready> {
+) -> Result<Status, Unready>
+    ensures { IfErr result (λ why. why ≡ Unready.NoMemory) }
+{
     let Ok(output) = BufWriter::with_capacity(rt.alloc(), OUTPUT_BYTES, rt.stdout()) else {
         return Err(Unready::NoMemory);
     };
@@ -159,10 +161,9 @@ fn answer(
 }
 
 /// A call on a new device.
-fn on_new_device(
-    rt: &HostRuntime,
-    words: &Result<Vec<RcStr>, NoMemory>,
-) -> Result<Status, Unready> {
+fn on_new_device(rt: &HostRuntime, words: &Result<Vec<RcStr>, NoMemory>) -> Result<Status, Unready>
+    ensures { IfErr result (λ why. why ≡ Unready.NoMemory) }
+{
     let mut device = new_device(rt.alloc(), DEVICE_WORDS, DEVICE_WRITES)?;
     answer(rt, words, &mut device)
 }
