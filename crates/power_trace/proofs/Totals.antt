@@ -1,5 +1,5 @@
 -- Items one after another: how many steps, and where each starts.
-use Rattle.std.proofs.Common.{◌≡◌, ℕ, zero, suc, ◌+◌, ◌<◌, ◌≤◌, List, [], ◌∷◌, ◌++◌, map, drop, length, get_or, ap, ◌∙◌, sym, arith, append_assoc}
+use Rattle.std.proofs.Common.{◌≡◌, ℕ, zero, suc, ◌+◌, ◌<◌, ◌≤◌, List, [], ◌∷◌, ◌++◌, map, drop, length, get_or, ap, ◌∙◌, sym, arith, append_assoc, take}
 use Rattle.std.proofs.lemmas.List.{drop_more, drop_all, append-nil}
 use Rattle.std.proofs.lemmas.List.{nil_from_length}
 use Rattle.schedule_model.specs.CoreSteps.{core_steps, item_steps}
@@ -7,6 +7,7 @@ use Rattle.schedule_model.specs.Limits.{step_count, steps_together}
 use Rattle.power_trace.specs.declared.items.StepItem.{StepItem}
 use Rattle.power_trace.specs.Items.{item_of}
 use Rattle.power_trace.specs.Indexed.{starts_from}
+use Rattle.power_trace.specs.Filling.{Fills}
 
 -- the items from number i on are item i and those after it
 pub item_more : (items : List StepItem) (i : ℕ) (item : StepItem) → i < length items → item ≡ get_or items i item
@@ -55,3 +56,11 @@ next_item cores left begun items later first e h b =
     ap (λ s. s ++ core_steps cores (map item_of later)) b
     ∙ ap (λ xs. core_steps cores (map item_of xs)) (sym h)
     ∙ ap (λ s. s ++ core_steps cores (map item_of items)) (sym e)
+
+-- where nothing was filled in, nothing was left
+pub none_filled : (steps room filled left : List ℕ) (count : ℕ) → Fills steps room filled count left → count ≤ 0 → 0 < length room
+    → (steps ≡ []) × (left ≡ [])
+none_filled steps room filled left count f none some =
+    let no_count : count ≡ 0 = omega arith in
+    let gone : left ≡ [] = f.all (omega (arith, f.same)) in
+    (f.steps_are ∙ ap (λ n. take n filled ++ left) no_count ∙ gone, gone)

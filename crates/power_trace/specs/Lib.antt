@@ -3,3 +3,4 @@ pub mod ItemSteps
 pub mod Events
 pub mod Indexed
 pub mod DueTimes
+pub mod Filling

@@ -1,10 +1,10 @@
 // The core steps of a list of items, in order.
 
-ghost use Rattle.std.specs.Prelude.{◌≡◌, ◌≤◌, map};
-ghost use Rattle.std.specs.Iterator.{YieldsFirst};
+ghost use Rattle.std.specs.Prelude.{◌≡◌, ◌≤◌, ◌<◌, length, map};
 ghost use Rattle.schedule_model.specs.CoreSteps.{core_steps, item_steps};
 ghost use Rattle.power_trace.specs.Items.{item_of};
 ghost use Rattle.power_trace.specs.ItemSteps.{steps_left};
+ghost use Rattle.power_trace.specs.Filling.{Fills, FillsSome};
 
 use crate::draw::Draw;
 use crate::items::StepItem;
@@ -33,13 +33,13 @@ impl<'a> ItemSteps<'a> {
         }
     }
 
-    #[inline(always)]
-    fn next_core(&mut self) -> Option<u8>
-        ensures { YieldsFirst steps_left self.old result self.new }
+    /// The first steps, as many as there is room for. How many.
+    fn fill(&mut self, room: &mut [u8]) -> usize
+        ensures { Fills (steps_left self.old) room.old room.new result (steps_left self.new) }
     {
         match self {
-            ItemSteps::Steps(sequence) => sequence.next_core(),
-            ItemSteps::Mix(draw) => draw.next_core(),
+            ItemSteps::Steps(sequence) => sequence.fill(room),
+            ItemSteps::Mix(draw) => draw.fill(room),
         }
     }
 }
@@ -80,16 +80,19 @@ impl<'a> CoreSteps<'a> {
         }
     }
 
-    /// The core of the next step.
-    #[inline(always)]
-    pub(crate) fn next_core(&mut self) -> Option<u8>
-        ensures { YieldsFirst (λ cores. cores) self.old result self.new }
+    /// The first steps, at least one if there is one, and at most as many as there is room for. How many.
+    pub(crate) fn fill(&mut self, room: &mut [u8]) -> usize
+        requires { 0 < length room.old }
+        ensures { FillsSome self.old room.old room.new result self.new }
     {
         'items: loop {
-            if let Some(core) = self.item.next_core() {
-                return Some(core);
+            let count = self.item.fill(room);
+            if count > 0 {
+                return count;
             }
-            let (first, later) = self.items.split_first()?;
+            let Some((first, later)) = self.items.split_first() else {
+                return 0;
+            };
             self.item = ItemSteps::new(first, self.cores);
             self.items = later;
         }

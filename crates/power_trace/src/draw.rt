@@ -3,6 +3,7 @@
 ghost use Rattle.std.specs.Prelude.{◌≡◌, ℕ, ◌<◌, ◌≤◌, map, slice_get, Some};
 ghost use Rattle.std.specs.Iterator.{YieldsFirst};
 ghost use Rattle.schedule_model.specs.CoreSteps.{core_of_word, generator_of, words};
+ghost use Rattle.power_trace.specs.Filling.{Fills};
 
 use rand_core::utils::NextWord;
 use rand_pcg::Lcg64Xsh32;
@@ -52,8 +53,24 @@ impl Draw {
         }
     }
 
-    /// The core of the next step: one step of the generator.
-    pub(crate) fn next_core(&mut self) -> Option<u8>
+    /// The first steps, as many as there is room for. How many.
+    pub(crate) fn fill(&mut self, room: &mut [u8]) -> usize
+        ensures { Fills self.old room.old room.new result self.new }
+    {
+        let mut count = 0;
+        while count < room.len() {
+            let Some(core) = self.next_core() else {
+                return count;
+            };
+            room[count] = core;
+            count += 1;
+        }
+        count
+    }
+
+    // The core of the next step: one step of the generator.
+    #[inline(always)]
+    fn next_core(&mut self) -> Option<u8>
         ensures { YieldsFirst (λ cores. cores) self.old result self.new }
     {
         if self.count == 0 {

@@ -2,12 +2,14 @@
 //! and all of them in order, with no list of events.
 #![tactic(auto)]
 
+mod ahead;
 mod core_steps;
 mod draw;
 mod event;
 mod events;
 mod index;
 mod items;
+mod remaining;
 mod schedule;
 mod sequence;
 

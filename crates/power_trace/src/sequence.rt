@@ -3,6 +3,7 @@
 ghost use Rattle.std.specs.Prelude.{◌≡◌, ℕ, ◌*◌, ◌<◌, length, slice_get, Some};
 ghost use Rattle.std.specs.Iterator.{YieldsFirst};
 ghost use Rattle.schedule_model.specs.CoreSteps.{repeated};
+ghost use Rattle.power_trace.specs.Filling.{Fills};
 
 use std::marker::Model;
 
@@ -46,9 +47,24 @@ impl<'a> Sequence<'a> {
         }
     }
 
-    /// The core of the next step.
+    /// The first steps, as many as there is room for. How many.
+    pub(crate) fn fill(&mut self, room: &mut [u8]) -> usize
+        ensures { Fills self.old room.old room.new result self.new }
+    {
+        let mut count = 0;
+        while count < room.len() {
+            let Some(core) = self.next_core() else {
+                return count;
+            };
+            room[count] = core;
+            count += 1;
+        }
+        count
+    }
+
+    // The core of the next step.
     #[inline(always)]
-    pub(crate) fn next_core(&mut self) -> Option<u8>
+    fn next_core(&mut self) -> Option<u8>
         ensures { YieldsFirst (λ cores. cores) self.old result self.new }
     {
         if let Some((core, rest)) = self.rest.split_first() {
