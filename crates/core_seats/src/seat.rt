@@ -4,6 +4,8 @@ ghost use Rattle.std.specs.Prelude.{◌≡◌, ◌<◌, ◌≤◌, ℕ, IfOk, Is
 ghost use Rattle.std.specs.Option.{option_map};
 ghost use Rattle.std.specs.List.{list_any};
 ghost use Rattle.object_sets.specs.ObjectSets.{is_among};
+ghost use Rattle.rv_core.specs.State.{MachineState, Next};
+ghost use Rattle.rv_core.specs.Machine.{step_of};
 ghost use Rattle.set_model.specs.Sets.{TaskSet};
 ghost use Rattle.set_model.specs.Views.{task_of};
 ghost use Rattle.device_model.specs.IndexWords.{Index};
@@ -111,6 +113,9 @@ impl Seat {
     #[inline(always)]
     pub fn go(&mut self) -> bool
         ensures rests { result ≡ false → self.new ≡ self.old }
+        ensures stops { result ≡ false → self.old.saving ≡ None
+            → self.old.attempt.stage ≡ Stage.Running
+            → (s : MachineState) → step_of self.old.attempt.machine ≡ Next s → ⊥ }
         ensures running { IsTrue result → self.old.attempt.stage ≡ Stage.Running }
         ensures trying { IsTrue result → self.old.saving ≡ None }
         ensures kept { (set : TaskSet) → IsFor set self.old.attempt → IsFor set self.new.attempt }

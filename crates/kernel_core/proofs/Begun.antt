@@ -77,7 +77,7 @@ none_saves (t ∷ held) (suc n) (suc m) e ne = none_saves held n m (both_false (
 -- ---- the kernel in which the commit has begun
 
 abbrev pub begun : Kernel → ℕ → own.Seat → State → Writer → Kernel
-begun k n s after w = record (seated k n s) { committed = record k.committed { after = after }; writer = w }
+begun k n s after w = record (seated k n s) { committed = record k.committed { after = after }; writer = w; saver = n }
 
 -- the writer has all writes of the commit before it
 writes_all : (k : Kernel) (words : Words) (t : Tables MachineState) (n : ℕ) (plan : Plan) (s new : own.Seat) (after : State) (w : Writer) → Keeps k words t → IsReady k n → (d : IsGrantedAt k words t n plan s)

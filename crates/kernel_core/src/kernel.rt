@@ -29,6 +29,10 @@ pub struct Kernel {
     pub(crate) seats: Vec<Seat>,
     pub(crate) committed: Committed,
     pub(crate) writer: Writer,
+
+    // whose commit began last: a hint, where to look first for one that goes on
+    pub(crate) saver: usize,
+
     pub(crate) power: Power,
 
     // a finish that a failure hid

@@ -172,6 +172,7 @@ impl Kernel {
             seats,
             committed,
             writer,
+            saver: 0,
             power: Power::On,
             owed: None,
             listing,

@@ -8,7 +8,7 @@ ghost use Rattle.schedule_model.specs.Parts.{IsOfCores};
 ghost use Rattle.power_trace.specs.Events.{event_of};
 ghost use Rattle.table_machine.specs.Tables.{Tables};
 ghost use Rattle.task_queue.specs.Queues.{next_ready};
-ghost use Rattle.core_seats.specs.Others.{tasks_in};
+ghost use Rattle.core_seats.specs.Others.{saves_in, tasks_in};
 ghost use Rattle.kernel_core.specs.Events.{PassesEvent, Stands};
 ghost use Rattle.kernel_core.specs.Keeping.{IsLawful, Keeps};
 ghost use Rattle.kernel_core.specs.Steps.{KeepsSet, Passes};
@@ -78,8 +78,19 @@ impl Kernel {
         }
         match seat.attempt.doing() {
             Doing::Nothing => !self.has_ready(),
-            Doing::Waits => is_saving(&self.seats),
+            Doing::Waits => self.is_saving(),
             _ => false,
+        }
+    }
+
+    // Whether a finish commits: most often the one that began last.
+    #[inline(always)]
+    fn is_saving(&self) -> bool
+        ensures { result ≡ saves_in self.now.seats.items }
+    {
+        match self.seats.get(self.saver) {
+            Some(seat) if seat.saving.is_some() => true,
+            _ => is_saving(&self.seats),
         }
     }
 

@@ -104,7 +104,8 @@ impl Kernel {
         ensures rest { KeepsSet self.old self.new }
         ensures live { self.new.lost ≡ self.old.lost }
     {
-        let seat = &mut self.seats[usize::from(core.0)];
+        let number = usize::from(core.0);
+        let seat = &mut self.seats[number];
         let committed = &mut self.committed;
         let spawns = seat.attempt.spawns();
         finish_into(
@@ -117,5 +118,6 @@ impl Kernel {
         self.writer
             .begin(&self.set, plan, &committed.state, &committed.after);
         seat.grant(plan.granted);
+        self.saver = number;
     }
 }

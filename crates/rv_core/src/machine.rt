@@ -4,7 +4,7 @@ ghost use Rattle.std.specs.Prelude.{◌≡◌, ◌+◌, ◌*◌, ◌/◌, ◌^�
 ghost use Rattle.std.specs.Result.{result_err};
 ghost use Rattle.rv_isa.specs.Ranges.{IsInstr};
 ghost use Rattle.rv_core.specs.Bytes.{put_word, words_at};
-ghost use Rattle.rv_core.specs.State.{Next};
+ghost use Rattle.rv_core.specs.State.{MachineState, Next};
 ghost use Rattle.std.specs.Int.{cast_unsigned, w32};
 ghost use Rattle.rv_core.specs.Decoded.{meant};
 ghost use Rattle.rv_core.specs.Operations.{computed, register, with_immediate, with_register, sum_of, store_size, put_at};
@@ -167,6 +167,7 @@ impl Machine {
     pub fn go(&mut self) -> bool
         ensures went { IsTrue result → step_of self.old ≡ Next self.new }
         ensures rests { result ≡ false → self.new ≡ self.old }
+        ensures stops { result ≡ false → (s : MachineState) → step_of self.old ≡ Next s → ⊥ }
         ensures fuel { self.new.fuel ≡ self.old.fuel }
         ensures room { length self.new.memory ≡ length self.old.memory }
         ensures limit { length self.new.memory ≤ MAX_MEMORY }

@@ -1,7 +1,8 @@
 //! One turn of an attempt that runs.
 
 ghost use Rattle.std.specs.Prelude.{◌≡◌, ◌≤◌, ◌+◌, IsTrue, [], Some, false, length};
-ghost use Rattle.rv_core.specs.Machine.{service_of};
+ghost use Rattle.rv_core.specs.State.{MachineState, Next};
+ghost use Rattle.rv_core.specs.Machine.{service_of, step_of};
 ghost use Rattle.rv_core.specs.declared.services.Service.{Service};
 ghost use Rattle.set_model.specs.Sets.{TaskSet};
 ghost use Rattle.vol_copy.specs.Tries.{IsFor};
@@ -48,6 +49,8 @@ impl Attempt {
     #[inline(always)]
     pub fn go(&mut self) -> bool
         ensures rests { result ≡ false → self.new ≡ self.old }
+        ensures stops { result ≡ false → self.old.stage ≡ Stage.Running
+            → (s : MachineState) → step_of self.old.machine ≡ Next s → ⊥ }
         ensures running { IsTrue result → (self.old.stage ≡ Stage.Running)
             × (self.new.stage ≡ Stage.Running) }
         ensures kept { (set : TaskSet) → IsFor set self.old → IsFor set self.new }

@@ -16,4 +16,4 @@ returns-in-Waits c = λ yes.
     let k = c.args.self.now in
     let n = c.args.core.0 in
     let g = stands_on k n c.from.result c.index-seat.result.now c.requires.on c.requires.core c.requires.lawful.2.cores c.from.ensures c.index-seat.ensures (sym (none_there c.index-seat.result.now.saving (sym c.if-is_some.ensures))) in
-    try_passes k k n g (waits k n c.index-seat.result.now g refl c.in-Waits.ensures (ap saves_in (sym c.deref.ensures.value) ∙ sym c.is_saving.ensures ∙ yes))
+    try_passes k k n g (waits k n c.index-seat.result.now g refl c.in-Waits.ensures (sym c.is_saving.ensures ∙ yes))
