@@ -8,6 +8,7 @@ ghost use Rattle.power_trace.specs.Filling.{Fills};
 use rand_core::utils::NextWord;
 use rand_pcg::Lcg64Xsh32;
 use std::marker::Model;
+use std::mem::replace;
 
 /// Step n of those that a seed draws: a jump ahead, and one word.
 pub(crate) fn drawn_core(seed: u32, cores: u8, n: u32) -> u8
@@ -57,14 +58,17 @@ impl Draw {
     pub(crate) fn fill(&mut self, room: &mut [u8]) -> usize
         ensures { Fills self.old room.old room.new result self.new }
     {
+        // what is not lent stays in registers
+        let mut left = replace(self, Draw::new(0, 1, 0));
         let mut count = 0;
         while count < room.len() {
-            let Some(core) = self.next_core() else {
-                return count;
+            let Some(core) = left.next_core() else {
+                break;
             };
             room[count] = core;
             count += 1;
         }
+        *self = left;
         count
     }
 

@@ -51,15 +51,29 @@ impl<'a> Sequence<'a> {
     pub(crate) fn fill(&mut self, room: &mut [u8]) -> usize
         ensures { Fills self.old room.old room.new result self.new }
     {
+        // what is not lent stays in registers
+        let mut left = self.copy();
         let mut count = 0;
         while count < room.len() {
-            let Some(core) = self.next_core() else {
-                return count;
+            let Some(core) = left.next_core() else {
+                break;
             };
             room[count] = core;
             count += 1;
         }
+        *self = left;
         count
+    }
+
+    #[inline(always)]
+    fn copy(&self) -> Sequence<'a>
+        ensures { result ≡ self.now }
+    {
+        Sequence {
+            rest: self.rest,
+            order: self.order,
+            times: self.times,
+        }
     }
 
     // The core of the next step.

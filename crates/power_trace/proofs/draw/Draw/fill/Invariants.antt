@@ -5,7 +5,7 @@ abbrev pub invariant-loop-count : goal.invariant-loop-count
 invariant-loop-count l = record {
   same : length l.room ≡ length l.initial.room;
   inside : l.count ≤ length l.room;
-  steps_are : l.initial.self ≡ take l.count l.room ++ l.self;
+  steps_are : l.fn.self ≡ take l.count l.room ++ l.left;
 }
 
 abbrev pub decreases-loop-count : goal.decreases-loop-count
