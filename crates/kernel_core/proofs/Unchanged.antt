@@ -10,7 +10,7 @@ use Rattle.nv_base.specs.declared.lines.TaskRec as base
 use Rattle.nv_base.specs.declared.lines.Line.TheVariants.{Nothing}
 use Rattle.kernel_model.specs.Replay.{TaskRec}
 use Rattle.set_model.specs.Views.{task_of}
-use Rattle.device_model.specs.Words.{Words}
+use Rattle.device_model.specs.Words.{Change, Words}
 use Rattle.recovery.specs.declared.boot.Boot.{Boot}
 use Rattle.power_trace.specs.declared.event.Event.TheVariants as event
 use Rattle.nv_base.specs.declared.ids.CoreId.{CoreId}
@@ -25,7 +25,7 @@ use Rattle.core_seats.specs.declared.seat.Seat as own
 use Rattle.core_seats.specs.Steps.{RunsOn}
 use Rattle.vol_copy.specs.Tries.{IsFor}
 use Rattle.core_seats.specs.Others.{listed_if, saves_in, task_in, tasks_in, with_task}
-use Rattle.kernel_core.specs.Events.{PassesEvent}
+use Rattle.kernel_core.specs.Events.{SimulatesEvent}
 use Rattle.kernel_core.specs.Steps.{KeepsSet, Passes}
 use Rattle.kernel_core.specs.Turns.{IsAtStage, SeatPasses}
 use Rattle.kernel_core.specs.declared.kernel.Kernel.{Kernel}
@@ -152,8 +152,8 @@ other_passes k n b off other = λ words. record {
 
 -- ---- the event
 
-pub core_passes : (old new : Kernel) (core : CoreId) → KeepsSet old new → length old.listing.items < old.room → Passes old core.0 new → PassesEvent old (event.Core core) new
-unfolding Passes PassesEvent
-core_passes old new core same few passes = λ words log.
+pub core_passes : (old new : Kernel) (core : CoreId) (words : Words) (log : List Change) → KeepsSet old new → length old.listing.items < old.room → Passes old core.0 new → SimulatesEvent old (event.Core core) words log new words log Nothing
+unfolding Passes
+core_passes old new core words log same few passes =
     let p = passes words in
     core_turns old new core words words log log Nothing same few p.steps (p.written log) p.image

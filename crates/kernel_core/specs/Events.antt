@@ -2,7 +2,6 @@
 use Rattle.std.specs.Prelude.{◌≡◌, ◌⊎◌, ◌+◌, ◌<◌, ◌≤◌, List, length}
 use Rattle.rv_core.specs.State.{MachineState}
 use Rattle.nv_base.specs.declared.lines.Line.{Line}
-use Rattle.nv_base.specs.declared.lines.Line.TheVariants.{Nothing}
 use Rattle.kernel_model.specs.Events.{State, event_step}
 use Rattle.kernel_model.specs.Durable.{event_writes}
 use Rattle.kernel_model.specs.Fit.{HasIds}
@@ -49,10 +48,6 @@ pub record IsEvent (o : Origin) (s : State MachineState) (e : Event) (new : Kern
 unfoldable pub SimulatesEvent : (old : Kernel) (e : Event) (words : Words) (log : List Change) (new : Kernel) (later : Words) (grown : List Change) (line : Line) → Type 0
 SimulatesEvent old e words log new later grown line =
     (o : Origin) (s : State MachineState) → IsAt o old words s → IsEvent o s e new later log grown line
-
--- it writes nothing, and tells nothing, whatever the device holds
-unfoldable pub PassesEvent : (old : Kernel) (e : Event) (new : Kernel) → Type 0
-PassesEvent old e new = (words : Words) (log : List Change) → SimulatesEvent old e words log new words log Nothing
 
 -- a call was lost: the event's writes are made and the words hold what is durable after it, or none is made and they hold what was durable before
 abbrev pub IsCutAt : (o : Origin) (s : State MachineState) (e : Event) (later : Words) (log grown : List Change) → Type 0

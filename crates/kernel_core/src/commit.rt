@@ -31,6 +31,7 @@ impl Kernel {
         ensures turns { let words = words_of (F.log dev.old) (F.start dev.old) in
             let later = words_of (F.log dev.new) (F.start dev.new) in
             IfOk result (CoreTurns self.old core.0 self.new words later) }
+        ensures tells { IfOk result (λ line. line ≡ Line.Nothing) }
         ensures written { let words = words_of (F.log dev.old) (F.start dev.old) in
             let later = words_of (F.log dev.new) (F.start dev.new) in
             OnOk result (CoreWrites self.old core.0 words later (F.log dev.old) (F.log dev.new)) }

@@ -9,6 +9,7 @@ pub mod laws;
 mod open;
 mod passing;
 mod power;
+mod quiet;
 mod running;
 mod start;
 mod told;

@@ -1,15 +1,19 @@
-//! An event that leaves the device alone and tells nothing, where a few looks show that it is one.
+//! An event that tells nothing, where a few looks show that it is one.
 
-ghost use Rattle.std.specs.Prelude.{◌≡◌, ◌<◌, IsTrue, is_some, length, not, false};
+ghost use Rattle.std.specs.Prelude.{◌≡◌, ◌<◌, ◌≤◌, IsTrue, OnErr, OnOk, Ok, is_some, length, not, false, true};
 ghost use Rattle.std.specs.List.{list_any};
+ghost use Rattle.nv_base.specs.Streams.{FaultCounted};
+ghost use Rattle.nv_base.specs.declared.lines.Line.TheVariants.{Nothing};
 ghost use Rattle.rv_core.specs.State.{MachineState};
 ghost use Rattle.device_model.specs.Words.{Words};
+ghost use Rattle.device_model.specs.Devices.{need_on};
+ghost use Rattle.recovery.specs.Images.{device_at, words_of};
 ghost use Rattle.schedule_model.specs.Parts.{IsOfCores};
 ghost use Rattle.power_trace.specs.Events.{event_of};
 ghost use Rattle.table_machine.specs.Tables.{Tables};
 ghost use Rattle.task_queue.specs.Queues.{next_ready};
 ghost use Rattle.core_seats.specs.Others.{saves_in, tasks_in};
-ghost use Rattle.kernel_core.specs.Events.{PassesEvent, Stands};
+ghost use Rattle.kernel_core.specs.Events.{CutsEvent, SimulatesEvent, Stands};
 ghost use Rattle.kernel_core.specs.Keeping.{IsLawful, Keeps};
 ghost use Rattle.kernel_core.specs.Steps.{KeepsSet, Passes};
 ghost use Rattle.kernel_core.specs.Turns.{is_on};
@@ -18,27 +22,52 @@ ghost use Rattle.kernel_core.specs.declared.kernel.Power.TheVariants.{On};
 use crate::kernel::{Kernel, Power};
 use core_seats::laws::held_tasks_are_not_ready;
 use core_seats::{Seat, is_saving};
+use fram_dev::{Fram, Lost};
 use nv_base::{CoreId, TaskId, TaskRec};
 use power_trace::Event;
 use vol_copy::Doing;
 
 impl Kernel {
-    /// Takes an event that neither reads nor writes the device and tells nothing, where a few looks show that it is one:
-    /// a step of a machine, or of a core that has nothing to do, or that waits. Whether it was taken: if not, nothing has
-    /// changed, and the event is a `turn`.
+    /// Takes an event that tells nothing, where a few looks show that it is one: a step of a machine, or of a core that has
+    /// nothing to do, or that waits, a write of a commit, a word that a boot reads. Whether it was taken: if not, nothing
+    /// has changed, and the event is a `turn`. `Lost` as of `turn`.
     #[inline(always)]
-    pub fn pass(&mut self, event: Event) -> bool
-        requires at { (words : Words) × Stands self.old words }
+    pub fn pass<F: Fram>(&mut self, dev: &mut F, event: Event) -> Result<bool, Lost>
+        requires at { Stands self.old (words_of (F.log dev.old) (F.start dev.old)) }
         requires core { IsOfCores self.old.set.cores (event_of event) }
         requires few { length self.old.listing.items < self.old.room }
-        ensures passes { IsTrue result → PassesEvent self.old event self.new }
-        ensures kept { result ≡ false → self.new ≡ self.old }
+        requires room { let words = words_of (F.log dev.old) (F.start dev.old) in
+            need_on (device_at self.old.set words) ≤ length (F.start dev.old) }
+        requires boots { words_of (F.log dev.old) (F.start dev.old) 2 < 4294967295 }
+        requires live { self.old.lost ≡ false }
+        ensures simulates { let words = words_of (F.log dev.old) (F.start dev.old) in
+            let later = words_of (F.log dev.new) (F.start dev.new) in result ≡ Ok true
+            → SimulatesEvent self.old event words (F.log dev.old) self.new later (F.log dev.new)
+            Nothing }
+        ensures kept { result ≡ Ok false → (self.new ≡ self.old) × (dev.new ≡ dev.old) }
+        ensures cut { let words = words_of (F.log dev.old) (F.start dev.old) in
+            let later = words_of (F.log dev.new) (F.start dev.new) in
+            OnErr result
+            (CutsEvent self.old event words (F.log dev.old) later (F.log dev.new)) }
         ensures rest { KeepsSet self.old self.new }
-        ensures live { self.new.lost ≡ self.old.lost }
+        ensures live { OnOk result (self.new.lost ≡ false) }
+        ensures lost { OnErr result (self.new.lost ≡ true) }
+        ensures failed { OnErr result (FaultCounted (F.lost dev.old) (F.lost dev.new)) }
+        ensures start { F.start dev.new ≡ F.start dev.old }
+        ensures never_falls { F.lost dev.old ≤ F.lost dev.new }
     {
-        match event {
-            Event::Fail => false,
-            Event::Core(core) => self.pass_step(core),
+        let Event::Core(core) = event else {
+            return Ok(false);
+        };
+        if self.pass_step(core) {
+            return Ok(true);
+        }
+        match self.pass_on_device(dev, core) {
+            Ok(taken) => Ok(taken),
+            Err(lost) => {
+                self.lost = true;
+                Err(lost)
+            }
         }
     }
 

@@ -1,6 +1,7 @@
 //! A boot in its turns: each of them reads one word, and the last one counts the boot.
 
-ghost use Rattle.std.specs.Prelude.{◌≡◌, ◌+◌, ◌<◌, ◌≤◌, ◌++◌, ◌⊎◌, IfErr, OnErr, OnOk, length};
+ghost use Rattle.std.specs.Prelude.{◌≡◌, ◌+◌, ◌<◌, ◌≤◌, ◌++◌, ◌⊎◌, IfErr, OnErr, OnOk, false, length, true};
+ghost use Rattle.set_model.specs.Sets.{TaskSet as Set};
 ghost use Rattle.device_model.specs.Words.{Words};
 ghost use Rattle.device_model.specs.Layouts.{boot_turns_of, reads};
 ghost use Rattle.device_model.specs.Journals.{boot_writes};
@@ -33,6 +34,28 @@ impl Boot {
         Boot {
             reader: Reader::begin(set),
         }
+    }
+
+    /// Whether the next turn reads a word: else it is the last one.
+    #[inline(always)]
+    pub fn reads(&self) -> bool
+        requires { (set : Set) × (words : Words) × (into : State)
+            × IsBooting set words self.now into }
+        ensures more { (set : Set) (words : Words) (into : State) → IsBooting set words self.now into
+            → result ≡ true
+            → turns_of self.now + 1 < boot_turns_of (layout_on (device_at set words)) }
+        ensures last { (set : Set) (words : Words) (into : State) → IsBooting set words self.now into
+            → result ≡ false
+            → turns_of self.now + 1 ≡ boot_turns_of (layout_on (device_at set words)) }
+    {
+        if self.reader.count == 0 {
+            return true;
+        }
+        let turn = self.reader.count + 1;
+        if turn < self.reader.layout.boot_turns() {
+            return true;
+        }
+        false
     }
 
     /// One turn: `More` where a word was read and taken, `Done` where all had been, and the boot is counted now: this is

@@ -63,8 +63,11 @@ fn put_events<K: Sink, F: Fram>(
         let Some(event) = events.next() else {
             unreachable!();
         };
-        // most events only step a machine, or find nothing to do
-        if kernel.pass(event) {
+        // most events tell nothing
+        let Ok(taken) = kernel.pass(dev, event) else {
+            return Err(Halt::DeviceLost);
+        };
+        if taken {
             continue;
         }
         let Ok(line) = kernel.turn(dev, event) else {
