@@ -136,11 +136,55 @@ goes_on o events n k j first now later e l p q r at durable follows g is turns s
 pub same_goes : (o : Origin) (events : List Event) (n : ℕ) (k j : Kernel) (first now same : Store) (p q : Stream) → j ≡ k → same ≡ now → Goes o events n k first now p q → Goes o events n j first same p q
 same_goes o events n k j first now same p q e f g = subst (λ (x : Kernel). Goes o events n x first same p q) (sym e) (subst (λ (s : Store). Goes o events n k first s p q) (sym f) g)
 
+-- an event that leaves the device alone, and tells nothing
 pub passes_on : (o : Origin) (events : List Event) (n : ℕ) (k j : Kernel) (first now later : Store) (e : own.Event) (p q : Stream) → DurableLaw → MoreLaw → Goes o events n k first now p q → slice_get events n ≡ Some (event_of e)
     → SimulatesEvent k e (words_in now) now.log j (words_in later) later.log own_line.Nothing → later.start ≡ now.start → now.losses ≤ later.losses → KeepsSet k j → j.lost ≡ false → Goes o events (n + 1) j first later p q
 passes_on o events n k j first now later e p q durable follows g is turns same grows kept live =
     goes_on o events n k j first now later e own_line.Nothing p q q o.device.set durable follows g is turns same grows kept live refl (puts_nothing q)
 
+-- ---- the report is the lines of all events, and then what comes after them
+
+whole_report : (o : Origin) (events : List Event) → report_text o events ≡ lines_text o.device.set (event_lines o events) ++ tail_text o (after o events)
+whole_report o events =
+    let set = o.device.set in
+    let found : List Line = found_lines (unprinted (after o events)) in
+    let read : List ℕ = end_part set (state_read o events) (after o events).boots in
+    ap (λ (t : List ℕ). t ++ read) (flat_map-append (line_text set) (event_lines o events) found) ∙ append_assoc (lines_text set (event_lines o events)) (lines_text set found) read
+
+-- so it begins with those of the first n
+pub split_report : (o : Origin) (events : List Event) (n : ℕ) → (rest : List ℕ) × (report_text o events ≡ first_lines_text o events n ++ rest)
+split_report o events n =
+    let set = o.device.set in
+    let more : List Line = lines_of (world_from o) (after o (take n events)) (drop n events) in
+    let tail : List ℕ = tail_text o (after o events) in
+    let lines : event_lines o events ≡ event_lines o (take n events) ++ more = ap (event_lines o) (sym (take-append-drop n events)) ∙ lines_of-append (world_from o) (take n events) (drop n events) (first_state o) in (
+      lines_text set more ++ tail,
+      whole_report o events
+          ∙ ap (λ (l : List Line). lines_text set l ++ tail) lines
+          ∙ ap (λ (t : List ℕ). t ++ tail) (flat_map-append (line_text set) (event_lines o (take n events)) more)
+          ∙ append_assoc (first_lines_text o events n) (lines_text set more) tail,
+    )
+
+-- all of it, behind the lines of all events
+pub ended_report : (o : Origin) (events : List Event) → report_text o events ≡ first_lines_text o events (length events) ++ tail_text o (after o (take (length events) events))
+ended_report o events = subst (λ (x : List Event). report_text o events ≡ lines_text o.device.set (event_lines o x) ++ tail_text o (after o x)) (sym (take_all (length events) events (omega arith))) (whole_report o events)
+
+-- ---- a run that stops at an event
+
+-- the sink failed on its line
+pub line_cut : (o : Origin) (events : List Event) (n : ℕ) (k j : Kernel) (first now later : Store) (e : own.Event) (l : base.Line) (p q r : Stream) (at : TaskSet) → DurableLaw → MoreLaw → Goes o events n k first now p q → slice_get events n ≡ Some (event_of e)
+    → SimulatesEvent k e (words_in now) now.log j (words_in later) later.log l → later.start ≡ now.start → at ≡ o.device.set → PutsFront (line_text at (line_of l)) q r → PutsFront (report_text o events) p r
+line_cut o events n k j first now later e l p q r at durable follows g is turns same set put =
+    let t = leads_to o events n k j first now later e l p q durable follows g is turns same in
+    let rest = split_report o events (n + 1) in
+    front_later p q r (first_lines_text o events n) (line_text o.device.set (line_of l)) rest.0 (report_text o events) (rest.1 ∙ ap (λ (x : List ℕ). x ++ rest.0) t.text) g.puts (subst (λ (x : TaskSet). PutsFront (line_text x (line_of l)) q r) set put)
+
+pub line_done : (o : Origin) (events : List Event) (n : ℕ) (k j : Kernel) (first now later : Store) (e : own.Event) (l : base.Line) (p q : Stream) → DurableLaw → MoreLaw → Goes o events n k first now p q → slice_get events n ≡ Some (event_of e) → n < length events
+    → SimulatesEvent k e (words_in now) now.log j (words_in later) later.log l → later.start ≡ now.start → HasDone o events first later
+line_done o events n k j first now later e l p q durable follows g is less turns same =
+    let t = leads_to o events n k j first now later e l p q durable follows g is turns same in (n + 1, omega (arith, less), t.images)
+
+-- the device lost its call
 pub call_lost : (o : Origin) (events : List Event) (n : ℕ) (k : Kernel) (first now : Store) (p q : Stream) (lost : ℕ) → Goes o events n k first now p q → FaultCounted first.losses lost → FaultCounted first.losses lost × PutsStart (report_text o events) p q
 call_lost o events n k first now p q lost g f =
     let rest = split_report o events n in

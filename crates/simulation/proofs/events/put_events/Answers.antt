@@ -25,7 +25,7 @@ pub pass-requires-clause-at : goal.pass-requires-clause-at
 pass-requires-clause-at g c =
     let b = c.requires.begins in
     let goes = c.loop.invariant.goes b.0 b.1 in
-    (words_in (store g.F.Fram.start g.F.Fram.log g.F.Fram.lost c.loop.dev), (b.0, _, goes.at))
+    (b.0, _, goes.at)
 
 pub pass-requires-clause-core : goal.pass-requires-clause-core
 pass-requires-clause-core g c =
