@@ -1,1 +1,7 @@
+pub mod EventLines
+pub mod EventsRead
+pub mod Numbers
 pub mod SetFacts
+pub mod Shapes
+pub mod Values
+pub mod WordRuns

@@ -1,2 +1,6 @@
+pub mod Ends
+pub mod Fields
+pub mod LineReading
 pub mod Named
+pub mod Readings
 pub mod Views

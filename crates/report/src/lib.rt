@@ -1,10 +1,14 @@
 //! The lines of a report, each in a buffer that is made once, and what a report tells.
 #![tactic(auto)]
 
+mod events;
+mod fields;
 mod line_buf;
 mod lines;
 mod pieces;
+mod reader;
 mod report;
+mod state_lines;
 
 pub use line_buf::LineBuf;
 pub use report::{Listing, Report, ReportRefusal, Tasks};
