@@ -133,7 +133,7 @@ space_at (b ∷ token) rest ink opens =
 cut_back : (token rest : List ℕ) → list_all is_ink token ≡ true → Opens rest → cut (token ++ rest) ≡ (token, rest)
 cut_back token rest ink opens = rw (space_at token rest ink opens, take-append_seam token rest, drop-append_seam token rest) refl
 
-behind_back : (front rest : List ℕ) → behind front (front ++ rest) ≡ Some rest
+pub behind_back : (front rest : List ℕ) → behind front (front ++ rest) ≡ Some rest
 behind_back front rest = rw (take-append_seam front rest, drop-append_seam front rest, same front) refl
 
 -- each but the first has a space before its value
@@ -168,7 +168,7 @@ module _ (set : TaskSet) (named : IsNamed set) (few : set.cores ≤ 8) where
       ∙ ap (λ (p : List ℕ × List ℕ). with_rest p.1 (value_of set kind p.0)) (cut_back (value_text set kind v) rest (value_ink kind v h) opens)
       ∙ ap (with_rest rest) (value_back set named few kind v h)
 
-  rest_back : (shape : Shape) (values : List ℕ) → is_spaced shape ≡ true → AreOf set shape values → values_in set shape (shape_text set shape values) ≡ Some values
+  pub rest_back : (shape : Shape) (values : List ℕ) → is_spaced shape ≡ true → AreOf set shape values → values_in set shape (shape_text set shape values) ≡ Some values
   rest_back [] [] spaced h = refl
   rest_back [] (v ∷ values) spaced h = absurd h
   rest_back (f ∷ shape) [] spaced h = absurd h
