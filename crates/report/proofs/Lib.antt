@@ -4,5 +4,6 @@ pub mod Numbers
 pub mod SetFacts
 pub mod Shapes
 pub mod StateRead
+pub mod TakenEvents
 pub mod Values
 pub mod WordRuns

@@ -1,7 +1,7 @@
 -- The lines that tell the state at the end of a report are read as that state.
 use Rattle.std.proofs.Common.{◌≡◌, ℕ, zero, suc, ◌+◌, ◌≤◌, ◌<◌, ◌^◌, ◌&&◌, Bool, true, false, cond, List, [], ◌∷◌, ◌++◌, codes, get_or, Option, Some, None, option_map, nat_eq, map, length, refl, sym, ap, ap₂, ◌∙◌, subst, append_assoc, append-nil, arith, ltb, length-append, add_assoc}
 use Rattle.std.specs.Option.{option_or, option_and_then}
-use Rattle.std.specs.List.{AllByRecursion, list_all}
+use Rattle.std.specs.List.{AllByRecursion}
 use Rattle.std.proofs.lemmas.Bool.{lt-ltb, le-ltb}
 use Rattle.std.proofs.lemmas.List.{length-map}
 use Rattle.kernel_model.specs.Effects.{Objects}
@@ -14,7 +14,7 @@ use Rattle.report_text.specs.Reports.{Report, AreTold, IsToldTask}
 use Rattle.report.specs.declared.reader.Place.TheVariants.{State, Done}
 use Rattle.report.specs.Fields.{Kind, Number, Program, Shape, values_in, behind}
 use Rattle.report.specs.LineReading.{end_shape, words_shape, object_in, open_shape, open_task}
-use Rattle.report.specs.Readings.{Reading, after_line, after_lines, after_end, is_last, next_task, after_object}
+use Rattle.report.specs.Readings.{Reading, after_line, after_lines, after_end, is_above, next_task, after_object}
 use Rattle.report.proofs.Values.{IsOf, no_object}
 use Rattle.report.proofs.Shapes.{AreOf, shape_text, values_back, rest_back, behind_back, is_spaced}
 use Rattle.report.proofs.EventsRead.{among_events, lines_then}
@@ -99,7 +99,7 @@ module _ (set : TaskSet) (named : IsNamed set) (few : set.cores ≤ 8) where
 
   -- ---- open tasks
 
-  task_step : (n : ℕ) (p : Report) (t : TaskRec) → length p.state.objects ≡ length set.objects → IsToldTask set t → is_last p.state.tasks t ≡ true
+  task_step : (n : ℕ) (p : Report) (t : TaskRec) → length p.state.objects ≡ length set.objects → IsToldTask set t → is_above p.state.tasks t.id ≡ true
       → after_line set (in_state n p) (open_line set t) ≡ Some (in_state (n + 1) (with_tasks p (p.state.tasks ++ t ∷ [])))
   unfolding after_line
   task_step n p t all h last =
@@ -108,15 +108,10 @@ module _ (set : TaskSet) (named : IsNamed set) (few : set.cores ≤ 8) where
           (values_back set named few (codes "open ", Number) ((codes " ", Program) ∷ (codes " ", Number) ∷ []) (t.id ∷ t.program ∷ t.arg ∷ []) refl (h.id, (h.program, (h.arg, tt))))
       ∙ rw last refl)
 
-  above_all : (before : List TaskRec) (t : TaskRec) (later : List TaskRec) → InIdOrder (before ++ t ∷ later) → is_last before t ≡ true
-  above_all [] t later h = refl
-  above_all (u ∷ before) t later h =
-      let one : ltb u.id t.id ≡ true = lt-ltb _ _ (at_seam before h.0) in
-      rw (one, above_all before t later h.1) refl
-    where
-      at_seam : (before : List TaskRec) → AllByRecursion (λ v. u.id < v.id) (before ++ t ∷ later) → u.id < t.id
-      at_seam [] h = h.0
-      at_seam (v ∷ before) h = at_seam before h.1
+  above_last : (before : List TaskRec) (t : TaskRec) (later : List TaskRec) → InIdOrder (before ++ t ∷ later) → is_above before t.id ≡ true
+  above_last [] t later h = refl
+  above_last (u ∷ []) t later h = lt-ltb _ _ h.0.0
+  above_last (u ∷ v ∷ before) t later h = above_last (v ∷ before) t later h.1
 
   pub tasks_read : (tasks : List TaskRec) (n : ℕ) (p : Report) → length p.state.objects ≡ length set.objects → AllByRecursion (IsToldTask set) tasks → InIdOrder (p.state.tasks ++ tasks)
       → after_lines set (in_state n p) (map (open_line set) tasks) ≡ Some (in_state (n + length tasks) (with_tasks p (p.state.tasks ++ tasks)))
@@ -124,7 +119,7 @@ module _ (set : TaskSet) (named : IsNamed set) (few : set.cores ≤ 8) where
   tasks_read (t ∷ tasks) n p all h order =
       let q = with_tasks p (p.state.tasks ++ t ∷ []) in
       lines_then set (in_state n p) (in_state (n + 1) q) _ (open_line set t ∷ []) (map (open_line set) tasks)
-          (ap (option_and_then (λ r. Some r)) (task_step n p t all h.0 (above_all p.state.tasks t tasks order)))
+          (ap (option_and_then (λ r. Some r)) (task_step n p t all h.0 (above_last p.state.tasks t tasks order)))
           (tasks_read tasks (n + 1) q all h.1 (subst InIdOrder (sym (append_assoc p.state.tasks (t ∷ []) tasks)) order))
       ∙ ap₂ (λ k ts. Some (in_state k (with_tasks p ts))) (add_assoc n 1 (length tasks) ∙ ap (λ k. n + k) (omega arith)) (append_assoc p.state.tasks (t ∷ []) tasks)
 
