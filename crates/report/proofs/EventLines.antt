@@ -177,7 +177,7 @@ trap_told set word number n task t point p cause c first f = record {
 }
 
 -- one of two readings gives it
-either : {A : Type 0} (o p : Option A) (x : A) → option_or o p ≡ Some x → (o ≡ Some x) ⊎ (p ≡ Some x)
+pub either : {A : Type 0} (o p : Option A) (x : A) → option_or o p ≡ Some x → (o ≡ Some x) ⊎ (p ≡ Some x)
 either None p x e = inr e
 either (Some y) p x e = inl e
 

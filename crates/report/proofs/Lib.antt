@@ -1,8 +1,11 @@
 pub mod EventLines
 pub mod EventsRead
+pub mod FeedCuts
 pub mod Numbers
 pub mod SetFacts
 pub mod Shapes
+pub mod Standing
+pub mod StateLines
 pub mod StateRead
 pub mod TakenEvents
 pub mod Values

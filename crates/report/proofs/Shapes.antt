@@ -33,7 +33,7 @@ AreOf set _ _ = ⊥
 
 -- ---- what is read is as it is written
 
-behind_means : (front text rest : List ℕ) → behind front text ≡ Some rest → front ++ rest ≡ text
+pub behind_means : (front text rest : List ℕ) → behind front text ≡ Some rest → front ++ rest ≡ text
 behind_means front text rest e =
     let h = cond_some (pointwise nat_eq (take (length front) text) front) (drop (length front) text) rest e in
     let f : take (length front) text ≡ front = same_text _ _ (sym h.0) in

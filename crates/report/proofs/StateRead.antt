@@ -56,7 +56,7 @@ words_of set zero (w ∷ words) e h = absurd (omega arith)
 words_of set (suc n) [] e h = absurd (omega arith)
 words_of set (suc n) (w ∷ words) e h = (h.0, words_of set n words (omega arith) h.1)
 
-next_object : (set : TaskSet) (done parts : List ObjPart) (o : ObjPart) (k : ℕ) → set.objects ≡ done ++ o ∷ parts → k ≡ length done → (ltb k (length set.objects) ≡ true) × (object_at set k ≡ o)
+pub next_object : (set : TaskSet) (done parts : List ObjPart) (o : ObjPart) (k : ℕ) → set.objects ≡ done ++ o ∷ parts → k ≡ length done → (ltb k (length set.objects) ≡ true) × (object_at set k ≡ o)
 next_object set done parts o k whole is =
     let long : length set.objects ≡ length done + suc (length parts) = ap length whole ∙ length-append done (o ∷ parts) in
     (lt-ltb _ _ (omega (arith, long)), ap (λ xs. get_or xs k no_object) whole ∙ at_end done k is)
