@@ -2,6 +2,7 @@ pub mod EventLines
 pub mod EventsRead
 pub mod FeedCuts
 pub mod Numbers
+pub mod Runs
 pub mod SetFacts
 pub mod Shapes
 pub mod Standing
@@ -9,4 +10,5 @@ pub mod StateLines
 pub mod StateRead
 pub mod TakenEvents
 pub mod Values
+pub mod WholeReports
 pub mod WordRuns

@@ -154,7 +154,7 @@ opened set (f ∷ shape) (v ∷ values) spaced h = go f.0 (and_parts (starts_spa
     go (b ∷ front) e = eqb-true b 32 e
 
 module _ (set : TaskSet) (named : IsNamed set) (few : set.cores ≤ 8) where
-  value_ink : (kind : Kind) (v : ℕ) → IsOf set kind v → list_all is_ink (value_text set kind v) ≡ true
+  pub value_ink : (kind : Kind) (v : ℕ) → IsOf set kind v → list_all is_ink (value_text set kind v) ≡ true
   value_ink Number v h = decimal_ink v (omega arith)
   value_ink Core v h = decimal_ink v (omega arith)
   value_ink Object v h = named_ink (value_text set Object v) (at_place (λ o. o.name) IsName set.objects v no_object named.objects.each h)

@@ -26,7 +26,7 @@ use Rattle.report.proofs.Values.{no_object}
 
 -- ---- one event more
 
-all_more : {A : Type 0} (P : A → Type 0) (xs : List A) (x : A) → AllByRecursion P xs → P x → AllByRecursion P (xs ++ x ∷ [])
+pub all_more : {A : Type 0} (P : A → Type 0) (xs : List A) (x : A) → AllByRecursion P xs → P x → AllByRecursion P (xs ++ x ∷ [])
 all_more P [] x h k = (k, tt)
 all_more P (y ∷ xs) x h k = (h.0, all_more P xs x h.1 k)
 
@@ -88,7 +88,7 @@ StandsAt set lines r Done = IsWhole set lines r
 abbrev pub Stands : TaskSet → List (List ℕ) → Reading → Type 0
 Stands set lines r = StandsAt set lines r r.place
 
-one_more : {A : Type 0} (n : ℕ) (xs : List A) (x : A) → n ≡ 1 + length xs → n + 1 ≡ 1 + length (xs ++ x ∷ [])
+pub one_more : {A : Type 0} (n : ℕ) (xs : List A) (x : A) → n ≡ 1 + length xs → n + 1 ≡ 1 + length (xs ++ x ∷ [])
 one_more n xs x e = omega (arith, e, length-append xs (x ∷ []))
 
 -- an event's line more, of which the reading has the finish
@@ -132,7 +132,7 @@ end_stands set lines text n p v h is = record {
 }
 
 -- a line of an event, or the `end` line
-next_in_events : (set : TaskSet) (lines : List (List ℕ)) (text : List ℕ) (n : ℕ) (p : Report) (q : Reading) → InEvents set lines (record { place = Events; line = n; report = p })
+pub next_in_events : (set : TaskSet) (lines : List (List ℕ)) (text : List ℕ) (n : ℕ) (p : Report) (q : Reading) → InEvents set lines (record { place = Events; line = n; report = p })
     → after_event_line set (record { place = Events; line = n; report = p }) text ≡ Some q → Stands set (lines ++ text ∷ []) q
 next_in_events set lines text n p q h e = go (is_quiet set text) refl e
   where
@@ -161,7 +161,7 @@ told_more [] (w ∷ objects) o words h e k = absurd h
 told_more (d ∷ done) [] o words h e k = absurd h
 told_more (d ∷ done) (w ∷ objects) o words h e k = (h.0, h.1, told_more done objects o words h.2 e k)
 
-as_many : (done : List ObjPart) (objects : Objects) → AreTold done objects → length objects ≡ length done
+pub as_many : (done : List ObjPart) (objects : Objects) → AreTold done objects → length objects ≡ length done
 as_many [] [] h = refl
 as_many [] (w ∷ objects) h = absurd h
 as_many (d ∷ done) [] h = absurd h
@@ -206,10 +206,10 @@ task_behind l e o t w = simp append_assoc
 done_behind : (l e o t d : List ℕ) → (l ++ (e ++ (o ++ t))) ++ d ≡ l ++ (((e ++ o) ++ t) ++ d)
 done_behind l e o t d = simp append_assoc
 
-abbrev at_state : ℕ → Report → Reading
+abbrev pub at_state : ℕ → Report → Reading
 at_state n p = record { place = State; line = n; report = p }
 
-object_stands : (set : TaskSet) (lines : List (List ℕ)) (text : List ℕ) (n : ℕ) (p : Report) (h : InState set lines (at_state n p)) (o : ObjPart) (parts : List ObjPart) (words : List ℕ) → h.parts ≡ o ∷ parts → p.state.tasks ≡ [] → IsObjectLine o text words
+pub object_stands : (set : TaskSet) (lines : List (List ℕ)) (text : List ℕ) (n : ℕ) (p : Report) (h : InState set lines (at_state n p)) (o : ObjPart) (parts : List ObjPart) (words : List ℕ) → h.parts ≡ o ∷ parts → p.state.tasks ≡ [] → IsObjectLine o text words
     → InState set (lines ++ text ∷ []) (after_object (at_state n p) words)
 object_stands set lines text n p h o parts words e none is = record {
   events = h.events;
@@ -234,7 +234,7 @@ object_stands set lines text n p h o parts words e none is = record {
       ∙ ap (λ os. lines_text set h.events ++ (end_text p.state.clock p.state.number p.state.next h.boots ++ (os ++ flat_map (open_text set) p.state.tasks))) (sym (objects_more h.done p.state.objects o words h.objects));
 }
 
-task_stands : (set : TaskSet) (lines : List (List ℕ)) (text : List ℕ) (n : ℕ) (p : Report) (h : InState set lines (at_state n p)) (t : TaskRec) → h.parts ≡ [] → is_above p.state.tasks t.id ≡ true → IsOpenLine set text t
+pub task_stands : (set : TaskSet) (lines : List (List ℕ)) (text : List ℕ) (n : ℕ) (p : Report) (h : InState set lines (at_state n p)) (t : TaskRec) → h.parts ≡ [] → is_above p.state.tasks t.id ≡ true → IsOpenLine set text t
     → InState set (lines ++ text ∷ []) (after_task (at_state n p) t)
 task_stands set lines text n p h t none above is = record {
   events = h.events;
@@ -259,7 +259,7 @@ task_stands set lines text n p h t none above is = record {
       ∙ ap (λ ts. lines_text set h.events ++ (end_text p.state.clock p.state.number p.state.next h.boots ++ (objects_text h.done p.state.objects ++ ts))) (sym (texts_more (open_text set) p.state.tasks t));
 }
 
-done_stands : (set : TaskSet) (lines : List (List ℕ)) (text : List ℕ) (n : ℕ) (p : Report) (h : InState set lines (at_state n p)) → h.parts ≡ [] → done_text ≡ text ++ line_feed
+pub done_stands : (set : TaskSet) (lines : List (List ℕ)) (text : List ℕ) (n : ℕ) (p : Report) (h : InState set lines (at_state n p)) → h.parts ≡ [] → done_text ≡ text ++ line_feed
     → IsWhole set (lines ++ text ∷ []) (after_done (at_state n p))
 done_stands set lines text n p h none is =
     let all : set.objects ≡ h.done = h.parts_are ∙ ap (λ ps. h.done ++ ps) none ∙ append-nil h.done in

@@ -50,7 +50,7 @@ words_spaced : (n : ℕ) → is_spaced (words_shape n) ≡ true
 words_spaced zero = refl
 words_spaced (suc n) = words_spaced n
 
-words_of : (set : TaskSet) (n : ℕ) (words : List ℕ) → length words ≡ n → AllByRecursion IsWord words → AreOf set (words_shape n) words
+pub words_of : (set : TaskSet) (n : ℕ) (words : List ℕ) → length words ≡ n → AllByRecursion IsWord words → AreOf set (words_shape n) words
 words_of set zero [] e h = tt
 words_of set zero (w ∷ words) e h = absurd (omega arith)
 words_of set (suc n) [] e h = absurd (omega arith)
