@@ -45,16 +45,16 @@ fit_means set shape P all text e = go (values_in set shape text) refl e
 
 -- ---- pieces of a line
 
-one : (a l : List ℕ) → a ++ l ≡ (a ++ []) ++ l
+pub one : (a l : List ℕ) → a ++ l ≡ (a ++ []) ++ l
 one a l = simp append-nil refl
 
-three : (a b c l : List ℕ) → ((a ++ b) ++ c) ++ l ≡ (a ++ (b ++ (c ++ []))) ++ l
+pub three : (a b c l : List ℕ) → ((a ++ b) ++ c) ++ l ≡ (a ++ (b ++ (c ++ []))) ++ l
 three a b c l = simp (append_assoc, append-nil)
 
 pub four : (a b c d l : List ℕ) → (((a ++ b) ++ c) ++ d) ++ l ≡ (a ++ (b ++ (c ++ (d ++ [])))) ++ l
 four a b c d l = simp (append_assoc, append-nil)
 
-five : (a b c d e l : List ℕ) → ((((a ++ b) ++ c) ++ d) ++ e) ++ l ≡ (a ++ (b ++ (c ++ (d ++ (e ++ []))))) ++ l
+pub five : (a b c d e l : List ℕ) → ((((a ++ b) ++ c) ++ d) ++ e) ++ l ≡ (a ++ (b ++ (c ++ (d ++ (e ++ []))))) ++ l
 five a b c d e l = simp (append_assoc, append-nil)
 
 -- ---- lines that tell no finish

@@ -93,7 +93,7 @@ name_ink (b ∷ name) e =
     let h = and_parts (is_name_byte b) (list_all is_name_byte name) e in
     and_from (is_ink b) (list_all is_ink name) (name_byte_ink b h.0) (name_ink name h.1)
 
-named_ink : (name : List ℕ) → IsName name → list_all is_ink name ≡ true
+pub named_ink : (name : List ℕ) → IsName name → list_all is_ink name ≡ true
 named_ink name h = name_ink name (list_all-from_AllPass is_name_byte name h.bytes)
 
 cause_ink : (n : ℕ) → list_all is_ink (numbered_cause_word n) ≡ true

@@ -43,12 +43,12 @@ pub record IsObjectLine (o : ObjPart) (text words : List ℕ) : Type 0 where
   pub words_are : AllByRecursion IsWord words
   pub text_is : object_text o.name words ≡ text ++ line_feed
 
-record AreWords (set : TaskSet) (n : ℕ) (words : List ℕ) : Type 0 where
-  number : length words ≡ n
-  each : AllByRecursion IsWord words
-  text : flat_map (field (codes " ")) words ≡ shape_text set (words_shape n) words
+pub record AreWords (set : TaskSet) (n : ℕ) (words : List ℕ) : Type 0 where
+  pub number : length words ≡ n
+  pub each : AllByRecursion IsWord words
+  pub text : flat_map (field (codes " ")) words ≡ shape_text set (words_shape n) words
 
-words_mean : (set : TaskSet) (n : ℕ) (words : List ℕ) → AreOf set (words_shape n) words → AreWords set n words
+pub words_mean : (set : TaskSet) (n : ℕ) (words : List ℕ) → AreOf set (words_shape n) words → AreWords set n words
 words_mean set zero [] h = record { number = refl; each = tt; text = refl }
 words_mean set zero (w ∷ words) h = absurd h
 words_mean set (suc n) [] h = absurd h
@@ -77,7 +77,7 @@ pub record IsOpenLine (set : TaskSet) (text : List ℕ) (t : TaskRec) : Type 0 w
   pub told : IsToldTask set t
   pub text_is : open_text set t ≡ text ++ line_feed
 
-pieces : (a s n c l : List ℕ) → (((a ++ s) ++ n) ++ c) ++ l ≡ (a ++ ((s ++ n) ++ (c ++ []))) ++ l
+pub pieces : (a s n c l : List ℕ) → (((a ++ s) ++ n) ++ c) ++ l ≡ (a ++ ((s ++ n) ++ (c ++ []))) ++ l
 pieces a s n c l = simp (append_assoc, append-nil)
 
 open_told : (set : TaskSet) → Each set open_shape (λ vs. IsOpenLine set (shape_text set open_shape vs) (open_task vs))
