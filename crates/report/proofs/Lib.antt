@@ -10,5 +10,6 @@ pub mod StateLines
 pub mod StateRead
 pub mod TakenEvents
 pub mod Values
+pub mod Verdicts
 pub mod WholeReports
 pub mod WordRuns

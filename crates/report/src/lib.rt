@@ -7,10 +7,12 @@ mod line_buf;
 mod lines;
 mod pieces;
 mod reader;
+mod reading;
 mod report;
 mod state_lines;
 
 pub use line_buf::LineBuf;
+pub use reading::read_report;
 pub use report::{Listing, Report, ReportRefusal, Tasks};
 
 #[cfg(test)]
