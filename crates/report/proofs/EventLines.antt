@@ -137,9 +137,9 @@ attempt_means set text e = elim (or_cases (fits set start_shape text) (fits set 
 refusal_means : (set : TaskSet) (text : List ℕ) → is_refusal set text ≡ true → IsQuietLine set text
 refusal_means set text e = elim (or_cases (fits set empty_shape text || fits set slots_shape text) (fits set records_shape text) e) [
   | inl h ↦ elim (or_cases (fits set empty_shape text) (fits set slots_shape text) h) [
-      | inl k ↦ fit_means set empty_shape (IsQuietLine set) (empty_told set) text k
-      | inr k ↦ fit_means set slots_shape (IsQuietLine set) (slots_told set) text k
-    ]
+    | inl k ↦ fit_means set empty_shape (IsQuietLine set) (empty_told set) text k
+    | inr k ↦ fit_means set slots_shape (IsQuietLine set) (slots_told set) text k
+  ]
   | inr h ↦ fit_means set records_shape (IsQuietLine set) (records_told set) text h
 ]
 
@@ -152,9 +152,9 @@ power_means set text e = elim (or_cases (fits set boot_shape text) (pointwise na
 pub quiet_means : (set : TaskSet) (text : List ℕ) → is_quiet set text ≡ true → IsQuietLine set text
 quiet_means set text e = elim (or_cases (is_attempt set text || is_refusal set text) (is_power set text) e) [
   | inl h ↦ elim (or_cases (is_attempt set text) (is_refusal set text) h) [
-      | inl k ↦ attempt_means set text k
-      | inr k ↦ refusal_means set text k
-    ]
+    | inl k ↦ attempt_means set text k
+    | inr k ↦ refusal_means set text k
+  ]
   | inr h ↦ power_means set text h
 ]
 

@@ -93,9 +93,11 @@ module _ (set : TaskSet) (named : IsNamed set) (few : set.cores ≤ 8) where
   no_exit : (word : List ℕ) (number task point : ℕ) (rest : List ℕ) → number < 2 ^ 32 → task < 2 ^ 32 → point < 2 ^ 32
       → values_in set (exit_shape word) ((word ++ decimal number) ++ ((codes " task " ++ decimal task) ++ ((codes " point " ++ decimal point) ++ (codes " trap " ++ rest)))) ≡ None
   no_exit word number task point rest n t p =
-      rw (field_back set named few Number word number ((codes " task " ++ decimal task) ++ ((codes " point " ++ decimal point) ++ (codes " trap " ++ rest))) n refl,
-          field_back set named few Number (codes " task ") task ((codes " point " ++ decimal point) ++ (codes " trap " ++ rest)) t refl,
-          field_back set named few Number (codes " point ") point (codes " trap " ++ rest) p refl) refl
+      rw (
+        field_back set named few Number word number ((codes " task " ++ decimal task) ++ ((codes " point " ++ decimal point) ++ (codes " trap " ++ rest))) n refl,
+        field_back set named few Number (codes " task ") task ((codes " point " ++ decimal point) ++ (codes " trap " ++ rest)) t refl,
+        field_back set named few Number (codes " point ") point (codes " trap " ++ rest) p refl,
+      ) refl
 
   entry_back : (word : List ℕ) (number task point first : ℕ) (o : Outcome) → number < 2 ^ 32 → task < 2 ^ 32 → point < 2 ^ 32 → first < 2 ^ 32 → IsToldOutcome o
       → entry_in set word (entry_line_of set word number task point first o) ≡ Some (record { number = number; task = task; point = point; first = first; outcome = o })
@@ -103,9 +105,9 @@ module _ (set : TaskSet) (named : IsNamed set) (few : set.cores ≤ 8) where
       rw (values_back set named few (word, Number) exit_rest (number ∷ task ∷ point ∷ code ∷ first ∷ []) refl (n, (t, (p, (c, (f, tt)))))) refl
   entry_back word number task point first (Trap cause) n t p f c =
       ap₂ (λ x y. option_or (option_map exit_entry x) (option_map trap_entry y))
-          (ap (λ text. values_in set (exit_shape word) ((word ++ decimal number) ++ ((codes " task " ++ decimal task) ++ ((codes " point " ++ decimal point) ++ text)))) (append_assoc (codes " trap ") (numbered_cause_word cause) _)
-          ∙ no_exit word number task point (numbered_cause_word cause ++ ((codes " first " ++ decimal first) ++ [])) n t p)
-          (values_back set named few (word, Number) trap_rest (number ∷ task ∷ point ∷ cause ∷ first ∷ []) refl (n, (t, (p, (c, (f, tt))))))
+      (ap (λ text. values_in set (exit_shape word) ((word ++ decimal number) ++ ((codes " task " ++ decimal task) ++ ((codes " point " ++ decimal point) ++ text)))) (append_assoc (codes " trap ") (numbered_cause_word cause) _)
+      ∙ no_exit word number task point (numbered_cause_word cause ++ ((codes " first " ++ decimal first) ++ [])) n t p)
+      (values_back set named few (word, Number) trap_rest (number ∷ task ∷ point ∷ cause ∷ first ∷ []) refl (n, (t, (p, (c, (f, tt))))))
 
   finish_back : (e : Entry) → IsToldEntry e → (is_quiet set (entry_line set (codes "finish ") e) ≡ false) × (finish_in set (entry_line set (codes "finish ") e) ≡ Some e)
   finish_back e h = (loud e.outcome, ap (λ x. option_or x (entry_in set (codes "found ") (entry_line set (codes "finish ") e))) (entry_back (codes "finish ") e.number e.task e.point e.first e.outcome h.number h.task h.point h.first h.outcome))
@@ -120,6 +122,7 @@ module _ (set : TaskSet) (named : IsNamed set) (few : set.cores ≤ 8) where
       loud : (o : Outcome) → is_quiet set (entry_line_of set (codes "found ") e.number e.task e.point e.first o) ≡ false
       loud (Exit code) = refl
       loud (Trap cause) = refl
+
       other : (o : Outcome) → entry_in set (codes "finish ") (entry_line_of set (codes "found ") e.number e.task e.point e.first o) ≡ None
       other (Exit code) = refl
       other (Trap cause) = refl
@@ -178,8 +181,8 @@ module _ (set : TaskSet) (named : IsNamed set) (few : set.cores ≤ 8) where
       let told = record p { listing = p.listing ++ record { line = n; entry = e } ∷ [] } in
       let two : (n + 1) + 1 ≡ n + 2 = omega arith in
       lines_then set (among_events n p) (among_events (n + 1) told) _ (entry_line set (codes "found ") e ∷ []) (boot_line set boots ∷ [])
-          (one_line set (among_events n p) _ (entry_line set (codes "found ") e) (finish_step n p (entry_line set (codes "found ") e) e so.0 so.1))
-          (line_quiet (n + 1) told (boot_line set boots) (boot_quiet boots b))
+      (one_line set (among_events n p) _ (entry_line set (codes "found ") e) (finish_step n p (entry_line set (codes "found ") e) e so.0 so.1))
+      (line_quiet (n + 1) told (boot_line set boots) (boot_quiet boots b))
       ∙ ap₂ (λ k listing. Some (among_events k (record p { listing = listing }))) two (append-nil told.listing)
 
   -- all events

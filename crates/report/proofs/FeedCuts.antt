@@ -93,7 +93,7 @@ feed_some (b ∷ bytes) i e lt = go (eqb b 10) refl e lt (λ j f l. feed_some by
         let so = later j refl (omega arith) in
         let more : suc j + 1 ≡ suc (j + 1) = omega arith in
         subst (λ k. IsLine (take k (b ∷ bytes)) × (b ∷ bytes ≡ take k (b ∷ bytes) ++ 10 ∷ drop (k + 1) (b ∷ bytes))) is
-            ((eqb-false b 10 f, so.0), ap (λ t. b ∷ t) so.1 ∙ ap (λ m. b ∷ (take j bytes ++ 10 ∷ drop m (b ∷ bytes))) (sym more))
+        ((eqb-false b 10 f, so.0), ap (λ t. b ∷ t) so.1 ∙ ap (λ m. b ∷ (take j bytes ++ 10 ∷ drop m (b ∷ bytes))) (sym more))
 
 -- printed characters are no line feeds
 pub printed_line : (line : List ℕ) → list_all (λ b. ltb 31 b) line ≡ true → IsLine line

@@ -2,6 +2,8 @@ pub mod EventLines
 pub mod EventsRead
 pub mod FeedCuts
 pub mod Numbers
+pub mod OneReading
+pub mod ReportSizes
 pub mod Runs
 pub mod SetFacts
 pub mod Shapes

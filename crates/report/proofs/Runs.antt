@@ -42,15 +42,15 @@ next_is_object set lines text n p q h (o ∷ parts) some more e =
       | inr l ↦ l
     ] in
     mapped (after_object (at_state n p)) (object_in set (object_at set (length p.state.objects)) text) q e (λ words told same.
-        subst (Stands set (lines ++ text ∷ [])) same (object_stands set lines text n p h o parts words some none (object_means set o text words (ap (λ part. object_in set part text) (sym next.1) ∙ told))))
+    subst (Stands set (lines ++ text ∷ [])) same (object_stands set lines text n p h o parts words some none (object_means set o text words (ap (λ part. object_in set part text) (sym next.1) ∙ told))))
 
 next_is_task : (set : TaskSet) (lines : List (List ℕ)) (text : List ℕ) (n : ℕ) (p : Report) (q : Reading) (h : InState set lines (at_state n p)) → h.parts ≡ [] → (b : Bool) → is_done text ≡ b
     → cond b (Some (after_done (at_state n p))) (option_and_then (next_task (at_state n p)) (open_in set text)) ≡ Some q → Stands set (lines ++ text ∷ []) q
 next_is_task set lines text n p q h none true done e = subst (Stands set (lines ++ text ∷ [])) (same_Some _ q e) (done_stands set lines text n p h none (done_means text done))
 next_is_task set lines text n p q h none false done e =
     option_and_then_some (next_task (at_state n p)) (open_in set text) q e (λ t told next.
-        let so = cond_some (is_above p.state.tasks t.id) (after_task (at_state n p) t) q next in
-        subst (Stands set (lines ++ text ∷ [])) so.1 (task_stands set lines text n p h t none so.0 (open_means set text t told)))
+    let so = cond_some (is_above p.state.tasks t.id) (after_task (at_state n p) t) q next in
+    subst (Stands set (lines ++ text ∷ [])) so.1 (task_stands set lines text n p h t none so.0 (open_means set text t told)))
 
 next_in_state : (set : TaskSet) (lines : List (List ℕ)) (text : List ℕ) (n : ℕ) (p : Report) (q : Reading) → InState set lines (at_state n p) → after_state set (at_state n p) text ≡ Some q → Stands set (lines ++ text ∷ []) q
 next_in_state set lines text n p q h e = go (ltb (length p.state.objects) (length set.objects)) refl e
@@ -76,7 +76,7 @@ stands_more : (set : TaskSet) (lines more : List (List ℕ)) (r q : Reading) →
 stands_more set lines [] r q h e = subst (λ ls. Stands set ls q) (sym (append-nil lines)) (subst (Stands set lines) (same_Some r q e) h)
 stands_more set lines (text ∷ more) r q h e =
     option_and_then_some (λ s. after_lines set s more) (after_line set r text) q e (λ s one rest.
-        subst (λ ls. Stands set ls q) (append_assoc lines (text ∷ []) more) (stands_more set (lines ++ text ∷ []) more s q (stands_next set lines text r s h one) rest))
+    subst (λ ls. Stands set ls q) (append_assoc lines (text ∷ []) more) (stands_more set (lines ++ text ∷ []) more s q (stands_next set lines text r s h one) rest))
 
 pub stands : (set : TaskSet) (lines : List (List ℕ)) (r : Reading) → after_lines set unread lines ≡ Some r → Stands set lines r
 stands set lines r e = stands_more set [] lines unread r
@@ -146,7 +146,7 @@ state_goes_on set lines r h =
       | inr none ↦ inl (ap (flat_map (open_text set)) none)
     ] in
     let objects_are : objects_text set.objects state.objects ≡ objects_text h.done p.state.objects ++ objects_text h.parts (zeros h.parts) =
-        ap (λ ps. objects_text ps state.objects) h.parts_are ∙ objects_then h.done h.parts p.state.objects (zeros h.parts) h.objects in
+    ap (λ ps. objects_text ps state.objects) h.parts_are ∙ objects_then h.done h.parts p.state.objects (zeros h.parts) h.objects in
     let is : IsReportOf set report (fed lines ++ (objects_text h.parts (zeros h.parts) ++ done_text)) = record {
       lines = h.events;
       boots = h.boots;

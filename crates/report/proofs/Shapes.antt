@@ -66,7 +66,8 @@ values_mean set (f ∷ shape) text values e = first (λ rest others told. values
         let there = later rest others told in
         let eq : v ∷ others ≡ values = same_Some _ _ g in
         subst (λ vs. (shape_text set (f ∷ shape) vs ≡ text) × AreOf set (f ∷ shape) vs) eq
-            (ap (λ x. (f.0 ++ value_text set f.1 v) ++ x) there.0 ∙ here.0, (here.1, there.1))
+        (ap (λ x. (f.0 ++ value_text set f.1 v) ++ x) there.0 ∙ here.0, (here.1, there.1))
+
     first : ((rest others : List ℕ) → values_in set shape rest ≡ Some others → (shape_text set shape others ≡ rest) × AreOf set shape others) → (o : Option (ℕ × List ℕ)) → field_in (value_of set f.1) f.0 text ≡ o → option_and_then (λ p. option_map (λ values. p.0 ∷ values) (values_in set shape p.1)) o ≡ Some values
         → (shape_text set (f ∷ shape) values ≡ text) × AreOf set (f ∷ shape) values
     first later None is g = absurd (none-some values g)

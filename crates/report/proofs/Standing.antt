@@ -140,8 +140,10 @@ next_in_events set lines text n p q h e = go (is_quiet set text) refl e
     finished entry told =
         let so = finish_means set text entry told in
         event_stands set lines text n p so.event (record { line = n; entry = entry } ∷ []) h so.is_line (so.lists n) (record p { listing = p.listing ++ record { line = n; entry = entry } ∷ [] }) refl refl refl
+
     ended : (values : List ℕ) → end_in set text ≡ Some values → Stands set (lines ++ text ∷ []) (after_end (record { place = Events; line = n; report = p }) values)
     ended values told = end_stands set lines text n p values h (end_means set text values told)
+
     go : (b : Bool) → is_quiet set text ≡ b
         → cond b (Some (after_quiet (record { place = Events; line = n; report = p }))) (option_or (option_map (after_finish (record { place = Events; line = n; report = p })) (finish_in set text)) (option_map (after_end (record { place = Events; line = n; report = p })) (end_in set text))) ≡ Some q
         → Stands set (lines ++ text ∷ []) q

@@ -93,8 +93,8 @@ module _ (set : TaskSet) (named : IsNamed set) (few : set.cores ≤ 8) where
       let seam : set.objects ≡ (done ++ o ∷ []) ++ parts = whole ∙ sym (append_assoc done (o ∷ []) parts) in
       let long : length (p.state.objects ++ words ∷ []) ≡ length (done ++ o ∷ []) = length-append p.state.objects (words ∷ []) ∙ ap (λ k. k + 1) is ∙ sym (length-append done (o ∷ [])) in
       lines_then set (in_state n p) (in_state (n + 1) q) _ (object_line set o words ∷ []) (object_lines set parts objects)
-          (ap (option_and_then (λ r. Some r)) (object_step n p o words (object_line set o words) next.0 next.1 (object_back o words h.0 h.1)))
-          (objects_read (done ++ o ∷ []) parts objects (n + 1) q seam long h.2)
+      (ap (option_and_then (λ r. Some r)) (object_step n p o words (object_line set o words) next.0 next.1 (object_back o words h.0 h.1)))
+      (objects_read (done ++ o ∷ []) parts objects (n + 1) q seam long h.2)
       ∙ ap₂ (λ k all. Some (in_state k (with_objects p all))) (add_assoc n 1 (length parts) ∙ ap (λ k. n + k) (omega arith)) (append_assoc p.state.objects (words ∷ []) objects)
 
   -- ---- open tasks
@@ -105,7 +105,7 @@ module _ (set : TaskSet) (named : IsNamed set) (few : set.cores ≤ 8) where
   task_step n p t all h last =
       let no_more : ltb (length p.state.objects) (length set.objects) ≡ false = le-ltb _ _ (omega arith) in
       rw no_more (ap (λ o. option_and_then (next_task (in_state n p)) (option_map open_task o))
-          (values_back set named few (codes "open ", Number) ((codes " ", Program) ∷ (codes " ", Number) ∷ []) (t.id ∷ t.program ∷ t.arg ∷ []) refl (h.id, (h.program, (h.arg, tt))))
+      (values_back set named few (codes "open ", Number) ((codes " ", Program) ∷ (codes " ", Number) ∷ []) (t.id ∷ t.program ∷ t.arg ∷ []) refl (h.id, (h.program, (h.arg, tt))))
       ∙ rw last refl)
 
   above_last : (before : List TaskRec) (t : TaskRec) (later : List TaskRec) → InIdOrder (before ++ t ∷ later) → is_above before t.id ≡ true
@@ -119,8 +119,8 @@ module _ (set : TaskSet) (named : IsNamed set) (few : set.cores ≤ 8) where
   tasks_read (t ∷ tasks) n p all h order =
       let q = with_tasks p (p.state.tasks ++ t ∷ []) in
       lines_then set (in_state n p) (in_state (n + 1) q) _ (open_line set t ∷ []) (map (open_line set) tasks)
-          (ap (option_and_then (λ r. Some r)) (task_step n p t all h.0 (above_last p.state.tasks t tasks order)))
-          (tasks_read tasks (n + 1) q all h.1 (subst InIdOrder (sym (append_assoc p.state.tasks (t ∷ []) tasks)) order))
+      (ap (option_and_then (λ r. Some r)) (task_step n p t all h.0 (above_last p.state.tasks t tasks order)))
+      (tasks_read tasks (n + 1) q all h.1 (subst InIdOrder (sym (append_assoc p.state.tasks (t ∷ []) tasks)) order))
       ∙ ap₂ (λ k ts. Some (in_state k (with_tasks p ts))) (add_assoc n 1 (length tasks) ∙ ap (λ k. n + k) (omega arith)) (append_assoc p.state.tasks (t ∷ []) tasks)
 
   -- ---- the first line and the last
@@ -130,9 +130,8 @@ module _ (set : TaskSet) (named : IsNamed set) (few : set.cores ≤ 8) where
   unfolding after_line
   end_read n p clock number next boots c m i b =
       ap (option_map (after_end (among_events n p)))
-          (values_back set named few (codes "end clock ", Number) ((codes " number ", Number) ∷ (codes " next ", Number) ∷ (codes " boots ", Number) ∷ []) (clock ∷ number ∷ next ∷ boots ∷ []) refl (c, (m, (i, (b, tt)))))
+      (values_back set named few (codes "end clock ", Number) ((codes " number ", Number) ∷ (codes " next ", Number) ∷ (codes " boots ", Number) ∷ []) (clock ∷ number ∷ next ∷ boots ∷ []) refl (c, (m, (i, (b, tt)))))
 
   pub done_read : (n : ℕ) (p : Report) → length p.state.objects ≡ length set.objects → after_line set (in_state n p) (codes "done") ≡ Some (record { place = Done; line = n + 1; report = p })
   unfolding after_line
   done_read n p all = let no_more : ltb (length p.state.objects) (length set.objects) ≡ false = le-ltb _ _ (omega arith) in rw no_more refl
-

@@ -112,6 +112,7 @@ module _ {X : Type 0} (name_of : X → List ℕ) where
       more : (c : Bool) → cond c (place_in things word ≡ i) (i + 1 ≤ place_in things word) → cond c (1 + place_in things word ≡ suc i) (suc i + 1 ≤ 1 + place_in things word)
       more true h = omega arith
       more false h = omega arith
+
       go : (i ≤ place_in things word → cond b (place_in things word ≡ i) (i + 1 ≤ place_in things word)) → (first : Bool) → suc i ≤ cond (not first) (1 + place_in things word) 0 → cond b (cond (not first) (1 + place_in things word) 0 ≡ suc i) (suc i + 1 ≤ cond (not first) (1 + place_in things word) 0)
       go later true l = absurd (omega arith)
       go later false l = more b (later (omega arith))

@@ -69,8 +69,8 @@ module _ (set : TaskSet) (named : IsNamed set) (few : set.cores ≤ 8) where
   shape_printed (f ∷ shape) (v ∷ values) e h =
       let p = and_parts (list_all is_printed f.0) (fronts_printed shape) e in
       joined (f.0 ++ value_text set f.1 v) (shape_text set shape values)
-          (joined f.0 (value_text set f.1 v) p.0 (ink_printed (value_text set f.1 v) (value_ink set named few f.1 v h.0)))
-          (shape_printed shape values p.1 h.1)
+      (joined f.0 (value_text set f.1 v) p.0 (ink_printed (value_text set f.1 v) (value_ink set named few f.1 v h.0)))
+      (shape_printed shape values p.1 h.1)
 
   shape_line : (shape : Shape) (values : List ℕ) → fronts_printed shape ≡ true → AreOf set shape values → IsLine (shape_text set shape values)
   shape_line shape values e h = printed_line (shape_text set shape values) (shape_printed shape values e h)
@@ -81,12 +81,12 @@ module _ (set : TaskSet) (named : IsNamed set) (few : set.cores ≤ 8) where
       → IsFedAs (entry_text word (record { number = number; task = task; point = point; first = first; outcome = o })) (entry_line_of set word number task point first o ∷ [])
   entry_of_fed word number task point first (Exit code) printed n t p f c =
       fed_one _ (entry_line_of set word number task point first (Exit code))
-          (shape_line (exit_shape word) (number ∷ task ∷ point ∷ code ∷ first ∷ []) (and_from (list_all is_printed word) true printed refl) (n, (t, (p, (c, (f, tt))))))
-          (five (field word number) (field (codes " task ") task) (field (codes " point ") point) (field (codes " exit ") code) (field (codes " first ") first) line_feed)
+      (shape_line (exit_shape word) (number ∷ task ∷ point ∷ code ∷ first ∷ []) (and_from (list_all is_printed word) true printed refl) (n, (t, (p, (c, (f, tt))))))
+      (five (field word number) (field (codes " task ") task) (field (codes " point ") point) (field (codes " exit ") code) (field (codes " first ") first) line_feed)
   entry_of_fed word number task point first (Trap cause) printed n t p f c =
       fed_one _ (entry_line_of set word number task point first (Trap cause))
-          (shape_line (trap_shape word) (number ∷ task ∷ point ∷ cause ∷ first ∷ []) (and_from (list_all is_printed word) true printed refl) (n, (t, (p, (c, (f, tt))))))
-          (five (field word number) (field (codes " task ") task) (field (codes " point ") point) (codes " trap " ++ numbered_cause_word cause) (field (codes " first ") first) line_feed)
+      (shape_line (trap_shape word) (number ∷ task ∷ point ∷ cause ∷ first ∷ []) (and_from (list_all is_printed word) true printed refl) (n, (t, (p, (c, (f, tt))))))
+      (five (field word number) (field (codes " task ") task) (field (codes " point ") point) (codes " trap " ++ numbered_cause_word cause) (field (codes " first ") first) line_feed)
 
   entry_fed : (word : List ℕ) (e : Entry) → list_all is_printed word ≡ true → IsToldEntry e → IsFedAs (entry_text word e) (entry_line set word e ∷ [])
   entry_fed word e printed h = entry_of_fed word e.number e.task e.point e.first e.outcome printed h.number h.task h.point h.first h.outcome
@@ -95,8 +95,8 @@ module _ (set : TaskSet) (named : IsNamed set) (few : set.cores ≤ 8) where
       → IsFedAs ((((field word a ++ field (codes " ") b) ++ field (codes " core ") core) ++ field (codes " task ") task) ++ line_feed) (shape_text set (pair_shape word) (a ∷ b ∷ core ∷ task ∷ []) ∷ [])
   pair_fed word a b core task printed i j c t =
       fed_one _ (shape_text set (pair_shape word) (a ∷ b ∷ core ∷ task ∷ []))
-          (shape_line (pair_shape word) (a ∷ b ∷ core ∷ task ∷ []) (and_from (list_all is_printed word) true printed refl) (i, (j, (c, (t, tt)))))
-          (four (field word a) (field (codes " ") b) (field (codes " core ") core) (field (codes " task ") task) line_feed)
+      (shape_line (pair_shape word) (a ∷ b ∷ core ∷ task ∷ []) (and_from (list_all is_printed word) true printed refl) (i, (j, (c, (t, tt)))))
+      (four (field word a) (field (codes " ") b) (field (codes " core ") core) (field (codes " task ") task) line_feed)
 
   boot_fed : (boots : ℕ) → IsWord boots → IsFedAs (field (codes "boot ") boots ++ line_feed) (boot_line set boots ∷ [])
   boot_fed boots b = fed_one _ (boot_line set boots) (shape_line boot_shape (boots ∷ []) refl (b, tt)) (one (field (codes "boot ") boots) line_feed)
@@ -105,12 +105,12 @@ module _ (set : TaskSet) (named : IsNamed set) (few : set.cores ≤ 8) where
   event_fed Nothing h = record { whole = tt; text_is = refl }
   event_fed (Start core task at) (c, t, a) =
       fed_one _ (shape_text set start_shape (core ∷ task ∷ at ∷ [])) (shape_line start_shape (core ∷ task ∷ at ∷ []) refl (c, (t, (a, tt))))
-          (three (field (codes "start core ") core) (field (codes " task ") task) (field (codes " at ") at) line_feed)
+      (three (field (codes "start core ") core) (field (codes " task ") task) (field (codes " at ") at) line_feed)
   event_fed (Stale core task lo hi) (c, t, l, h) = pair_fed (codes "stale ") lo hi core task refl l h c t
   event_fed (RefuseEmpty core task lo hi) (c, t, l, h) = pair_fed (codes "refuse empty ") lo hi core task refl l h c t
   event_fed (RefuseSlots core task object) (c, t, o) =
       fed_one _ (shape_text set slots_shape (object ∷ core ∷ task ∷ [])) (shape_line slots_shape (object ∷ core ∷ task ∷ []) refl (o, (c, (t, tt))))
-          (three (codes "refuse slots " ++ (object_at set object).name) (field (codes " core ") core) (field (codes " task ") task) line_feed)
+      (three (codes "refuse slots " ++ (object_at set object).name) (field (codes " core ") core) (field (codes " task ") task) line_feed)
   event_fed (RefuseRecords core task pending spawns) (c, t, p, s) = pair_fed (codes "refuse records ") pending spawns core task refl p s c t
   event_fed (Finish e) h = entry_fed (codes "finish ") e refl h
   event_fed (Found e) h = entry_fed (codes "found ") e refl h
@@ -135,8 +135,8 @@ module _ (set : TaskSet) (named : IsNamed set) (few : set.cores ≤ 8) where
       let of = words_of set o.size words size h in
       let front = joined (codes "object ") o.name refl (ink_printed o.name (named_ink o.name name)) in
       fed_one _ (object_line set o words)
-          (printed_line (object_line set o words) (joined (codes "object " ++ o.name) (shape_text set (words_shape o.size) words) front (shape_printed (words_shape o.size) words (words_front o.size) of)))
-          (ap (λ t. ((codes "object " ++ o.name) ++ t) ++ line_feed) (words_mean set o.size words of).text)
+      (printed_line (object_line set o words) (joined (codes "object " ++ o.name) (shape_text set (words_shape o.size) words) front (shape_printed (words_shape o.size) words (words_front o.size) of)))
+      (ap (λ t. ((codes "object " ++ o.name) ++ t) ++ line_feed) (words_mean set o.size words of).text)
 
   objects_fed : (parts : List ObjPart) (objects : Objects) → AllByRecursion IsName (map (λ o. o.name) parts) → AreTold parts objects → IsFedAs (objects_text parts objects) (object_lines set parts objects)
   objects_fed [] [] names h = record { whole = tt; text_is = refl }
@@ -156,7 +156,7 @@ module _ (set : TaskSet) (named : IsNamed set) (few : set.cores ≤ 8) where
   end_fed : (clock number next boots : ℕ) → IsWord clock → IsWord number → IsWord next → IsWord boots → IsFedAs (end_text clock number next boots) (end_line set clock number next boots ∷ [])
   end_fed clock number next boots c n i b =
       fed_one _ (end_line set clock number next boots) (shape_line end_shape (clock ∷ number ∷ next ∷ boots ∷ []) refl (c, (n, (i, (b, tt)))))
-          (four (field (codes "end clock ") clock) (field (codes " number ") number) (field (codes " next ") next) (field (codes " boots ") boots) line_feed)
+      (four (field (codes "end clock ") clock) (field (codes " number ") number) (field (codes " next ") next) (field (codes " boots ") boots) line_feed)
 
   -- ---- all of it
 
@@ -178,7 +178,7 @@ module _ (set : TaskSet) (named : IsNamed set) (few : set.cores ≤ 8) where
       let two = fed_pair tasks done_text (map (open_line set) r.state.tasks) (codes "done" ∷ []) (tasks_fed r.state.tasks h.state.tasks) last in
       let three = fed_pair objects (tasks ++ done_text) (object_lines set set.objects r.state.objects) (map (open_line set) r.state.tasks ++ codes "done" ∷ []) (objects_fed set.objects r.state.objects named.objects.each h.state.objects) two in
       let four = fed_pair ends (objects ++ (tasks ++ done_text)) (end_line set r.state.clock r.state.number r.state.next h.boots ∷ []) (object_lines set set.objects r.state.objects ++ (map (open_line set) r.state.tasks ++ codes "done" ∷ []))
-          (end_fed r.state.clock r.state.number r.state.next h.boots h.state.clock h.state.number h.state.next h.counted) three in
+      (end_fed r.state.clock r.state.number r.state.next h.boots h.state.clock h.state.number h.state.next h.counted) three in
       let all = fed_pair (lines_text set h.lines) (ends ++ (objects ++ (tasks ++ done_text))) (flat_map (event_lines set) h.lines) (state_lines r.state h.boots) (events_fed h.lines h.told) four in
       record { whole = all.whole; text_is = all.text_is ∙ regrouped (lines_text set h.lines) ends objects tasks done_text ∙ sym h.text }
 
@@ -198,8 +198,8 @@ module _ (set : TaskSet) (named : IsNamed set) (few : set.cores ≤ 8) where
       let tasks = lines_then set (in_state k third) (in_state m fourth) _ (map (open_line set) s.tasks) (codes "done" ∷ []) (tasks_read set named few s.tasks k third all h.state.tasks h.state.in_order) last in
       let objects = lines_then set (in_state (n + 1) second) (in_state k third) _ (object_lines set set.objects s.objects) (map (open_line set) s.tasks ++ codes "done" ∷ []) (objects_read set named few [] set.objects s.objects (n + 1) second refl refl h.state.objects) tasks in
       let ends : after_lines set (among_events n first) (state_lines s h.boots) ≡ Some (record { place = Done; line = m + 1; report = fourth }) =
-          ap (option_and_then (λ q. after_lines set q (object_lines set set.objects s.objects ++ (map (open_line set) s.tasks ++ codes "done" ∷ []))))
-              (end_read set named few n first s.clock s.number s.next h.boots h.state.clock h.state.number h.state.next h.counted)
-          ∙ objects in
+      ap (option_and_then (λ q. after_lines set q (object_lines set set.objects s.objects ++ (map (open_line set) s.tasks ++ codes "done" ∷ []))))
+      (end_read set named few n first s.clock s.number s.next h.boots h.state.clock h.state.number h.state.next h.counted)
+      ∙ objects in
       let read = lines_then set unread (among_events n first) _ (flat_map (event_lines set) events) (state_lines s h.boots) (events_read set named few 1 unread.report events h.told) ends in
       (m + 1, read ∙ ap₂ (λ listing line. Some (record { place = Done; line = m + 1; report = record { listing = listing; end_line = line; state = s } })) (sym h.listing) (sym h.end_line))

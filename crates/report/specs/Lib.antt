@@ -3,4 +3,5 @@ pub mod Fields
 pub mod LineReading
 pub mod Named
 pub mod Readings
+pub mod Sizes
 pub mod Views

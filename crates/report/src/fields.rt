@@ -106,11 +106,7 @@ fn object_of(set: &TaskSet, name: &[u8]) -> Option<ObjId>
 }
 
 /// An object of the set behind these bytes, by its name, and what is left.
-pub(crate) fn object<'a>(
-    set: &TaskSet,
-    front: &[u8],
-    text: &'a [u8],
-) -> Option<(ObjId, &'a [u8])>
+pub(crate) fn object<'a>(set: &TaskSet, front: &[u8], text: &'a [u8]) -> Option<(ObjId, &'a [u8])>
     ensures { option_map (λ p. (p.0.0, p.1.now)) result
         ≡ field_in (value_of set.now Object) front.now text.now }
 {
@@ -131,11 +127,7 @@ fn program_of(set: &TaskSet, name: &[u8]) -> Option<ProgId>
 }
 
 /// A program of the set behind these bytes, by its name, and what is left.
-pub(crate) fn program<'a>(
-    set: &TaskSet,
-    front: &[u8],
-    text: &'a [u8],
-) -> Option<(ProgId, &'a [u8])>
+pub(crate) fn program<'a>(set: &TaskSet, front: &[u8], text: &'a [u8]) -> Option<(ProgId, &'a [u8])>
     ensures { option_map (λ p. (p.0.0, p.1.now)) result
         ≡ field_in (value_of set.now Program) front.now text.now }
 {
@@ -185,9 +177,5 @@ pub(crate) fn cause<'a>(front: &[u8], text: &'a [u8]) -> Option<(TrapCause, &'a 
 pub(crate) fn end(text: &[u8]) -> Option<()>
     ensures { option_map (λ _. []) result ≡ nothing_in text.now }
 {
-    if text.is_empty() {
-        Some(())
-    } else {
-        None
-    }
+    if text.is_empty() { Some(()) } else { None }
 }

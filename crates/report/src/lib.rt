@@ -3,6 +3,7 @@
 
 mod events;
 mod fields;
+pub mod laws;
 mod line_buf;
 mod lines;
 mod pieces;
@@ -15,5 +16,7 @@ pub use line_buf::LineBuf;
 pub use reading::read_report;
 pub use report::{Listing, Report, ReportRefusal, Tasks};
 
+#[cfg(test)]
+mod reading_tests;
 #[cfg(test)]
 mod tests;

@@ -183,12 +183,7 @@ impl Reader {
     }
 
     /// A line of the state.
-    fn take_state(
-        &mut self,
-        alloc: Global,
-        set: &TaskSet,
-        text: &[u8],
-    ) -> Result<(), ReportRefusal>
+    fn take_state(&mut self, alloc: Global, set: &TaskSet, text: &[u8]) -> Result<(), ReportRefusal>
         requires { self.old.line < 2 ^ 32 - 1 }
         ensures { LeavesIf result (after_state set.now self.old text.now) self.old.line self.new }
     {
@@ -200,12 +195,7 @@ impl Reader {
 
     /// Takes one line more, without its line feed. `Bad` exactly where it cannot stand here.
     #[tactic(auto, unfolding(crate::specs::Readings::after_line))]
-    pub fn take(
-        &mut self,
-        alloc: Global,
-        set: &TaskSet,
-        text: &[u8],
-    ) -> Result<(), ReportRefusal>
+    pub fn take(&mut self, alloc: Global, set: &TaskSet, text: &[u8]) -> Result<(), ReportRefusal>
         requires { self.old.line < 2 ^ 32 - 1 }
         ensures { LeavesIf result (after_line set.now self.old text.now) self.old.line self.new }
     {

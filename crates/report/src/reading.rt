@@ -4,7 +4,9 @@ ghost use Rattle.std.specs.Prelude.{◌≡◌, ◌≢◌, ◌<◌, ◌≤◌, �
 ghost use Rattle.std.specs.List.{AllByRecursion};
 ghost use Rattle.set_model.specs.Limits.{IsTaskSet};
 ghost use Rattle.set_model.specs.Names.{IsNamed};
+ghost use Rattle.task_model.specs.Shape.{HasShape};
 ghost use Rattle.report_text.specs.Reports.{IsFirstBadLine, IsReportOf};
+ghost use Rattle.report.specs.Sizes.{IsShort};
 ghost use Rattle.report.specs.declared.report.ReportRefusal.TheVariants.{Bad};
 
 use crate::reader::Reader;
@@ -39,13 +41,11 @@ fn is_named(set: &TaskSet)
 
 /// Reads a report of a set, the whole bytes. `Bad` with the first line that cannot stand where it stands, or with the
 /// line behind the last one where the bytes end too early; `NoMemory` where there was not memory enough.
-pub fn read_report(
-    alloc: Global,
-    set: &TaskSet,
-    bytes: &[u8],
-) -> Result<Report, ReportRefusal>
+pub fn read_report(alloc: Global, set: &TaskSet, bytes: &[u8]) -> Result<Report, ReportRefusal>
     requires { length bytes.now ≤ MAX_INPUT }
     ensures read { IfOk result (λ r. IsReportOf set.now r bytes.now) }
+    ensures shape { IfOk result (λ r. HasShape set.now r.state.objects) }
+    ensures short { IfOk result IsShort }
     ensures bad { (line : ℕ) → result ≡ Err (Bad line) → IsFirstBadLine set.now line bytes.now }
 {
     is_named(set);

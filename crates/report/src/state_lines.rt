@@ -52,11 +52,7 @@ fn words(size: u8, text: &[u8]) -> Option<ObjectWords>
         words.push(word);
         rest = left;
     }
-    if rest.is_empty() {
-        Some(words)
-    } else {
-        None
-    }
+    if rest.is_empty() { Some(words) } else { None }
 }
 
 /// The words of this object, where it is the object of the line.
