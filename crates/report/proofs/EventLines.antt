@@ -1,22 +1,20 @@
 -- The lines of events: each that is read is told by an event, and each that is written is read.
-use Rattle.std.proofs.Common.{◌≡◌, ℕ, ◌+◌, ◌≤◌, ◌||◌, Bool, true, false, cond, List, [], ◌∷◌, ◌++◌, codes, get_or, Option, Some, None, option_map, nat_eq, refl, sym, ap, ◌∙◌, subst, inl, inr, append_assoc, append-nil, is_some, true≢false, ◌⊎◌}
+use Rattle.std.proofs.Common.{◌≡◌, ℕ, ◌||◌, true, List, [], ◌∷◌, ◌++◌, codes, Option, Some, None, option_map, nat_eq, refl, sym, subst, inl, inr, append_assoc, append-nil, is_some, true≢false, ◌⊎◌}
 use Rattle.std.specs.Option.{option_or}
 use Rattle.std.specs.Cmp.Lexicographic.{pointwise, same_text}
-use Rattle.std.proofs.lemmas.Bool.{or_cases, or_left, or_right}
+use Rattle.std.proofs.lemmas.Bool.{or_cases}
 use Rattle.std.proofs.lemmas.Option.{none-some, same_Some}
 use Rattle.nv_base.specs.Texts.{field}
-use Rattle.kernel_model.specs.Effects.{Outcome, Exit, Trap}
 use Rattle.kernel_model.specs.Items.{Entry}
-use Rattle.kernel_model.specs.Turns.{Line, Nothing, Start, Stale, RefuseEmpty, RefuseSlots, RefuseRecords, Finish, Found, Failed, Booted}
+use Rattle.kernel_model.specs.Turns.{Line, Start, Stale, RefuseEmpty, RefuseSlots, RefuseRecords, Finish, Found, Failed, Booted}
 use Rattle.set_model.specs.Sets.{TaskSet, object_at}
-use Rattle.set_model.specs.Names.{IsNamed}
 use Rattle.report_text.specs.Causes.{numbered_cause_word}
 use Rattle.report_text.specs.Lines.{line_feed, line_text, entry_text}
 use Rattle.report_text.specs.Reports.{IsTold, IsToldEntry, line_count, listed_at}
-use Rattle.report.specs.Fields.{Kind, Number, Shape, values_in, fits}
+use Rattle.report.specs.Fields.{Shape, values_in, fits}
 use Rattle.report.specs.LineReading.{start_shape, pair_shape, slots_shape, boot_shape, exit_shape, trap_shape, exit_entry, trap_entry, is_attempt, is_refusal, is_power, is_quiet, entry_in, finish_in}
-use Rattle.report.proofs.Values.{IsOf, same}
-use Rattle.report.proofs.Shapes.{AreOf, shape_text, values_back, values_mean}
+use Rattle.report.proofs.Values.{IsOf}
+use Rattle.report.proofs.Shapes.{AreOf, shape_text, values_mean}
 
 -- ---- what holds of all values of a shape
 

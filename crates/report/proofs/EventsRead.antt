@@ -1,5 +1,5 @@
 -- The lines that events are told by are read as those events.
-use Rattle.std.proofs.Common.{◌≡◌, ℕ, ◌+◌, ◌≤◌, ◌||◌, Bool, true, false, cond, List, [], ◌∷◌, ◌++◌, codes, get_or, Option, Some, None, option_map, nat_eq, flat_map, refl, sym, ap, ◌∙◌, subst, append_assoc, append-nil, is_some, arith, ap₂, ◌<◌, ◌^◌, length, add_assoc}
+use Rattle.std.proofs.Common.{◌≡◌, ℕ, ◌+◌, ◌≤◌, ◌||◌, true, false, List, [], ◌∷◌, ◌++◌, codes, Option, Some, None, option_map, nat_eq, flat_map, refl, ap, ◌∙◌, append_assoc, append-nil, is_some, arith, ap₂, ◌<◌, ◌^◌, length, add_assoc}
 use Rattle.std.specs.Option.{option_or, option_and_then}
 use Rattle.std.specs.Cmp.Lexicographic.{pointwise}
 use Rattle.std.specs.Fmt.{decimal}
@@ -17,8 +17,8 @@ use Rattle.report.specs.declared.reader.Place.TheVariants.{Events}
 use Rattle.report.specs.Fields.{Kind, Number, Core, Object, Cause, Shape, values_in, fits}
 use Rattle.report.specs.LineReading.{start_shape, pair_shape, slots_shape, boot_shape, exit_shape, trap_shape, exit_entry, trap_entry, is_attempt, is_refusal, is_power, is_quiet, attempt_shape, entry_in, finish_in}
 use Rattle.report.specs.Readings.{Reading, after_line, after_lines}
-use Rattle.report.proofs.Values.{IsOf, same}
-use Rattle.report.proofs.Shapes.{AreOf, Opens, shape_text, values_back, field_back, is_spaced}
+use Rattle.report.proofs.Values.{same}
+use Rattle.report.proofs.Shapes.{AreOf, shape_text, values_back, field_back, is_spaced}
 
 -- ---- the lines
 

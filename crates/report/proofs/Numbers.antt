@@ -1,13 +1,13 @@
 -- Numbers that were written are read back, and a word that is read as a number is as that number is written.
 use Rattle.std.proofs.Common.{◌≡◌, ℕ, ◌-◌, ◌<◌, ◌≤◌, ◌^◌, ◌&&◌, ◌||◌, Bool, true, false, not, cond, List, [], ◌∷◌, length, get_or, Option, Some, None, Ok, Err, true≢false, refl, sym, ap, ◌∙◌, ltb, leb, eqb, arith, inl, inr, lit<}
-use Rattle.std.specs.List.{list_all, AllByRecursion}
+use Rattle.std.specs.List.{list_all}
 use Rattle.std.specs.Char.{digit_value}
 use Rattle.std.specs.Fmt.{decimal}
 use Rattle.std.specs.Str.Parse.{digits_value, AllDigits}
-use Rattle.std.proofs.lemmas.Bool.{lt-ltb, ne_eqb, le-ltb, le-leb, ltb-true, ltb-false, leb-true, eqb-true, eqb-false, not-true, not-false, and_parts, and_cases, or_parts, cases_Bool, cases_lt, eq-eqb}
+use Rattle.std.proofs.lemmas.Bool.{lt-ltb, ne_eqb, le-ltb, le-leb, ltb-false, eqb-false, not-true, and_parts, and_cases, or_parts, cases_Bool, cases_lt, eq-eqb}
 use Rattle.std.proofs.lemmas.Option.{none-some, same_Some}
 use Rattle.std.proofs.lemmas.Fmt.{decimal_is_IsNumeral, length-decimal-le, first_decimal, decimal-digits_value, decimal_digit}
-use Rattle.std.proofs.lemmas.Str.Parse.{IsNumeralModel, digit_from_value}
+use Rattle.std.proofs.lemmas.Str.Parse.{IsNumeralModel}
 use Rattle.plain_text.proofs.ForCallers.{all_digits}
 use Rattle.plain_text.specs.declared.numbers.NumberFault.TheVariants.{Range}
 use Rattle.plain_text.specs.Numbers.{value_in, is_numeral, within}

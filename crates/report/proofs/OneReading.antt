@@ -1,6 +1,5 @@
 -- Bytes are read in one way.
-use Rattle.std.proofs.Common.{◌≡◌, ℕ, zero, suc, ◌+◌, ◌≤◌, ◌<◌, List, [], ◌∷◌, ◌++◌, Some, length, take, drop, refl, sym, ap, ◌∙◌, subst, append_assoc, append-nil, arith, length-append, take-append-drop, length-take, inl, inr}
-use Rattle.std.specs.List.{AllByRecursion}
+use Rattle.std.proofs.Common.{◌≡◌, ℕ, zero, suc, ◌≤◌, ◌<◌, List, [], ◌∷◌, ◌++◌, length, take, drop, sym, ap, ◌∙◌, subst, append_assoc, append-nil, arith, length-append, take-append-drop, length-take, inl, inr}
 use Rattle.std.proofs.lemmas.Bool.{cases_lt}
 use Rattle.std.proofs.lemmas.Option.{same_Some}
 use Rattle.set_model.specs.Sets.{TaskSet}
@@ -9,7 +8,7 @@ use Rattle.report_text.specs.Reports.{Report, IsReportOf, AreLines, BeginsReport
 use Rattle.report.specs.declared.reader.Place.TheVariants.{Done}
 use Rattle.report.specs.Readings.{Reading, unread, after_lines}
 use Rattle.report.proofs.FeedCuts.{same_lines, all_lines_are, fed_then}
-use Rattle.report.proofs.WholeReports.{IsFedAs, report_lines, report_fed, report_read}
+use Rattle.report.proofs.WholeReports.{report_lines, report_fed, report_read}
 
 -- lines with the same text are the same lines
 same_rows : (xs ys : List (List ℕ)) → AreLines xs → AreLines ys → fed xs ≡ fed ys → xs ≡ ys

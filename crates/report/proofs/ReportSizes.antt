@@ -1,15 +1,14 @@
 -- How much a report can tell: as many objects as the set has, each of its size, and at most so many finishes and lines.
-use Rattle.std.proofs.Common.{◌≡◌, ℕ, zero, suc, ◌+◌, ◌*◌, ◌≤◌, ◌<◌, List, [], ◌∷◌, ◌++◌, codes, get_or, Option, Some, None, Result, Ok, Err, IfOk, flat_map, map, length, refl, sym, ap, ◌∙◌, subst, arith, length-append}
-use Rattle.std.specs.List.{AllByRecursion}
+use Rattle.std.proofs.Common.{◌≡◌, ℕ, zero, suc, ◌+◌, ◌*◌, ◌≤◌, ◌<◌, List, [], ◌∷◌, ◌++◌, codes, get_or, Some, None, Result, Ok, Err, IfOk, flat_map, map, length, refl, ap, subst, arith, length-append}
 use Rattle.std.proofs.lemmas.List.{length-map}
 use Rattle.kernel_model.specs.Effects.{Objects, object_words}
 use Rattle.kernel_model.specs.Turns.{Line, Nothing, Start, Stale, RefuseEmpty, RefuseSlots, RefuseRecords, Finish, Found, Failed, Booted}
-use Rattle.set_model.specs.Sets.{TaskSet, ObjPart, object_at}
+use Rattle.set_model.specs.Sets.{TaskSet, ObjPart}
 use Rattle.set_model.specs.Names.{IsNamed}
 use Rattle.task_model.specs.Shape.{HasShape}
 use Rattle.report_text.specs.Lines.{line_text}
 use Rattle.report_text.specs.Report.{lines_text, end_part}
-use Rattle.report_text.specs.Reports.{Report, AreTold, IsReportOf, line_count, all_lines, listed_at, listed_from, fed}
+use Rattle.report_text.specs.Reports.{Report, AreTold, IsReportOf, line_count, all_lines, listed_at, listed_from}
 use Rattle.report.specs.declared.report.ReportRefusal.{ReportRefusal}
 use Rattle.report.specs.Sizes.{IsShort}
 use Rattle.report.proofs.EventsRead.{event_lines}

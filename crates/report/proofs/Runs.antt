@@ -1,24 +1,21 @@
 -- Readings over many lines: what they have read begins a report, and every report is read to its end.
-use Rattle.std.proofs.Common.{◌≡◌, ℕ, zero, suc, ◌+◌, ◌≤◌, ◌<◌, ◌⊎◌, Bool, true, false, cond, List, [], ◌∷◌, ◌++◌, codes, Option, Some, None, option_map, flat_map, length, map, refl, sym, ap, ap₂, ◌∙◌, subst, append_assoc, append-nil, arith, ltb, inl, inr, length-append, true≢false, lit<}
-use Rattle.std.specs.Option.{option_or, option_and_then}
+use Rattle.std.proofs.Common.{◌≡◌, ℕ, zero, suc, ◌+◌, ◌⊎◌, Bool, true, false, cond, List, [], ◌∷◌, ◌++◌, Some, option_map, flat_map, length, map, refl, sym, ap, ◌∙◌, subst, append_assoc, append-nil, arith, ltb, inl, inr, length-append, lit<}
+use Rattle.std.specs.Option.{option_and_then}
 use Rattle.std.specs.List.{AllByRecursion}
-use Rattle.std.proofs.lemmas.Bool.{ltb-true, ltb-false, cond-true}
+use Rattle.std.proofs.lemmas.Bool.{ltb-true, ltb-false}
 use Rattle.std.proofs.lemmas.Option.{none-some, same_Some, option_and_then_some, cond_some}
 use Rattle.kernel_model.specs.Effects.{Objects}
-use Rattle.kernel_model.specs.Replay.{TaskRec, DeviceState}
-use Rattle.kernel_model.specs.Turns.{Line}
+use Rattle.kernel_model.specs.Replay.{DeviceState}
 use Rattle.set_model.specs.Sets.{TaskSet, ObjPart, object_at}
 use Rattle.set_model.specs.Limits.{IsWord}
-use Rattle.set_model.specs.Names.{IsNamed}
 use Rattle.report_text.specs.Lines.{end_text, open_text, done_text}
 use Rattle.report_text.specs.Report.{lines_text, objects_text, end_part}
-use Rattle.report_text.specs.Reports.{Report, AreTold, IsToldTask, all_lines, listed_from, IsReportOf, IsReport, AreLines, BeginsReport, fed}
+use Rattle.report_text.specs.Reports.{Report, AreTold, all_lines, listed_from, IsReportOf, IsReport, fed}
 use Rattle.report.specs.declared.reader.Place.{Place}
 use Rattle.report.specs.declared.reader.Place.TheVariants.{Events, State, Done}
 use Rattle.report.specs.LineReading.{object_in, open_in, is_done}
 use Rattle.report.specs.Readings.{Reading, unread, after_line, after_line_at, after_lines, after_state, after_objects, after_object, after_task, after_done, next_task, is_above}
 use Rattle.report.proofs.EventLines.{mapped}
-use Rattle.report.proofs.FeedCuts.{lines_more}
 use Rattle.report.proofs.StateRead.{next_object}
 use Rattle.report.proofs.StateLines.{object_means, open_means, done_means}
 use Rattle.report.proofs.Standing.{InEvents, InState, IsWhole, Stands, StandsAt, next_in_events, object_stands, task_stands, done_stands, at_state, as_many, told_then, objects_then}

@@ -1,12 +1,12 @@
 -- Lines of values: a line that was written is read back, and a line that is read is as it is written.
-use Rattle.std.proofs.Common.{◌≡◌, ℕ, zero, suc, ◌+◌, ◌-◌, ◌<◌, ◌≤◌, ◌^◌, ◌&&◌, Bool, true, false, not, cond, List, [], ◌∷◌, ◌++◌, length, get_or, take, drop, map, Option, Some, None, option_map, nat_eq, refl, sym, ap, ◌∙◌, subst, ltb, leb, eqb, arith, inl, inr, true≢false, append_assoc, append-nil, length-append, take-append-drop}
-use Rattle.std.specs.List.{list_all, AllByRecursion, position_or_len, before_first}
+use Rattle.std.proofs.Common.{◌≡◌, ℕ, zero, suc, ◌<◌, ◌≤◌, ◌^◌, Bool, true, false, List, [], ◌∷◌, ◌++◌, length, take, drop, Option, Some, None, option_map, nat_eq, refl, sym, ap, ◌∙◌, subst, ltb, eqb, arith, true≢false, append_assoc, take-append-drop}
+use Rattle.std.specs.List.{list_all, position_or_len}
 use Rattle.std.specs.Option.{option_and_then}
 use Rattle.std.specs.Cmp.Lexicographic.{pointwise, same_text}
 use Rattle.std.specs.Fmt.{decimal}
 use Rattle.std.specs.Str.Parse.{AllDigits}
 use Rattle.std.proofs.Math.Seq.{drop-append_seam, take-append_seam}
-use Rattle.std.proofs.lemmas.Bool.{and_parts, and_from, lt-ltb, ltb-true, cases_Bool, ne_eqb, eqb-true}
+use Rattle.std.proofs.lemmas.Bool.{and_parts, and_from, lt-ltb, ltb-true, ne_eqb, eqb-true}
 use Rattle.std.proofs.lemmas.Fmt.{decimal_is_IsNumeral}
 use Rattle.std.proofs.lemmas.List.Sums.{list_all-from_AllPass}
 use Rattle.std.proofs.lemmas.Bool.Decides.{nat_tests}
@@ -16,7 +16,7 @@ use Rattle.plain_text.specs.Names.{IsName, is_name_byte}
 use Rattle.report_text.specs.Causes.{numbered_cause_word}
 use Rattle.set_model.specs.Sets.{TaskSet}
 use Rattle.set_model.specs.Names.{IsNamed}
-use Rattle.report.specs.Fields.{Kind, Number, Core, Object, Program, Cause, Shape, is_space, behind, cut, word_behind, with_rest, field_in, value_of, values_in}
+use Rattle.report.specs.Fields.{Kind, Number, Core, Object, Program, Cause, Shape, is_space, behind, cut, with_rest, field_in, value_of, values_in}
 use Rattle.report.proofs.Values.{value_text, IsOf, value_back, value_means, same, at_place, no_object, no_program}
 
 -- ---- lines as they are written

@@ -1,28 +1,26 @@
 -- What stands behind a reading: lines that begin a report.
-use Rattle.std.proofs.Common.{◌≡◌, ℕ, zero, suc, ◌+◌, ◌≤◌, ◌<◌, ◌⊎◌, Bool, true, false, cond, List, [], ◌∷◌, ◌++◌, codes, get_or, Option, Some, None, option_map, nat_eq, flat_map, length, refl, sym, ap, ap₂, ◌∙◌, subst, append_assoc, append-nil, arith, ltb, inl, inr, length-append, add_assoc}
-use Rattle.std.specs.Option.{option_or, option_and_then}
+use Rattle.std.proofs.Common.{◌≡◌, ℕ, suc, ◌+◌, ◌<◌, ◌⊎◌, Bool, true, false, cond, List, [], ◌∷◌, ◌++◌, get_or, Some, option_map, flat_map, length, refl, sym, ap, ap₂, ◌∙◌, subst, append_assoc, append-nil, arith, inl, inr, length-append, add_assoc}
+use Rattle.std.specs.Option.{option_or}
 use Rattle.std.specs.List.{AllByRecursion}
-use Rattle.std.proofs.lemmas.Bool.{ltb-true, ltb-false, cases_Bool}
-use Rattle.std.proofs.lemmas.Option.{none-some, same_Some, option_and_then_some, cond_some}
+use Rattle.std.proofs.lemmas.Bool.{ltb-true}
+use Rattle.std.proofs.lemmas.Option.{same_Some}
 use Rattle.kernel_model.specs.Effects.{Objects}
 use Rattle.kernel_model.specs.Items.{Entry}
-use Rattle.kernel_model.specs.Replay.{TaskRec, DeviceState}
+use Rattle.kernel_model.specs.Replay.{TaskRec}
 use Rattle.kernel_model.specs.Serial.{InIdOrder}
 use Rattle.kernel_model.specs.Turns.{Line}
-use Rattle.set_model.specs.Sets.{TaskSet, ObjPart, object_at}
+use Rattle.set_model.specs.Sets.{TaskSet, ObjPart}
 use Rattle.set_model.specs.Limits.{IsWord}
 use Rattle.report_text.specs.Lines.{line_feed, line_text, end_text, object_text, open_text, done_text}
-use Rattle.report_text.specs.Report.{lines_text, objects_text, end_part}
-use Rattle.report_text.specs.Reports.{Listed, Report, IsTold, AreTold, IsToldTask, IsToldState, line_count, all_lines, listed_at, listed_from, IsReportOf, fed}
+use Rattle.report_text.specs.Report.{lines_text, objects_text}
+use Rattle.report_text.specs.Reports.{Listed, Report, IsTold, AreTold, IsToldTask, line_count, all_lines, listed_at, listed_from, IsReportOf, fed}
 use Rattle.report.specs.declared.reader.Place.{Place}
 use Rattle.report.specs.declared.reader.Place.TheVariants.{Events, State, Done}
-use Rattle.report.specs.LineReading.{is_quiet, finish_in, end_in, object_in, open_in, is_done}
-use Rattle.report.specs.Readings.{Reading, after_line, after_event_line, after_state, after_objects, after_quiet, after_finish, after_end, after_object, after_task, after_done, next_task, is_above}
+use Rattle.report.specs.LineReading.{is_quiet, finish_in, end_in}
+use Rattle.report.specs.Readings.{Reading, after_event_line, after_quiet, after_finish, after_end, after_object, after_task, after_done, is_above}
 use Rattle.report.proofs.EventLines.{IsLineOf, quiet_means, finish_means, either, mapped}
 use Rattle.report.proofs.FeedCuts.{fed_more}
-use Rattle.report.proofs.StateRead.{next_object}
-use Rattle.report.proofs.StateLines.{IsEndLine, IsObjectLine, IsOpenLine, end_means, object_means, open_means, done_means}
-use Rattle.report.proofs.Values.{no_object}
+use Rattle.report.proofs.StateLines.{IsEndLine, IsObjectLine, IsOpenLine, end_means}
 
 -- ---- one event more
 

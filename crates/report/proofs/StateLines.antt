@@ -1,16 +1,16 @@
 -- The lines of the state: each that is read is as it is written.
-use Rattle.std.proofs.Common.{◌≡◌, ℕ, zero, suc, ◌+◌, ◌≤◌, ◌<◌, List, [], ◌∷◌, ◌++◌, codes, get_or, true, Option, Some, None, option_map, nat_eq, flat_map, length, refl, sym, ap, ◌∙◌, subst, append_assoc, append-nil, arith}
+use Rattle.std.proofs.Common.{◌≡◌, ℕ, zero, suc, List, [], ◌∷◌, ◌++◌, codes, get_or, true, Some, flat_map, length, refl, sym, ap, ◌∙◌, subst, append_assoc, append-nil}
 use Rattle.std.specs.Option.{option_and_then}
 use Rattle.std.specs.List.{AllByRecursion}
-use Rattle.std.specs.Cmp.Lexicographic.{pointwise, same_text}
-use Rattle.std.proofs.lemmas.Option.{none-some, same_Some, option_and_then_some}
+use Rattle.std.specs.Cmp.Lexicographic.{same_text}
+use Rattle.std.proofs.lemmas.Option.{option_and_then_some}
 use Rattle.nv_base.specs.Texts.{field}
 use Rattle.kernel_model.specs.Replay.{TaskRec}
 use Rattle.set_model.specs.Sets.{TaskSet, ObjPart, program_at}
 use Rattle.set_model.specs.Limits.{IsWord}
 use Rattle.report_text.specs.Lines.{line_feed, end_text, object_text, open_text, done_text}
 use Rattle.report_text.specs.Reports.{IsToldTask}
-use Rattle.report.specs.Fields.{Number, values_in, behind}
+use Rattle.report.specs.Fields.{values_in, behind}
 use Rattle.report.specs.LineReading.{end_shape, end_in, words_shape, object_in, open_shape, open_task, open_in, is_done}
 use Rattle.report.proofs.Shapes.{AreOf, shape_text, values_mean, behind_means}
 use Rattle.report.proofs.EventLines.{Each, line_means, four, mapped}

@@ -1,21 +1,20 @@
 -- The lines that tell the state at the end of a report are read as that state.
-use Rattle.std.proofs.Common.{◌≡◌, ℕ, zero, suc, ◌+◌, ◌≤◌, ◌<◌, ◌^◌, ◌&&◌, Bool, true, false, cond, List, [], ◌∷◌, ◌++◌, codes, get_or, Option, Some, None, option_map, nat_eq, map, length, refl, sym, ap, ap₂, ◌∙◌, subst, append_assoc, append-nil, arith, ltb, length-append, add_assoc}
-use Rattle.std.specs.Option.{option_or, option_and_then}
+use Rattle.std.proofs.Common.{◌≡◌, ℕ, zero, suc, ◌+◌, ◌≤◌, true, false, List, [], ◌∷◌, ◌++◌, codes, get_or, Some, option_map, map, length, refl, sym, ap, ap₂, ◌∙◌, subst, append_assoc, append-nil, arith, ltb, length-append, add_assoc}
+use Rattle.std.specs.Option.{option_and_then}
 use Rattle.std.specs.List.{AllByRecursion}
 use Rattle.std.proofs.lemmas.Bool.{lt-ltb, le-ltb}
-use Rattle.std.proofs.lemmas.List.{length-map}
 use Rattle.kernel_model.specs.Effects.{Objects}
-use Rattle.kernel_model.specs.Replay.{TaskRec, DeviceState}
+use Rattle.kernel_model.specs.Replay.{TaskRec}
 use Rattle.kernel_model.specs.Serial.{InIdOrder}
 use Rattle.set_model.specs.Sets.{TaskSet, ObjPart, object_at}
 use Rattle.set_model.specs.Limits.{IsWord}
 use Rattle.set_model.specs.Names.{IsNamed}
 use Rattle.report_text.specs.Reports.{Report, AreTold, IsToldTask}
 use Rattle.report.specs.declared.reader.Place.TheVariants.{State, Done}
-use Rattle.report.specs.Fields.{Kind, Number, Program, Shape, values_in, behind}
+use Rattle.report.specs.Fields.{Number, Program, values_in, behind}
 use Rattle.report.specs.LineReading.{end_shape, words_shape, object_in, open_shape, open_task}
 use Rattle.report.specs.Readings.{Reading, after_line, after_lines, after_end, is_above, next_task, after_object}
-use Rattle.report.proofs.Values.{IsOf, no_object}
+use Rattle.report.proofs.Values.{no_object}
 use Rattle.report.proofs.Shapes.{AreOf, shape_text, values_back, rest_back, behind_back, is_spaced}
 use Rattle.report.proofs.EventsRead.{among_events, lines_then}
 

@@ -1,6 +1,5 @@
 -- What the line of an event, or the `end` line, makes of a reading, test by test.
-use Rattle.std.proofs.Common.{◌≡◌, ℕ, ◌≤◌, true, false, List, [], ◌∷◌, Option, Some, None, option_map, refl, sym, ap, ◌∙◌, map, nat_lt, get_or, length, ◌-◌, ◌<◌, suc, arith}
-use Rattle.std.specs.Option.{option_or}
+use Rattle.std.proofs.Common.{◌≡◌, ℕ, ◌≤◌, true, false, List, [], ◌∷◌, Option, Some, None, option_map, refl, sym, ap, map, nat_lt, get_or, length, ◌-◌, ◌<◌, suc, arith}
 use Rattle.nv_base.specs.declared.lines.TaskRec as base_task
 use Rattle.kernel_model.specs.Items.{Entry}
 use Rattle.set_model.specs.Sets.{TaskSet}

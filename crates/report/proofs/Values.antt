@@ -1,5 +1,5 @@
 -- What stands behind a word of a line: a value that was written is read back, and what is read is as the value is written.
-use Rattle.std.proofs.Common.{◌≡◌, ℕ, zero, suc, ◌+◌, ◌-◌, ◌<◌, ◌≤◌, ◌^◌, ◌≢◌, Bool, true, false, List, [], ◌∷◌, ◌++◌, length, get_or, map, Option, Some, None, option_map, nat_eq, find, position, refl, sym, ap, ◌∙◌, subst, ltb, leb, eqb, arith, inl, inr, not, cond, lit<, lit≤, unwrap_or}
+use Rattle.std.proofs.Common.{◌≡◌, ℕ, zero, suc, ◌+◌, ◌<◌, ◌≤◌, ◌≢◌, Bool, true, false, List, [], ◌∷◌, length, get_or, map, Option, Some, None, option_map, nat_eq, find, position, refl, sym, ◌∙◌, subst, ltb, arith, inl, inr, not, cond, lit<, lit≤, unwrap_or}
 use Rattle.std.specs.List.{AllByRecursion, position_or_len}
 use Rattle.std.specs.Option.{option_and_then}
 use Rattle.std.specs.Cmp.Lexicographic.{pointwise, same_text, other_text}
@@ -14,7 +14,7 @@ use Rattle.std.proofs.lemmas.Bool.{cases_Bool, cases_lt, lt-ltb, le-ltb, ltb-tru
 use Rattle.std.proofs.lemmas.Option.{none-some, same_Some, cond_some}
 use Rattle.report_text.specs.Causes.{causes, numbered_cause_word}
 use Rattle.set_model.specs.Sets.{TaskSet, ObjPart, ProgPart, object_at, program_at}
-use Rattle.set_model.specs.Limits.{IsWord, IsTaskSet}
+use Rattle.set_model.specs.Limits.{IsWord}
 use Rattle.set_model.specs.Names.{IsNamed, AreDistinct}
 use Rattle.report.specs.Fields.{Kind, Number, Core, Object, Program, Cause, number_of, if_below, cause_of, place_of, value_of}
 use Rattle.report.proofs.Numbers.{number_back, number_means}

@@ -1,7 +1,6 @@
 -- What a reading that ends says of the bytes: they are a report, or none from this line on.
-use Rattle.std.proofs.Common.{◌≡◌, ℕ, zero, suc, ◌+◌, ◌-◌, ◌^◌, ◌≤◌, ◌<◌, List, [], ◌∷◌, ◌++◌, Option, Some, None, Result, Ok, Err, IfOk, length, refl, sym, ap, ◌∙◌, subst, append_assoc, append-nil, arith, length-append}
+use Rattle.std.proofs.Common.{◌≡◌, ℕ, ◌+◌, ◌-◌, ◌^◌, ◌≤◌, ◌<◌, List, [], ◌∷◌, ◌++◌, Option, Some, None, Result, Ok, Err, IfOk, length, refl, sym, ap, ◌∙◌, subst, append_assoc, append-nil, arith, length-append}
 use Rattle.std.specs.Option.{option_and_then}
-use Rattle.std.specs.List.{AllByRecursion}
 use Rattle.std.proofs.lemmas.Option.{none-some, same_Some}
 use Rattle.set_model.specs.Sets.{TaskSet}
 use Rattle.set_model.specs.Names.{IsNamed}
@@ -12,7 +11,7 @@ use Rattle.report.specs.declared.report.ReportRefusal.TheVariants.{Bad}
 use Rattle.report.specs.Readings.{Reading, unread, after_line, after_lines, LeavesIf, Ends}
 use Rattle.report.proofs.FeedCuts.{IsLine, lines_more, fed_more, same_line, no_line, same_lines, all_lines_are, fed_long}
 use Rattle.report.proofs.Runs.{stands, counted, whole_report, go_on}
-use Rattle.report.proofs.WholeReports.{IsFedAs, report_lines, report_fed, report_read}
+use Rattle.report.proofs.WholeReports.{report_lines, report_fed, report_read}
 
 -- so far these lines were read, and this is left
 pub record HasTaken (set : TaskSet) (bytes rest : List ℕ) (r : Reading) : Type 0 where

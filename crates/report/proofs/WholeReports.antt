@@ -1,10 +1,8 @@
 -- A report is read to its end, and to what it tells; what is refused is refused at the first line that cannot stand.
-use Rattle.std.proofs.Common.{◌≡◌, ◌≢◌, ℕ, zero, suc, ◌+◌, ◌≤◌, ◌<◌, ◌⊎◌, ◌^◌, Bool, true, false, List, [], ◌∷◌, ◌++◌, codes, Option, Some, None, flat_map, map, length, get_or, refl, sym, ap, ap₂, ◌∙◌, subst, append_assoc, append-nil, arith, ltb, inl, inr, length-append}
+use Rattle.std.proofs.Common.{◌≡◌, ℕ, zero, suc, ◌+◌, ◌≤◌, ◌<◌, Bool, true, List, [], ◌∷◌, ◌++◌, codes, Some, None, flat_map, map, length, refl, sym, ap, ap₂, ◌∙◌, append_assoc, append-nil, arith, ltb}
 use Rattle.std.specs.Option.{option_and_then}
 use Rattle.std.specs.List.{AllByRecursion, list_all}
 use Rattle.std.proofs.lemmas.Bool.{lt-ltb, ltb-true, and_parts, and_from}
-use Rattle.std.proofs.lemmas.List.Folds.{list_all-append}
-use Rattle.std.proofs.lemmas.Option.{none-some, same_Some}
 use Rattle.nv_base.specs.Texts.{field}
 use Rattle.kernel_model.specs.Effects.{Objects, Outcome, Exit, Trap}
 use Rattle.kernel_model.specs.Items.{Entry}
@@ -15,21 +13,20 @@ use Rattle.set_model.specs.Limits.{IsWord}
 use Rattle.set_model.specs.Names.{IsNamed, IsName}
 use Rattle.report_text.specs.Causes.{numbered_cause_word}
 use Rattle.report_text.specs.Lines.{line_feed, line_text, entry_text, end_text, object_text, open_text, done_text}
-use Rattle.report_text.specs.Report.{lines_text, objects_text, end_part}
-use Rattle.report_text.specs.Reports.{Report, IsTold, IsToldEntry, IsToldOutcome, AreTold, IsToldTask, IsReportOf, IsReport, AreLines, BeginsReport, IsFirstBadLine, fed, all_lines, listed_from}
+use Rattle.report_text.specs.Report.{lines_text, objects_text}
+use Rattle.report_text.specs.Reports.{Report, IsTold, IsToldEntry, IsToldOutcome, AreTold, IsToldTask, IsReportOf, AreLines, fed, all_lines, listed_from}
 use Rattle.report.specs.declared.reader.Place.TheVariants.{Done}
-use Rattle.report.specs.Fields.{Kind, Number, Core, Object, Program, Cause, Shape}
+use Rattle.report.specs.Fields.{Shape}
 use Rattle.report.specs.LineReading.{words_shape, open_shape, end_shape, start_shape, slots_shape, pair_shape, boot_shape, exit_shape, trap_shape}
-use Rattle.report.specs.Readings.{Reading, unread, after_line, after_lines, after_end}
-use Rattle.report.proofs.Values.{IsOf, value_text}
+use Rattle.report.specs.Readings.{unread, after_lines}
+use Rattle.report.proofs.Values.{value_text}
 use Rattle.report.proofs.Shapes.{AreOf, shape_text, is_ink, value_ink, named_ink}
 use Rattle.report.proofs.EventLines.{one, three, four, five}
 use Rattle.report.proofs.EventsRead.{event_lines, entry_line, entry_line_of, boot_line, lines_then, events_read, among_events}
-use Rattle.report.proofs.StateRead.{end_line, object_line, object_lines, open_line, in_state, with_objects, with_tasks, objects_read, tasks_read, end_read, done_read, words_of}
+use Rattle.report.proofs.StateRead.{end_line, object_line, object_lines, open_line, in_state, objects_read, tasks_read, end_read, done_read, words_of}
 use Rattle.report.proofs.Standing.{as_many}
 use Rattle.report.proofs.StateLines.{pieces, words_mean}
-use Rattle.report.proofs.FeedCuts.{IsLine, fed_then, fed_more, lines_more, same_line, no_line, same_lines, all_lines_are, printed_line}
-use Rattle.report.proofs.Runs.{stands, go_on}
+use Rattle.report.proofs.FeedCuts.{IsLine, fed_then, lines_more, printed_line}
 
 -- ---- the lines of a report
 

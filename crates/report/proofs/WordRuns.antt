@@ -1,5 +1,5 @@
 -- The words of an object, one after another.
-use Rattle.std.proofs.Common.{◌≡◌, ℕ, suc, ◌-◌, ◌+◌, ◌<◌, List, [], ◌∷◌, ◌++◌, codes, Option, Some, None, option_map, append_assoc, append-nil, refl, sym, ap, ◌∙◌, subst, arith, length}
+use Rattle.std.proofs.Common.{◌≡◌, ℕ, suc, ◌-◌, ◌+◌, ◌<◌, List, [], ◌∷◌, ◌++◌, codes, Option, Some, None, option_map, append_assoc, refl, sym, ap, ◌∙◌, arith}
 use Rattle.std.specs.Option.{option_and_then}
 use Rattle.set_model.specs.Sets.{TaskSet}
 use Rattle.report.specs.Fields.{field_in, number_of, values_in, nothing_in}

@@ -1,12 +1,12 @@
 -- The lines of a report as they are read. This project's own.
-use Rattle.std.specs.Prelude.{ℕ, zero, suc, ◌||◌, nat_eq, Bool, List, [], ◌∷◌, ◌++◌, codes, get_or, Option, Some, None, option_map, if◌then◌else◌}
+use Rattle.std.specs.Prelude.{ℕ, zero, suc, ◌||◌, nat_eq, Bool, List, [], ◌∷◌, codes, get_or, Option, option_map}
 use Rattle.std.specs.Cmp.Lexicographic.{pointwise}
 use Rattle.std.specs.Option.{option_and_then, option_or}
 use Rattle.kernel_model.specs.Effects.{Exit, Trap}
 use Rattle.kernel_model.specs.Items.{Entry}
 use Rattle.kernel_model.specs.Replay.{TaskRec}
 use Rattle.set_model.specs.Sets.{TaskSet, ObjPart}
-use Rattle.report.specs.Fields.{Kind, Number, Core, Object, Program, Cause, Shape, values_in, fits, behind}
+use Rattle.report.specs.Fields.{Number, Core, Object, Program, Cause, Shape, values_in, fits, behind}
 
 -- ---- events that tell no finish
 

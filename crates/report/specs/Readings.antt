@@ -2,7 +2,7 @@
 use Rattle.std.specs.Prelude.{◌≡◌, ℕ, ◌+◌, nat_lt, Bool, true, List, [], ◌∷◌, ◌++◌, length, Option, Some, None, option_map, Result, Ok, Err, if◌then◌else◌}
 use Rattle.std.specs.Option.{option_and_then, option_or}
 use Rattle.kernel_model.specs.Items.{Entry}
-use Rattle.kernel_model.specs.Replay.{TaskRec, DeviceState}
+use Rattle.kernel_model.specs.Replay.{TaskRec}
 use Rattle.set_model.specs.Sets.{TaskSet, object_at}
 use Rattle.report_text.specs.Reports.{Report}
 use Rattle.report.specs.declared.reader.Place.{Place}

@@ -1,4 +1,4 @@
-//! The lines of a report, each in a buffer that is made once, and what a report tells.
+//! The lines of a report, each in a buffer that is made once, and reports read back.
 #![tactic(auto)]
 
 mod events;

@@ -1,4 +1,3 @@
-use Rattle.std.proofs.Common.{sym, ◌∙◌}
 use Rattle.std.proofs.lemmas.Result.{err_from_is_err_and}
 use Rattle.report.specs.declared.report.ReportRefusal.TheVariants.{Bad}
 use Rattle.report.proofs.ReportSizes.{report_shape, report_is_short}
