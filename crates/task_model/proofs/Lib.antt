@@ -7,3 +7,8 @@ pub mod Waits
 pub mod Ends
 pub mod Rests
 pub mod ForCallers
+pub mod FitStates
+pub mod FirstSerial
+pub mod OpenFacts
+pub mod TaskLists
+pub mod FirstSteps
