@@ -11,4 +11,7 @@ pub mod FitStates
 pub mod FirstSerial
 pub mod OpenFacts
 pub mod TaskLists
+pub mod TurnLists
+pub mod TableTurns
+pub mod ReplayTurns
 pub mod FirstSteps

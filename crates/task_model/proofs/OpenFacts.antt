@@ -1,5 +1,5 @@
 -- The open tasks of a replay as a map: what is open under each id, and in which order.
-use Rattle.std.proofs.Common.{Less, ◌≡◌, ℕ, zero, suc, ◌+◌, ◌-◌, ◌<◌, ◌≤◌, ◌⊎◌, inl, inr, ⊎_elim, Bool, true, false, cond, leb, eqb, List, [], ◌∷◌, ◌++◌, length, map, slice_get, Option, Some, None, refl, sym, ap, ◌∙◌, add-zero, arith}
+use Rattle.std.proofs.Common.{Less, ◌≡◌, ℕ, zero, suc, ◌+◌, ◌-◌, ◌<◌, ◌≤◌, ◌⊎◌, inl, inr, ⊎_elim, Bool, true, false, cond, leb, eqb, List, [], ◌∷◌, ◌++◌, length, map, take, get_or, slice_get, Option, Some, None, refl, sym, ap, ◌∙◌, add-zero, arith}
 use Rattle.std.specs.Prelude.{◌&&◌}
 use Rattle.std.specs.List.{AllByRecursion}
 use Rattle.std.specs.List.Sorted.{IsStrictlySortedBy}
@@ -7,8 +7,9 @@ use Rattle.std.specs.Map.{keys_of, lookup}
 use Rattle.std.specs.Option.{option_map, option_or}
 use Rattle.std.specs.Ordering.{nat_cmp}
 use Rattle.std.specs.BTreeMap.{is_at}
-use Rattle.std.proofs.lemmas.Bool.{cases_eq, cases_order, eq-eqb, ne_eqb, eqb-true, eqb-false, le-leb, leb-true, leb-false}
+use Rattle.std.proofs.lemmas.Bool.{cases_eq, cases_order, eq-eqb, ne_eqb, eqb-true, eqb-false, le-leb, leb-true, leb-false, lt-leb}
 use Rattle.std.proofs.lemmas.Bool.Decides.{nat_tests}
+use Rattle.std.proofs.lemmas.List.{length-map, length-take-le, map-append, take_more}
 use Rattle.std.proofs.lemmas.Map.Keys.{sorted_head, sorted_tail}
 use Rattle.kernel_model.specs.Effects.{Spawn}
 use Rattle.kernel_model.specs.Replay.{TaskRec, Tasks, child, max_id, task_under, with_children}
@@ -42,22 +43,18 @@ listed_order [] h = tt
 listed_order (e ∷ es) h = (later e.0 es (sorted_head nat_cmp e.0 (keys_of es) h), listed_order es (sorted_tail nat_cmp e.0 (keys_of es) h))
 
 -- children
+same_test : (a b c d : ℕ) → (a ≡ b → c ≡ d) → (c ≡ d → a ≡ b) → eqb a b ≡ eqb c d
+same_test a b c d f g = ⊎_elim (λ e. eq-eqb a b e ∙ sym (eq-eqb c d (f e))) (λ ne. ne_eqb a b ne ∙ sym (ne_eqb c d (λ e. ne (g e)))) (cases_eq a b)
+
 slice_get_more : (xs : List Spawn) (x : Spawn) (k : ℕ) → slice_get (xs ++ x ∷ []) k ≡ option_or (slice_get xs k) (cond (eqb (length xs) k) (Some x) None)
 slice_get_more [] x zero = refl
-slice_get_more [] x (suc k) = refl
+slice_get_more [] x (suc k) = rw (ne_eqb 0 (suc k) (λ e. omega (arith, e))) refl
 slice_get_more (y ∷ xs) x zero = refl
-slice_get_more (y ∷ xs) x (suc k) = slice_get_more xs x k
-
-or-none : (o : Option Spawn) → option_or o None ≡ o
-or-none None = refl
-or-none (Some x) = refl
+slice_get_more (y ∷ xs) x (suc k) = rw (same_test (suc (length xs)) (suc k) (length xs) k (λ e. omega (arith, e)) (λ e. omega (arith, e))) (slice_get_more xs x k)
 
 pub or-assoc : (o p r : Option Spawn) → option_or (option_or o p) r ≡ option_or o (option_or p r)
 or-assoc None p r = refl
 or-assoc (Some x) p r = refl
-
-same_test : (a b c d : ℕ) → (a ≡ b → c ≡ d) → (c ≡ d → a ≡ b) → eqb a b ≡ eqb c d
-same_test a b c d f g = ⊎_elim (λ e. eq-eqb a b e ∙ sym (eq-eqb c d (f e))) (λ ne. ne_eqb a b ne ∙ sym (ne_eqb c d (λ e. ne (g e)))) (cases_eq a b)
 
 child_more : (first : ℕ) (spawns : List Spawn) (x : Spawn) (q : ℕ) → first + length spawns ≤ max_id → child first (spawns ++ x ∷ []) q ≡ option_or (child first spawns q) (cond (eqb (first + length spawns) q) (Some x) None)
 child_more first spawns x q l = go (leb first q) refl (leb q max_id) refl
@@ -73,20 +70,39 @@ child_more first spawns x q l = go (leb first q) refl (leb q max_id) refl
 pub joined_more : (first : ℕ) (spawns : List Spawn) (x : Spawn) (t : Tasks) (q : ℕ) → first + length spawns ≤ max_id → option_or (with_children first spawns t q) (cond (eqb (first + length spawns) q) (Some x) None) ≡ with_children first (spawns ++ x ∷ []) t q
 joined_more first spawns x t q l = or-assoc (t q) (child first spawns q) _ ∙ ap (option_or (t q)) (sym (child_more first spawns x q l))
 
--- one more has no id
-child_past : (first : ℕ) (spawns : List Spawn) (x : Spawn) (q : ℕ) → max_id < first + length spawns → child first (spawns ++ x ∷ []) q ≡ child first spawns q
-child_past first spawns x q l = go (leb first q) refl (leb q max_id) refl
+pub joined_at : (first id i : ℕ) (spawns : List base.Spawn) (d : base.Spawn) (t now : Tasks) (q : ℕ) → i < length spawns → id ≡ first + i → id ≤ max_id → now q ≡ with_children first (map spawn_of (take i spawns)) t q
+    → option_or (now q) (cond (eqb id q) (Some (spawn_of (get_or spawns i d))) None) ≡ with_children first (map spawn_of (take (i + 1) spawns)) t q
+joined_at first id i spawns d t now q l same fits h =
+    let s : Spawn = spawn_of (get_or spawns i d) in
+    let before : List Spawn = map spawn_of (take i spawns) in
+    let count : length before ≡ i = length-map (take i spawns) spawn_of ∙ length-take-le i spawns (omega (arith, l)) in
+    let place : id ≡ first + length before = omega (arith, count, same) in
+    let more : map spawn_of (take (i + 1) spawns) ≡ before ++ s ∷ [] = ap (map spawn_of) (take_more spawns i d l) ∙ map-append spawn_of (take i spawns) (get_or spawns i d ∷ []) in
+    ap (λ (o : Option Spawn). option_or o (cond (eqb id q) (Some s) None)) h
+    ∙ ap (λ n. option_or (with_children first before t q) (cond (eqb n q) (Some s) None)) place
+    ∙ joined_more first before s t q (omega (arith, place, fits))
+    ∙ ap (λ xs. with_children first xs t q) (sym more)
+
+-- what is left has no ids
+slice_get_front : (i k : ℕ) (xs : List base.Spawn) → k < i → slice_get (map spawn_of (take i xs)) k ≡ slice_get (map spawn_of xs) k
+slice_get_front zero k xs l = absurd (omega (arith, l))
+slice_get_front (suc i) k [] l = refl
+slice_get_front (suc i) zero (x ∷ xs) l = refl
+slice_get_front (suc i) (suc k) (x ∷ xs) l = slice_get_front i k xs (omega (arith, l))
+
+child_front : (first i : ℕ) (spawns : List base.Spawn) (q : ℕ) → max_id < first + i → child first (map spawn_of (take i spawns)) q ≡ child first (map spawn_of spawns) q
+child_front first i spawns q l = go (leb first q) refl (leb q max_id) refl
   where
-    go : (b : Bool) → leb first q ≡ b → (c : Bool) → leb q max_id ≡ c → cond (b && c) (slice_get (spawns ++ x ∷ []) (q - first)) None ≡ cond (b && c) (slice_get spawns (q - first)) None
+    go : (b : Bool) → leb first q ≡ b → (c : Bool) → leb q max_id ≡ c → cond (b && c) (slice_get (map spawn_of (take i spawns)) (q - first)) None ≡ cond (b && c) (slice_get (map spawn_of spawns) (q - first)) None
     go true e true f =
         let m : first ≤ q = leb-true first q e in
         let n : q ≤ max_id = leb-true q max_id f in
-        slice_get_more spawns x (q - first) ∙ rw (ne_eqb (length spawns) (q - first) (λ g. omega (arith, g, m, n, l))) (or-none (slice_get spawns (q - first)))
+        slice_get_front i (q - first) spawns (omega (arith, m, n, l))
     go true e false f = refl
     go false e c f = refl
 
-pub joined_past : (first : ℕ) (spawns : List Spawn) (x : Spawn) (t : Tasks) (q : ℕ) → max_id < first + length spawns → with_children first spawns t q ≡ with_children first (spawns ++ x ∷ []) t q
-joined_past first spawns x t q l = ap (option_or (t q)) (sym (child_past first spawns x q l))
+pub joined_all : (first i : ℕ) (spawns : List base.Spawn) (t : Tasks) (q : ℕ) → max_id < first + i → with_children first (map spawn_of (take i spawns)) t q ≡ with_children first (map spawn_of spawns) t q
+joined_all first i spawns t q l = ap (option_or (t q)) (child_front first i spawns q l)
 
 -- the first tasks
 pub child_listed : (first : ℕ) (spawns : List Spawn) (id : ℕ) → first + length spawns ≤ max_id → child first spawns id ≡ task_under (children first spawns) id
@@ -100,4 +116,7 @@ child_listed first (s ∷ spawns) id h = rw (← child_listed (first + 1) spawns
     below l = let z : id - first ≡ suc (id - (first + 1)) = omega arith in rw (ne_eqb first id (λ e. omega arith), le-leb first id (omega arith), le-leb (first + 1) id (omega arith), z) refl
 
     above : id < first → child first (s ∷ spawns) id ≡ cond (eqb first id) (Some s) (child (first + 1) spawns id)
-    above l = rw (ne_eqb first id (λ e. omega arith), lt-leb id first l, lt-leb id (first + 1) (omega arith)) refl
+    above l = rw (ne_eqb first id (λ e. omega arith), lt-leb first id l, lt-leb (first + 1) id (omega arith)) refl
+
+pub first_listed : (es : List (ℕ × base.Spawn)) (tasks : List Spawn) → es ≡ [] → 1 + length tasks ≤ max_id → (id : ℕ) → option_or (option_map spawn_of (lookup (is_at (nat_cmp id)) es)) (child 1 tasks id) ≡ task_under (children 1 tasks) id
+first_listed es tasks e l id = ap (λ (xs : List (ℕ × base.Spawn)). option_or (option_map spawn_of (lookup (is_at (nat_cmp id)) xs)) (child 1 tasks id)) e ∙ child_listed 1 tasks id l

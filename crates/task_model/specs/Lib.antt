@@ -7,3 +7,4 @@ pub mod Finals
 pub mod FirstFinishes
 pub mod Turns
 pub mod Tables
+pub mod Replaying

@@ -1,17 +1,16 @@
 -- The tables of a replay: one copy of each object, and the open tasks, as the program keeps them. This project's own.
-use Rattle.std.specs.Prelude.{◌≡◌, ℕ, ◌<◌, ◌≤◌, ◌*◌, ◌+◌, List, length, sum_by, Option, Some, None}
+use Rattle.std.specs.Prelude.{◌≡◌, ℕ, ◌<◌, length, Option, Some, None}
 use Rattle.std.specs.Option.{option_map}
 use Rattle.std.specs.Ordering.{nat_cmp}
 use Rattle.std.specs.BTreeMap.{get}
 use Rattle.kernel_model.specs.Effects.{Spawn}
 use Rattle.kernel_model.specs.Items.{Entry, FinishRecord}
 use Rattle.kernel_model.specs.Replay as model
-use Rattle.kernel_model.specs.EntryReplay.{Place, Rerun, Good, after_reruns, item_on, replayed_on}
+use Rattle.kernel_model.specs.EntryReplay.{item_on}
 use Rattle.nv_base.specs.declared.lines.Spawn as base
 use Rattle.set_model.specs.Sets.{TaskSet}
-use Rattle.set_model.specs.Formatted.{formatted}
 use Rattle.set_model.specs.Views.{spawn_of}
-use Rattle.task_model.specs.Finals.{AreSpawnsOf, runs_of}
+use Rattle.task_model.specs.Finals.{runs_of}
 use Rattle.task_model.specs.Shape.{HasShape}
 use Rattle.task_model.specs.declared.open_tasks.OpenTasks.{OpenTasks}
 use Rattle.task_model.specs.declared.tables.Tables.{Tables}
@@ -28,22 +27,16 @@ open_under o id = option_map spawn_of (get nat_cmp o.tasks id)
 abbrev pub tables_seen : Tables → model.Tables
 tables_seen t = record { objects = t.objects; tasks = open_under t.open }
 
+-- each open task runs a program of the set
+abbrev pub AreOfSet : TaskSet → model.Tasks → Type 0
+AreOfSet set tasks = (id : ℕ) (s : Spawn) → tasks id ≡ Some s → s.program < length set.programs
+
 -- tables on which the tasks of a set run: the objects are those of the set, by number and size, and each open task runs a program of the set
 pub record AreFit (set : TaskSet) (t : model.Tables) : Type 0 where
   pub shape : HasShape set t.objects
-  pub programs : (id : ℕ) (s : Spawn) → t.tasks id ≡ Some s → s.program < length set.programs
+  pub programs : AreOfSet set t.tasks
 
 -- what the turn of an entry makes of the tables: its finish and how many tasks this spawned, or no finish
 abbrev pub TakesTurn : TaskSet → (old new : model.Tables) → Entry → Option ℕ → Type 0
 TakesTurn set old new e None = item_on (runs_of set) old e ≡ None
 TakesTurn set old new e (Some spawned) = (i : FinishRecord) × (item_on (runs_of set) old e ≡ Some i) × (new ≡ model.after i old) × (spawned ≡ length i.run.spawns)
-
--- the state of a replay after some turns: these finishes were run again, and left these tables
-pub record HasReplayed (set : TaskSet) (done : List Place) (reruns : List Rerun) (r : Replaying) : Type 0 where
-  pub good : replayed_on (runs_of set) (model.tables_of (formatted set)) done ≡ Good reruns
-  pub tables : tables_seen r.tables ≡ after_reruns reruns (model.tables_of (formatted set))
-  pub spawned : AreSpawnsOf r.spawned reruns
-  pub next : r.next ≡ (formatted set).next + sum_by (λ x. length x.item.run.spawns) reruns
-  pub few : r.next ≤ (formatted set).next + 8 * length done
-  pub fit : AreFit set (tables_seen r.tables)
-  pub memory : length r.machine.memory ≡ set.memory

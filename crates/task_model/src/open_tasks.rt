@@ -6,11 +6,12 @@ ghost use Rattle.kernel_model.specs.Replay.{task_under, with_children, without};
 ghost use Rattle.kernel_model.specs.Serial.{InIdOrder};
 ghost use Rattle.set_model.specs.Formatted.{formatted};
 ghost use Rattle.set_model.specs.Views.{spawn_of, task_of};
-ghost use Rattle.task_model.specs.Tables.{open_under};
+ghost use Rattle.task_model.specs.Tables.{AreOfSet, open_under};
 
 use crate::task_list::TaskList;
 use nv_base::limits::MAX_RECORDS;
 use nv_base::{NoMemory, ProgId, Spawn, TaskId, TaskRec};
+use set_model::laws::formatted_state_is_fit;
 use std::alloc::Global;
 use std::collections::BTreeMap;
 use task_set::TaskSet;
@@ -24,13 +25,15 @@ pub(crate) struct OpenTasks {
 impl OpenTasks {
     /// The tasks that a set begins with, under the ids from 1 on.
     pub(crate) fn at_first(alloc: Global, set: &TaskSet) -> Result<OpenTasks, NoMemory>
-        ensures { (id : ℕ)
+        ensures tasks { (id : ℕ)
             → IfOk result (λ o. open_under o id ≡ task_under (formatted set.now).tasks id) }
+        ensures programs { IfOk result (λ o. AreOfSet set.now (open_under o)) }
     {
         let mut open = OpenTasks {
             tasks: BTreeMap::new(alloc),
         };
         open.join(TaskId(1), set.tasks())?;
+        formatted_state_is_fit();
         Ok(open)
     }
 
@@ -60,9 +63,10 @@ impl OpenTasks {
             ≡ with_children first.0 (map spawn_of spawns.now) (open_under self.old) q) }
     {
         for (i, spawn) in spawns.iter().enumerate() {
-            if let Some(id) = first.0.checked_add(i as u32) {
-                self.join_one(id, *spawn)?;
-            }
+            let Some(id) = first.0.checked_add(i as u32) else {
+                return Ok(());
+            };
+            self.join_one(id, *spawn)?;
         }
         Ok(())
     }

@@ -1,12 +1,13 @@
 //! The serial replay of a listing.
 
-ghost use Rattle.std.specs.Prelude.{◌≡◌, ◌++◌, ◌∷◌, ◌+◌, ◌*◌, ◌<◌, ◌≤◌, [], IfOk, ℕ, List, length, map, take, true, false};
-ghost use Rattle.kernel_model.specs.EntryReplay.{Place, Replayed as Answer, Rerun, entry_order, latest};
-ghost use Rattle.set_model.specs.Formatted.{formatted};
+ghost use Rattle.std.specs.Prelude.{◌≡◌, ◌++◌, ◌∷◌, ◌+◌, ◌<◌, ◌≤◌, [], IfOk, OnOk, List, length, map};
+ghost use Rattle.kernel_model.specs.Items.{Entry as Listed};
+ghost use Rattle.kernel_model.specs.EntryReplay.{Place, Rerun, entry_order, latest};
+ghost use Rattle.set_model.specs.Sets.{TaskSet as Parts};
 ghost use Rattle.set_model.specs.Views.{entry_of};
-ghost use Rattle.task_model.specs.Finals.{Answers, AnswersWithSpawns, replay_of};
-ghost use Rattle.task_model.specs.Tables.{GoesOn, HasReplayed};
-ghost use Rattle.task_model.specs.Turns.{IsTurnOf, place_at};
+ghost use Rattle.task_model.specs.Finals.{Answers, AnswersWithSpawns};
+ghost use Rattle.task_model.specs.Tables.{AreFit, tables_seen};
+ghost use Rattle.task_model.specs.Replaying.{GoesOn, HasReplayed};
 
 use crate::finals::{Final, Replay, Replayed};
 use crate::first_finishes::MAX_FINISHES;
@@ -14,6 +15,7 @@ use crate::spawn_counts::SpawnCounts;
 use crate::tables::Tables;
 use crate::turns::{Turn, in_serial_order};
 use kernel_model::entries::{next_place_is_new, replay_goes_on};
+use nv_base::limits::MAX_RECORDS;
 use nv_base::{Entry, NoMemory, Point, Seq, TaskId};
 use rv_core::Machine;
 use std::alloc::Global;
@@ -34,7 +36,8 @@ impl Replaying {
     /// No entry had its turn yet.
     fn begin(alloc: Global, set: &TaskSet, entries: usize) -> Result<Replaying, NoMemory>
         ensures begun { IfOk result (HasReplayed set.now [] []) }
-        ensures counts { IfOk result (λ r. length r.spawned ≡ entries) }
+        ensures places { IfOk result (λ r. length r.spawned ≡ entries) }
+        ensures small { IfOk result (λ r. r.next ≤ MAX_RECORDS + 1) }
     {
         Ok(Replaying {
             tables: Tables::at_first(alloc, set)?,
@@ -52,6 +55,16 @@ impl Replaying {
         entry: &Entry,
         place: u32,
     ) -> Result<bool, NoMemory>
+        requires memory { length self.old.machine.memory ≡ set.now.memory }
+        requires fit { AreFit set.now (tables_seen self.old.tables) }
+        requires inside { place < length self.old.spawned }
+        requires room { self.old.next + 8 < 4294967296 }
+        ensures turn { (entries : List Listed) (done rest : List Place) (p : Place)
+            → (reruns : List Rerun)
+            → entry_order entries ≡ done ++ p ∷ rest → p.place ≡ place → p.entry ≡ entry_of entry.now
+            → HasReplayed set.now done reruns self.old
+            → IfOk result (GoesOn set.now done rest p self.new) }
+        ensures places { OnOk result (length self.new.spawned ≡ length self.old.spawned) }
     {
         next_place_is_new();
         replay_goes_on();
@@ -65,15 +78,27 @@ impl Replaying {
 
     /// The state at the end.
     fn close(self, alloc: Global, listing: &[Entry]) -> Result<Replayed, NoMemory>
+        requires { length listing.now ≤ MAX_FINISHES }
+        ensures { (set : Parts) (reruns : List Rerun)
+            → HasReplayed set (entry_order (map entry_of listing.now)) reruns self
+            → length self.spawned ≡ length listing.now
+            → IfOk result (AnswersWithSpawns set listing.now) }
     {
+        let Replaying {
+            tables,
+            machine: _,
+            spawned,
+            next,
+        } = self;
+        let Tables { objects, open } = tables;
         let end = Final {
-            tasks: self.tables.open.list(alloc)?,
-            objects: self.tables.objects,
+            objects,
+            tasks: open.list(alloc)?,
             clock: latest(listing),
             number: Seq(listing.len() as u32),
-            next: TaskId(self.next),
+            next: TaskId(next),
         };
-        Ok(Replayed::Good(end, self.spawned))
+        Ok(Replayed::Good(end, spawned))
     }
 }
 
@@ -83,7 +108,7 @@ fn latest(listing: &[Entry]) -> Point
 {
     let mut clock = Point(0);
     for entry in listing {
-        clock = clock.max(entry.point);
+        clock = Point(clock.0.max(entry.point.0));
     }
     clock
 }
