@@ -1,10 +1,10 @@
 -- The turns of a replay, one entry after another, and its end.
 use Rattle.std.proofs.Common.{◌≡◌, ℕ, zero, suc, ◌+◌, ◌*◌, ◌<◌, ◌≤◌, Bool, true, false, cond, eqb, max, List, [], ◌∷◌, ◌++◌, length, length-append, map, take, drop, set, get_or, get_or-set_same, get_or-set_other, replicate, slice_get, Option, Some, None, refl, sym, ap, ◌∙◌, subst, add-one, arith}
-use Rattle.std.specs.List.{sum_by}
+use Rattle.std.specs.List.{All, sum_by}
 use Rattle.std.specs.Option.{IfSome}
 use Rattle.std.proofs.Math.Seq.{drop-cons}
 use Rattle.std.proofs.lemmas.Bool.{eqb-true, eqb-false}
-use Rattle.std.proofs.lemmas.List.{map-append, take_more}
+use Rattle.std.proofs.lemmas.List.{get_or-map, length-map, length-take-le, map-append, take-append-drop, take_more}
 use Rattle.std.proofs.lemmas.List.Sums.{sum_by-append, sum_by-cons}
 use Rattle.kernel_model.specs.Effects.{Programs}
 use Rattle.kernel_model.specs.Items.{Entry, FinishRecord}
@@ -16,8 +16,8 @@ use Rattle.set_model.specs.Formatted.{formatted}
 use Rattle.set_model.specs.Views.{entry_of}
 use Rattle.task_model.specs.Finals.{AreSpawnsOf, runs_of}
 use Rattle.task_model.specs.Tables.{AreFit, TakesTurn, tables_seen}
-use Rattle.task_model.specs.Replaying.{HasReplayed}
-use Rattle.task_model.specs.Turns.{place_at}
+use Rattle.task_model.specs.Replaying.{GoesOn, HasReplayed}
+use Rattle.task_model.specs.Turns.{IsTurnOf, entry_at, place_at}
 use Rattle.task_model.specs.declared.turns.Turn.{Turn}
 use Rattle.task_model.specs.declared.replaying.Replaying.{Replaying}
 
@@ -110,14 +110,33 @@ none_at (suc n) (suc k) = none_at n k
 pub order_at : (entries : List Entry) (items : List Turn) (i : ℕ) (d : Turn) → i < length items → map (place_at entries) items ≡ entry_order entries
     → entry_order entries ≡ map (place_at entries) (take i items) ++ place_at entries (get_or items i d) ∷ map (place_at entries) (drop (suc i) items)
 order_at entries items i d l h =
-    sym h ∙ ap (map (place_at entries)) (sym (take_drop i items) ∙ ap (λ xs. take i items ++ xs) (drop-cons items i d l)) ∙ map-append (place_at entries) (take i items) (get_or items i d ∷ drop (suc i) items)
+    sym h ∙ ap (map (place_at entries)) (sym (take-append-drop i items) ∙ ap (λ xs. take i items ++ xs) (drop-cons items i d l)) ∙ map-append (place_at entries) (take i items) (get_or items i d ∷ drop (suc i) items)
 
 pub turn_after : (entries : List Entry) (items : List Turn) (i : ℕ) (d : Turn) → i < length items → map (place_at entries) (take i items) ++ place_at entries (get_or items i d) ∷ [] ≡ map (place_at entries) (take (i + 1) items)
 turn_after entries items i d l = sym (ap (map (place_at entries)) (take_more items i d l) ∙ map-append (place_at entries) (take i items) (get_or items i d ∷ []))
 
--- the next turn
-pub one_more : (s : TaskSet) (entries : List Entry) (items : List Turn) (i : ℕ) (d : Turn) (r : Replaying) → i < length items → ((x : List Rerun) × HasReplayed s (map (place_at entries) (take i items) ++ place_at entries (get_or items i d) ∷ []) x r)
-    → (x : List Rerun) × HasReplayed s (map (place_at entries) (take (i + 1) items)) x r
-one_more s entries items i d r l h =
+pub went_wrong : (s : TaskSet) (entries : List Entry) (items : List Turn) (i : ℕ) (d : Turn) (r : Replaying) (b : Bool) → i < length items → map (place_at entries) items ≡ entry_order entries
+    → GoesOn s (map (place_at entries) (take i items)) (map (place_at entries) (drop (suc i) items)) (place_at entries (get_or items i d)) r b → b ≡ false → replayed_on (runs_of s) (tables_of (formatted s)) (entry_order entries) ≡ Wrong (get_or items i d).place
+went_wrong s entries items i d r b l h w e =
+    let done = map (place_at entries) (take i items) in
+    let rest = map (place_at entries) (drop (suc i) items) in
+    ap (replayed_on (runs_of s) (tables_of (formatted s))) (order_at entries items i d l h) ∙ subst (GoesOn s done rest (place_at entries (get_or items i d)) r) e w
+
+pub went_on : (s : TaskSet) (entries : List Entry) (items : List Turn) (i : ℕ) (d : Turn) (r : Replaying) (b : Bool) → i < length items
+    → GoesOn s (map (place_at entries) (take i items)) (map (place_at entries) (drop (suc i) items)) (place_at entries (get_or items i d)) r b → b ≡ true → (x : List Rerun) × HasReplayed s (map (place_at entries) (take (i + 1) items)) x r
+went_on s entries items i d r b l w e =
+    let done = map (place_at entries) (take i items) in
+    let rest = map (place_at entries) (drop (suc i) items) in
+    let h = subst (GoesOn s done rest (place_at entries (get_or items i d)) r) e w in
     let P : List Place → Type 0 = λ ps. HasReplayed s ps h.0 r in
     (h.0, subst P (turn_after entries items i d l) h.1)
+
+-- the entry of a turn
+pub entry_of_turn : (listing : List base.Entry) (items others : List Turn) (i : ℕ) (d : Turn) (e : base.Entry) → items ≡ others → All (IsTurnOf (map entry_of listing)) others → i < length items → entry_at (map entry_of listing) (get_or items i d).place ≡ entry_of (get_or listing (get_or items i d).place e)
+entry_of_turn listing items others i d e same each l =
+    let turn : IsTurnOf (map entry_of listing) (get_or items i d) = subst (All (IsTurnOf (map entry_of listing))) (sym same) each i d l in
+    get_or-map entry_of listing (get_or items i d).place e _ (omega (arith, turn.inside, length-map listing entry_of))
+
+-- the ids that are left
+pub ids_left : (s : TaskSet) (entries : List Entry) (items : List Turn) (i : ℕ) (reruns : List Rerun) (r : Replaying) → HasReplayed s (map (place_at entries) (take i items)) reruns r → i ≤ length items → r.next ≤ (formatted s).next + 8 * i
+ids_left s entries items i reruns r h l = let n = length-map (take i items) (place_at entries) in let m = length-take-le i items l in omega (arith, h.few, n, m)

@@ -5,6 +5,7 @@ use Rattle.std.specs.List.Sorted.{IsPermutation, IsSorted, IsSortedBy}
 use Rattle.std.specs.Ordering.{is_lt, nat_cmp, ordering_then}
 use Rattle.std.specs.declared.cmp.Ordering.{Ordering}
 use Rattle.std.proofs.lemmas.List.{get_or-map, length-map, length-take-le, map-append, take_more}
+use Rattle.std.proofs.lemmas.List.FromFn.{length-enumerate_from}
 use Rattle.std.proofs.lemmas.List.Elements.{All-from_recursion, recursion_from_All}
 use Rattle.std.proofs.lemmas.List.Sorted.{All-permutation, IsPermutation-map}
 use Rattle.kernel_model.specs.Items.{Entry}
@@ -67,6 +68,9 @@ pub all_turns : (items : List Turn) (listing : List base.Entry) (n : ℕ) → le
 all_turns items listing n l h =
     let entries = map entry_of listing in
     subst (All (IsTurnOf entries)) (sym (whole items listing n l h)) (All-from_recursion (IsTurnOf entries) (map turn_of (enumerate_from 0 listing)) (turns_from entries 0 listing refl))
+
+pub all_many : (items : List Turn) (listing : List base.Entry) (n : ℕ) → length listing ≤ n → items ≡ map turn_of (enumerate_from 0 (take n listing)) → length items ≡ length listing
+all_many items listing n l h = ap length (whole items listing n l h) ∙ length-map (enumerate_from 0 listing) turn_of ∙ length-enumerate_from 0 listing
 
 -- sorted turns name the entries in serial order
 abbrev pub turn_cmp : Turn → Turn → Ordering

@@ -26,6 +26,7 @@ fn turns(alloc: Global, listing: &[Entry]) -> Result<Vec<Turn>, NoMemory>
     requires { length listing.now ≤ MAX_FINISHES }
     ensures places { let entries = map entry_of listing.now in
         IfOk result (λ ts. map (place_at entries) ts.items ≡ places_from 0 entries) }
+    ensures many { IfOk result (λ ts. length ts.items ≡ length listing.now) }
     ensures turns { IfOk result (λ ts. All (IsTurnOf (map entry_of listing.now)) ts.items) }
 {
     let mut turns = Vec::with_capacity(alloc, listing.len())?;
@@ -44,6 +45,7 @@ pub(crate) fn in_serial_order(alloc: Global, listing: &[Entry]) -> Result<Vec<Tu
     requires { length listing.now ≤ MAX_FINISHES }
     ensures order { let entries = map entry_of listing.now in
         IfOk result (λ ts. map (place_at entries) ts.items ≡ entry_order entries) }
+    ensures many { IfOk result (λ ts. length ts.items ≡ length listing.now) }
     ensures turns { IfOk result (λ ts. All (IsTurnOf (map entry_of listing.now)) ts.items) }
 {
     let mut turns = turns(alloc, listing)?;
