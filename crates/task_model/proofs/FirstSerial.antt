@@ -1,7 +1,7 @@
 -- The first finishes are serial.
-use Rattle.std.proofs.Common.{◌≡◌, ℕ, zero, suc, ◌+◌, ◌*◌, ◌≤◌, Bool, true, false, cond, leb, List, [], ◌∷◌, ◌++◌, length, Option, Some, None, refl, sym, ap, ◌∙◌, subst, append_assoc, append-nil, arith}
+use Rattle.std.proofs.Common.{◌≡◌, ℕ, zero, suc, ◌+◌, ◌*◌, ◌≤◌, Bool, true, false, cond, List, [], ◌∷◌, ◌++◌, length, Option, Some, None, refl, sym, ap, subst, append_assoc, append-nil, arith}
 use Rattle.std.proofs.lemmas.Bool.{eq-eqb}
-use Rattle.kernel_model.specs.Effects.{Programs, Run, Spawn, Write}
+use Rattle.kernel_model.specs.Effects.{Programs, Write}
 use Rattle.kernel_model.specs.Items.{Entry, FinishRecord, entry_of}
 use Rattle.kernel_model.specs.Replay.{DeviceState, IsRunOn, TaskRec, max_id, tables_of}
 use Rattle.kernel_model.specs.Serial.{Serial}

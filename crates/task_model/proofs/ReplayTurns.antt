@@ -1,5 +1,5 @@
 -- The turns of a replay, one entry after another, and its end.
-use Rattle.std.proofs.Common.{◌≡◌, ℕ, zero, suc, ◌+◌, ◌*◌, ◌<◌, ◌≤◌, Bool, true, false, cond, eqb, max, List, [], ◌∷◌, ◌++◌, length, length-append, map, take, drop, set, get_or, get_or-set_same, get_or-set_other, replicate, slice_get, Option, Some, None, refl, sym, ap, ◌∙◌, subst, add-one, arith}
+use Rattle.std.proofs.Common.{◌≡◌, ℕ, zero, suc, ◌+◌, ◌*◌, ◌<◌, ◌≤◌, Bool, true, false, cond, eqb, max, List, [], ◌∷◌, ◌++◌, length, length-append, map, take, drop, set, get_or, get_or-set_same, get_or-set_other, replicate, slice_get, Option, Some, None, refl, sym, ap, ◌∙◌, subst, arith}
 use Rattle.std.specs.List.{All, sum_by}
 use Rattle.std.specs.Option.{IfSome}
 use Rattle.std.proofs.Math.Seq.{drop-cons}
@@ -75,8 +75,7 @@ goes_on law places s entries done rest p reruns old new e n order at h turn insi
     let found = subst Q (sym at) (subst P h.tables turn.1) in
     let step = (law (runs_of s) start done rest p reruns h.good).0 i found in
     let place = (places (runs_of s) start entries done rest p reruns order h.good).2 in
-    let f : Rerun → ℕ = λ x. length x.item.run.spawns in
-    (
+    let f : Rerun → ℕ = λ x. length x.item.run.spawns in (
       reruns ++ r ∷ [],
       record {
         good = step.0;

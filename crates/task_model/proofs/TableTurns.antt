@@ -4,15 +4,12 @@ use mathlib.Core.Path.{fun_ext}
 use Rattle.std.specs.Prelude.{◌&&◌}
 use Rattle.std.specs.List.{AllByRecursion}
 use Rattle.std.specs.Option.{option_or}
-use Rattle.kernel_model.specs.Effects.{Objects, Outcome, Programs, Run, Spawn, put}
+use Rattle.kernel_model.specs.Effects.{Objects, Outcome, Programs, Spawn, put}
 use Rattle.kernel_model.specs.Items.{Entry, FinishRecord}
 use Rattle.kernel_model.specs.Replay.{TaskRec, Tables, Tasks, after, child, max_id, task_under, with_children, without}
 use Rattle.kernel_model.specs.EntryReplay.{is_same_outcome, item_if_open, item_on, item_with}
-use Rattle.kernel_model.specs.Fit.{IsRun}
 use Rattle.set_model.specs.Sets.{TaskSet}
-use Rattle.set_model.specs.Numbers.{sizes_of}
-use Rattle.task_model.specs.Shape.{HasShape}
-use Rattle.task_model.specs.Tables.{AreFit, AreOfSet}
+use Rattle.task_model.specs.Tables.{AreOfSet}
 
 -- the entry's task is open, and ends as the entry says
 pub has_item : (whole : Programs) (t : Tables) (e : Entry) (task : Spawn) (outcome : Outcome) → t.tasks e.task ≡ Some task → outcome ≡ (whole task.program task.arg t.objects).outcome → is_same_outcome outcome e.outcome ≡ true
@@ -27,7 +24,7 @@ pub tables_after : (old new : Tables) (mid : Tasks) (i : FinishRecord) (spawns :
     → new ≡ after i old
 tables_after old new mid i spawns o s m n =
     let under : (q : ℕ) → new.tasks q ≡ with_children i.first i.run.spawns (without i.task old.tasks) q =
-        λ q. n q ∙ ap (λ xs. with_children i.first xs mid q) s ∙ ap (λ (x : Option Spawn). option_or x (child i.first i.run.spawns q)) (m q) in
+    λ q. n q ∙ ap (λ xs. with_children i.first xs mid q) s ∙ ap (λ (x : Option Spawn). option_or x (child i.first i.run.spawns q)) (m q) in
     ap₂ (λ (x : Objects) (ts : Tasks). let t : Tables = record { objects = x; tasks = ts } in t) o (fun_ext under)
 
 got : {X : Type 0} (P : X → Type 0) (xs : List X) (k : ℕ) (x : X) → AllByRecursion P xs → slice_get xs k ≡ Some x → P x

@@ -1,12 +1,12 @@
 -- The turns of a listing, and their order.
-use Rattle.std.proofs.Common.{◌≡◌, take_all, ℕ, zero, suc, ◌+◌, ◌≤◌, ◌<◌, Bool, false, List, [], ◌∷◌, ◌++◌, length, map, take, get_or, drop, refl, sym, ap, ap₂, ◌∙◌, subst, add-zero, zero-add, arith}
+use Rattle.std.proofs.Common.{◌≡◌, take_all, ℕ, zero, suc, ◌+◌, ◌≤◌, ◌<◌, List, [], ◌∷◌, ◌++◌, length, map, take, get_or, drop, refl, sym, ap, ap₂, ◌∙◌, subst, arith}
 use Rattle.std.specs.List.{All, AllByRecursion, enumerate_from}
 use Rattle.std.specs.List.Sorted.{IsPermutation, IsSorted, IsSortedBy}
 use Rattle.std.specs.Ordering.{is_lt, nat_cmp, ordering_then}
 use Rattle.std.specs.declared.cmp.Ordering.{Ordering}
 use Rattle.std.proofs.lemmas.List.{get_or-map, length-map, length-take-le, map-append, take_more}
 use Rattle.std.proofs.lemmas.List.FromFn.{length-enumerate_from}
-use Rattle.std.proofs.lemmas.List.Elements.{All-from_recursion, recursion_from_All}
+use Rattle.std.proofs.lemmas.List.Elements.{All-from_recursion}
 use Rattle.std.proofs.lemmas.List.Sorted.{All-permutation, IsPermutation-map}
 use Rattle.kernel_model.specs.Items.{Entry}
 use Rattle.kernel_model.specs.EntryReplay.{Place, comes_before, entry_order, places_from}
@@ -29,8 +29,8 @@ turn_more items listing i d l h =
     let x = get_or listing i d in
     let count : 0 + length (take i listing) ≡ i = omega (arith, length-take-le i listing (omega (arith, l))) in
     let more : map turn_of (enumerate_from 0 (take (i + 1) listing)) ≡ map turn_of (enumerate_from 0 (take i listing)) ++ turn_of (i, x) ∷ [] =
-        ap (λ es. map turn_of (enumerate_from 0 es)) (take_more listing i d l) ∙ ap (map turn_of) (enumerate_more 0 (take i listing) x) ∙ map-append turn_of (enumerate_from 0 (take i listing)) ((0 + length (take i listing), x) ∷ [])
-        ∙ ap (λ n. map turn_of (enumerate_from 0 (take i listing)) ++ turn_of (n, x) ∷ []) count in
+    ap (λ es. map turn_of (enumerate_from 0 es)) (take_more listing i d l) ∙ ap (map turn_of) (enumerate_more 0 (take i listing) x) ∙ map-append turn_of (enumerate_from 0 (take i listing)) ((0 + length (take i listing), x) ∷ [])
+    ∙ ap (λ n. map turn_of (enumerate_from 0 (take i listing)) ++ turn_of (n, x) ∷ []) count in
     ap (λ ts. ts ++ turn_of (i, x) ∷ []) h ∙ sym more
 
 -- what stands at a place

@@ -1,5 +1,5 @@
 -- What a listing leaves, as the program has it, and what its serial replay answers. This project's own, over the kernel model's replay of entries.
-use Rattle.std.specs.Prelude.{◌≡◌, ℕ, ◌<◌, List, length, map, get_or, Some}
+use Rattle.std.specs.Prelude.{◌≡◌, ℕ, ◌<◌, List, length, map, get_or}
 use Rattle.std.specs.List.{AllByRecursion}
 use Rattle.kernel_model.specs.Effects.{Programs}
 use Rattle.kernel_model.specs.Runs.{whole_run}

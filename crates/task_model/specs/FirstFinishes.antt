@@ -1,6 +1,6 @@
 -- The finishes of a set's tasks where the least open task runs, whole and alone, again and again. This project's own.
-use Rattle.std.specs.Prelude.{◌≡◌, ℕ, zero, suc, ◌+◌, ◌*◌, ◌<◌, ◌≤◌, nat_le, List, [], ◌∷◌, length, Option, Some, None, if◌then◌else◌}
-use Rattle.kernel_model.specs.Effects.{Objects, Run, Write}
+use Rattle.std.specs.Prelude.{◌≡◌, ℕ, zero, suc, ◌+◌, ◌*◌, ◌<◌, nat_le, List, [], ◌∷◌, length, Option, Some, None, if◌then◌else◌}
+use Rattle.kernel_model.specs.Effects.{Run, Write}
 use Rattle.kernel_model.specs.Items.{Entry, FinishRecord, entry_of}
 use Rattle.kernel_model.specs.Replay.{DeviceState, TaskRec}
 use Rattle.kernel_model.specs.Durable.{state_left}

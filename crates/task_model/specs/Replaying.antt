@@ -1,5 +1,5 @@
 -- How far a replay has come, as the program keeps it. This project's own.
-use Rattle.std.specs.Prelude.{◌≡◌, ℕ, ◌+◌, ◌*◌, ◌≤◌, Bool, true, false, List, [], ◌∷◌, ◌++◌, length, sum_by}
+use Rattle.std.specs.Prelude.{◌≡◌, ◌+◌, ◌*◌, ◌≤◌, Bool, true, false, List, [], ◌∷◌, ◌++◌, length, sum_by}
 use Rattle.kernel_model.specs.Replay.{tables_of}
 use Rattle.kernel_model.specs.EntryReplay.{Place, Rerun, Good, Wrong, after_reruns, replayed_on}
 use Rattle.set_model.specs.Sets.{TaskSet}

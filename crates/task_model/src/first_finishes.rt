@@ -121,11 +121,7 @@ fn first_finishes_are_serial()
 /// The finishes of a set's tasks where the least open task runs, whole and alone, again and again from the formatted
 /// state, and the state that they leave: at most `n`, and fewer exactly where no task is open, or where there are no
 /// records for what the next one would leave open.
-pub fn serial_first(
-    alloc: Global,
-    set: &TaskSet,
-    n: u32,
-) -> Result<(Vec<Entry>, Final), NoMemory>
+pub fn serial_first(alloc: Global, set: &TaskSet, n: u32) -> Result<(Vec<Entry>, Final), NoMemory>
     requires { n ≤ MAX_FINISHES }
     ensures exact { IfOk result (λ r. AreFirst set.now n (map entry_of r.0.items) (state_of r.1)) }
     ensures serial { IfOk result (λ r. Serial (runs_of set.now) (formatted set.now)

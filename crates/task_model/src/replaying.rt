@@ -116,11 +116,7 @@ fn latest(listing: &[Entry]) -> Point
 /// Runs the entries of a listing whole, one after another in serial order, from the state that a format of the set
 /// leaves: where each one's task is open and ends as the entry says, the state that they leave, and how many tasks
 /// each spawned; else the place in the listing, from 0, of the first entry in serial order of which this is not so.
-pub fn replay_listing(
-    alloc: Global,
-    set: &TaskSet,
-    listing: &[Entry],
-) -> Result<Replayed, NoMemory>
+pub fn replay_listing(alloc: Global, set: &TaskSet, listing: &[Entry]) -> Result<Replayed, NoMemory>
     requires { length listing.now ≤ MAX_FINISHES }
     ensures { IfOk result (AnswersWithSpawns set.now listing.now) }
 {

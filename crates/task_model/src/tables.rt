@@ -8,9 +8,9 @@ ghost use Rattle.set_model.specs.Formatted.{formatted};
 ghost use Rattle.set_model.specs.Views.{entry_of, outcome_of};
 ghost use Rattle.task_model.specs.Tables.{AreFit, TakesTurn, tables_seen};
 
+use crate::laws::tasks_are_a_machine;
 use crate::objects::{Objects, first_objects};
 use crate::open_tasks::OpenTasks;
-use crate::laws::tasks_are_a_machine;
 use crate::whole_run::run_whole;
 use kernel_model::whole_runs::run_is_fit;
 use nv_base::{Entry, NoMemory, Outcome};

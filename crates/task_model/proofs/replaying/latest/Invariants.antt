@@ -1,4 +1,4 @@
-use Rattle.std.proofs.Common.{◌≡◌, max, map, drop}
+use Rattle.std.proofs.Common.{◌≡◌, map, drop}
 use Rattle.kernel_model.specs.EntryReplay.{latest}
 use Rattle.set_model.specs.Views.{entry_of}
 use Rattle.task_model.proofs.replaying.latest.Given as goal

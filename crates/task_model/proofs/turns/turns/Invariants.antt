@@ -1,7 +1,5 @@
 use Rattle.std.proofs.Common.{◌≡◌, map, take}
-use Rattle.std.specs.List.{All, enumerate_from}
-use Rattle.set_model.specs.Views.{entry_of}
-use Rattle.task_model.specs.Turns.{IsTurnOf}
+use Rattle.std.specs.List.{enumerate_from}
 use Rattle.task_model.proofs.TurnLists.{turn_of}
 use Rattle.task_model.proofs.turns.turns.Given as goal
 

@@ -1,4 +1,4 @@
-use Rattle.std.proofs.Common.{◌≡◌, refl, sym, ap, ◌∙◌, length}
+use Rattle.std.proofs.Common.{refl, sym, ap, ◌∙◌, length}
 use Rattle.std.proofs.lemmas.List.{length-map}
 use Rattle.set_model.specs.Views.{spawn_of}
 use Rattle.task_model.specs.Finals.{runs_of, state_of}
@@ -13,8 +13,8 @@ run_whole-requires-clause-program c = first_program _ c.args.self.now.tasks c.in
 pub returns-then-not-has_records-clause-advances : goal.returns-then-not-has_records-clause-advances
 returns-then-not-has_records-clause-advances c = (
   refused c.args.set.now (state_of c.args.self.now) c.args.self.now.tasks c.in-Some.task c.len.result refl (sym c.first.ensures ∙ c.in-Some.is)
-  (c.len.ensures.exact ∙ sym (length-map c.in_ok-whole.whole.spawns spawn_of) ∙ ap length c.in_ok-whole.ensures.exact.spawns)
-  (sym c.has_records.ensures ∙ c.if-not-has_records.true),
+      (c.len.ensures.exact ∙ sym (length-map c.in_ok-whole.whole.spawns spawn_of) ∙ ap length c.in_ok-whole.ensures.exact.spawns)
+      (sym c.has_records.ensures ∙ c.if-not-has_records.true),
   refl,
 )
 
@@ -22,12 +22,11 @@ pub returns-clause-advances : goal.returns-clause-advances
 returns-clause-advances c =
     let t = c.in-Some.task in
     let run = runs_of c.args.set.now t.program.0 t.arg c.args.self.now.objects in
-    let f = c.in_ok-finish.ensures run c.in_ok-whole.ensures.exact in
-    (
+    let f = c.in_ok-finish.ensures run c.in_ok-whole.ensures.exact in (
       finish_with (state_of c.args.self.now) t.id.0 run,
       granted c.args.set.now (state_of c.args.self.now) c.args.self.now.tasks t c.len.result refl (sym c.first.ensures ∙ c.in-Some.is)
-      (c.len.ensures.exact ∙ sym (length-map c.in_ok-whole.whole.spawns spawn_of) ∙ ap length c.in_ok-whole.ensures.exact.spawns)
-      (sym c.has_records.ensures ∙ c.if-not-has_records.false),
+          (c.len.ensures.exact ∙ sym (length-map c.in_ok-whole.whole.spawns spawn_of) ∙ ap length c.in_ok-whole.ensures.exact.spawns)
+          (sym c.has_records.ensures ∙ c.if-not-has_records.false),
       f.0,
       f.1,
     )

@@ -3,7 +3,6 @@ use Rattle.std.specs.Map.Iter.{deref_pair}
 use Rattle.std.proofs.lemmas.Map.Iter.{iter_end}
 use Rattle.kernel_model.specs.Replay.{task_under}
 use Rattle.kernel_model.specs.Serial.{InIdOrder}
-use Rattle.set_model.specs.Views.{task_of}
 use Rattle.task_model.specs.Tables.{listed}
 use Rattle.task_model.proofs.OpenFacts.{listed_order, under_listed}
 use Rattle.task_model.proofs.open_tasks.OpenTasks.list.Goals as goal

@@ -1,4 +1,4 @@
-use Rattle.std.proofs.Common.{◌≡◌, sym, ap, ◌∙◌, length, map, Some}
+use Rattle.std.proofs.Common.{sym, ap, ◌∙◌, length, map}
 use Rattle.std.proofs.lemmas.List.{length-map}
 use Rattle.std.specs.Option.{option_map}
 use Rattle.kernel_model.specs.Replay.{with_children}
@@ -18,12 +18,11 @@ returns-clause-turn c =
     let run = runs_of c.args.set.now task.program.0 task.arg c.args.self.now.objects in
     let whole = c.in_ok-whole.ensures.exact in
     let spawns = c.in_ok-whole.whole.spawns in
-    let mid = open_under c.take.new.self in
-    (
+    let mid = open_under c.take.new.self in (
       item_with e run,
       has_item (runs_of c.args.set.now) old e (spawn_of task) (outcome_of c.in_ok-whole.whole.outcome) (sym c.take.ensures.taken ∙ ap (option_map spawn_of) c.in-Some.is) whole.outcome (sym c.is_same_outcome.ensures ∙ c.if-not-is_same_outcome.false),
       tables_after old (tables_seen (record { objects = c.in_ok-whole.whole.values; «open» = c.join.new.self })) mid (item_with e run) (map spawn_of spawns) whole.values whole.spawns c.take.ensures.others
-      (λ q. c.in_ok-join.ensures q ∙ ap (λ xs. with_children e.first (map spawn_of xs) mid q) c.as_slice.ensures.exact),
+          (λ q. c.in_ok-join.ensures q ∙ ap (λ xs. with_children e.first (map spawn_of xs) mid q) c.as_slice.ensures.exact),
       c.len-spawned.ensures.exact ∙ sym (length-map spawns spawn_of) ∙ ap length whole.spawns,
     )
 
