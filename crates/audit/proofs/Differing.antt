@@ -1,8 +1,7 @@
 -- Which difference a report has, from what its listing's replay answered.
-use Rattle.std.proofs.Common.{◌≡◌, ℕ, zero, suc, ◌+◌, ◌<◌, List, [], ◌∷◌, length, map, get_or, slice_get, Option, Some, None, refl, sym, ap, ◌∙◌, subst, arith}
+use Rattle.std.proofs.Common.{◌≡◌, ℕ, ◌<◌, List, [], ◌∷◌, length, map, get_or, Option, Some, None, refl, sym, ap, ◌∙◌, subst, arith}
 use Rattle.std.specs.Option.{option_or}
 use Rattle.std.proofs.lemmas.List.{get_or-map, length-map}
-use Rattle.kernel_model.specs.Effects.{Exit}
 use Rattle.kernel_model.specs.Items.{Entry}
 use Rattle.kernel_model.specs.Replay.{DeviceState, Tables, after, tables_of}
 use Rattle.kernel_model.specs.EntryReplay as model
@@ -64,7 +63,7 @@ pub replay_differs : (s : TaskSet) (r : Report) (ls : List (ℕ × base.Entry)) 
     → IsFirstDifference s r (Some (get_or ls place d).0)
 replay_differs s r ls es place d h n a l =
     let there : line_at r.listing place ≡ Some (get_or ls place d).0 =
-        ap (λ xs. line_at xs place) h.listing ∙ line_there (map listed_of ls) place (listed_of d) (omega (arith, l, length-map ls listed_of)) ∙ ap (λ (x : Listed). Some x.line) (get_or-map listed_of ls place d (listed_of d) l) in
+    ap (λ xs. line_at xs place) h.listing ∙ line_there (map listed_of ls) place (listed_of d) (omega (arith, l, length-map ls listed_of)) ∙ ap (λ (x : Listed). Some x.line) (get_or-map listed_of ls place d (listed_of d) l) in
     unless s r es (model.Wrong place) (Some (get_or ls place d).0) (ap (wrong_number 0) h.listing ∙ n) (entries_told r ls es h) a (sym there)
 
 leaves_told : (s : TaskSet) (r : Report) (ls : List (ℕ × base.Entry)) (es : List base.Entry) (reruns : List model.Rerun) (f : DeviceState) → AreEntries r ls es → model.Leaves (formatted s) (map entry_of es) reruns f → model.Leaves (formatted s) (entries_of r) reruns f

@@ -1,5 +1,5 @@
 -- What an audit answers. This project's own.
-use Rattle.std.specs.Prelude.{◌≡◌, length, Option, Some, None, Result, Ok, Err}
+use Rattle.std.specs.Prelude.{◌≡◌, length, Some, None, Result, Ok, Err}
 use Rattle.set_model.specs.Sets.{TaskSet}
 use Rattle.report_text.specs.Reports.{Report}
 use Rattle.audit.specs.Differences.{IsFirstDifference, IsSerialReport}

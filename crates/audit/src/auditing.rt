@@ -51,11 +51,7 @@ fn wrong_state(report: &Report, end: &Final) -> Option<u32>
 }
 
 // The line at which a report first differs, if it does.
-fn first_difference(
-    alloc: Global,
-    set: &TaskSet,
-    report: &Report,
-) -> Result<Option<u32>, NoMemory>
+fn first_difference(alloc: Global, set: &TaskSet, report: &Report) -> Result<Option<u32>, NoMemory>
     requires few { length report.now.listing ≤ MAX_FINISHES }
     requires shape { HasShape set.now report.now.state.objects }
     requires end { report.now.end_line ≤ MAX_INPUT }

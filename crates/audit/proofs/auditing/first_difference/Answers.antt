@@ -1,10 +1,10 @@
-use Rattle.std.proofs.Common.{◌≡◌, ◌+◌, sym, ap, ◌∙◌, subst, length, map, arith, ℕ}
+use Rattle.std.proofs.Common.{◌+◌, sym, ap, ◌∙◌, subst, length, map, arith, ℕ}
 use Rattle.report_text.specs.Reports.{Report}
 use Rattle.report.specs.Views.{listed_of}
 use Rattle.nv_base.specs.declared.lines.Entry as base
 use Rattle.nv_base.specs.declared.lines.Outcome.TheVariants.{Exit}
 use Rattle.task_model.specs.Finals.{AreSpawnsOf}
-use Rattle.audit.proofs.Differing.{AreEntries, first_differs, met, none_of, number_differs, objects_left, place_inside, replay_differs, state_differs}
+use Rattle.audit.proofs.Differing.{AreEntries, first_differs, met, none_of, objects_left, place_inside, replay_differs, state_differs}
 use Rattle.audit.proofs.auditing.first_difference.Goals as goal
 
 abbrev zero_listed : ℕ × base.Entry
