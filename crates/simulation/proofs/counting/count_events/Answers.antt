@@ -11,7 +11,7 @@ use Rattle.simulation.specs.Counts.{AreFew, tally_of}
 use Rattle.simulation.specs.Stores.{store, words_in}
 use Rattle.simulation.proofs.Counted.{event_more, few_later, quiet_more, silent, tells, untold}
 use Rattle.simulation.proofs.Fronts.{rose_later}
-use Rattle.simulation.proofs.Going.{begun, boots_below, call_done, goes_on, listed_below, next_is, passes_on, rest_is, same_goes, set_at, some_left}
+use Rattle.simulation.proofs.Going.{begun, boots_below, call_done, goes_on, listed_below, next_is, passes_on, rest_is, same_goes, some_left}
 use Rattle.simulation.proofs.counting.count_events.Goals as goal
 
 pub loop-init : goal.loop-init

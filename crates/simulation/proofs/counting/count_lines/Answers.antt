@@ -1,4 +1,3 @@
-use Rattle.std.proofs.Common.{sym, ◌∙◌}
 use Rattle.schedule_model.specs.Failures.{events_of}
 use Rattle.simulation.proofs.Counted.{none_untold, one_untold}
 use Rattle.simulation.proofs.counting.count_lines.Goals as goal
