@@ -1,5 +1,5 @@
 -- How many words an object within the limits has.
-use Rattle.std.proofs.Common.{ℕ, ◌≤◌}
+use Rattle.std.proofs.Common.{◌≤◌}
 use Rattle.nv_base.specs.declared.limits.TheConstants.{MAX_SIZE}
 use Rattle.set_model.specs.Sets.{ObjPart}
 use Rattle.set_model.specs.Limits.{IsObject}
