@@ -33,7 +33,7 @@ use Rattle.kernel_core.specs.Events.{CutsEvent, IsAt, PassesEvent, SimulatesEven
 use Rattle.kernel_core.specs.Steps.{KeepsSet}
 use Rattle.kernel_core.specs.declared.kernel.Kernel.{Kernel}
 use Rattle.kernel_core.proofs.Lawful.{listed_at}
-use Rattle.simulation.specs.Runs.{Begins, Goes, HasDone, IsHalted, PutsStart, Stops, StopsAfter, first_lines_text, tail_text}
+use Rattle.simulation.specs.Runs.{Begins, Goes, HasDone, IsHalted, PutsStart, Stops, StopsAfter, first_lines_text, found_text, tail_text}
 use Rattle.simulation.specs.Stores.{Store, words_in}
 use Rattle.simulation.specs.declared.halt.Halt.{Halt}
 use Rattle.simulation.specs.declared.halt.Halt.TheVariants as halt
