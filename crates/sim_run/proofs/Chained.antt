@@ -1,5 +1,5 @@
 -- A run that begins on what another left.
-use Rattle.std.proofs.Common.{◌≡◌, ℕ, Bool, true, false, cond, List, ◌++◌, length, take, Option, Some, None, refl, ap, ap₂, sym, ◌∙◌, subst, arith}
+use Rattle.std.proofs.Common.{◌≡◌, ℕ, Bool, true, false, cond, List, ◌++◌, length, take, Some, None, refl, ap, sym, ◌∙◌, subst, arith}
 use Rattle.std.specs.Prelude.{◌==◌}
 use Rattle.std.proofs.lemmas.List.{take_all}
 use Rattle.kernel_model.specs.Events.{Event}
@@ -11,11 +11,11 @@ use Rattle.device_model.specs.Words.{Change, Words}
 use Rattle.device_model.specs.Layouts.{Kind, Plain, Paged, Migrated}
 use Rattle.device_model.specs.Decoding as stored
 use Rattle.device_model.specs.Decoding.{Held, decode, durable_of, is_worn}
-use Rattle.device_model.specs.Devices.{Device, migrated, plain}
+use Rattle.device_model.specs.Devices.{migrated, plain}
 use Rattle.recovery.specs.Images.{words_of}
 use Rattle.headline.specs.Chains.{Follows, IsSerial, begun_with}
 use Rattle.headline.specs.Images.{Decodes, HasImages}
-use Rattle.headline.specs.Runs.{Origin, after, booting_origin, durable_after, state_read, writes_by}
+use Rattle.headline.specs.Runs.{Origin, after, booting_origin, state_read, writes_by}
 use Rattle.kernel_core.specs.declared.open.How.{How}
 use Rattle.kernel_core.specs.declared.open.How.TheVariants.{Fresh, Again}
 use Rattle.simulation.specs.Stores.{Store, words_in}

@@ -9,3 +9,5 @@ pub mod BegunRuns
 pub mod Starting
 pub mod Stopped
 pub mod Chained
+pub mod MadeRead
+pub mod Summing

@@ -1,15 +1,14 @@
 -- A run that was stopped, from where its call begins.
-use Rattle.std.proofs.Common.{◌≡◌, ◌⊎◌, inl, inr, ℕ, List, ◌++◌, length, Option, None, Some, Result, Ok, refl, sym, ◌∙◌, subst}
+use Rattle.std.proofs.Common.{◌≡◌, inl, inr, ℕ, List, Option, None, Some, Result, Ok, refl, sym, ◌∙◌, subst}
 use Rattle.std.specs.Prelude.{◌≢◌}
 use Rattle.nv_base.specs.Streams.{Stream}
 use Rattle.kernel_model.specs.Events.{Event}
 use Rattle.set_model.specs.Sets.{TaskSet}
 use Rattle.device_model.specs.Words.{Change}
-use Rattle.headline.specs.Images.{HasImages}
 use Rattle.kernel_core.specs.declared.kernel.Kernel.{Kernel}
 use Rattle.kernel_core.specs.declared.open.How.{How}
 use Rattle.simulation.specs.Runs.{Stops}
-use Rattle.simulation.specs.Stores.{Store, words_in}
+use Rattle.simulation.specs.Stores.{Store}
 use Rattle.simulation.specs.declared.halt.Halt.{Halt}
 use Rattle.simulation.specs.declared.halt.Halt.TheVariants as halt
 use Rattle.schedule_model.specs.Failures.{events_of}
@@ -18,9 +17,8 @@ use Rattle.script.specs.Causes.{ScriptError}
 use Rattle.answers.specs.Names.{PutsName}
 use Rattle.answers.specs.declared.status.Status.{Status}
 use Rattle.answers.specs.declared.status.Status.TheVariants.{Done, Usage, ReadFault, WriteFault, NoMemory, DeviceLost, Image, Small, Script, Packed}
-use Rattle.sim_run.specs.Answers.{Exchange, OfInput}
+use Rattle.sim_run.specs.Answers.{Exchange, input_of}
 use Rattle.sim_run.specs.Halts.{status_at}
-use Rattle.sim_run.specs.Origins.{begin_on, opened_on}
 use Rattle.sim_run.specs.Promises.{HasOpenedPart, IsBegun}
 use Rattle.sim_run.specs.Stopping.{HasStopped, KeepsStop, StoppedAs, StopsTo, TellsStop}
 use Rattle.sim_run.specs.declared.command.Command.{Command}
@@ -68,4 +66,4 @@ same_stop how a b r old new sink now status e f h = let ok : Ok a ≡ Ok b = sym
 pub stop_told : (command : Option Command) (x : Exchange) (new : Stream) (status : Status) → PutsName status x.sink_now new → KeepsStop command x status → TellsStop command (later x new) status
 stop_told None x new status name h = tt
 stop_told (Some c) x new status name h =
-    on_input x.source.bytes (StopsTo c x.device x.device_now x.sink x.sink_now status) (λ input. (middle : Stream) × StopsTo c x.device x.device_now x.sink middle status input × PutsName status middle new) (λ input s. (x.sink_now, s, name)) h
+    on_input (input_of c x) (StopsTo c x.device x.device_now x.sink x.sink_now status) (λ input. (middle : Stream) × StopsTo c x.device x.device_now x.sink middle status input × PutsName status middle new) (λ input s. (x.sink_now, s, name)) h

@@ -1,5 +1,5 @@
 -- A chain of calls is one history: `resume` goes on with what the call before it left. This project's own.
-use Rattle.std.specs.Prelude.{◌≡◌, List, ◌++◌}
+use Rattle.std.specs.Prelude.{List, ◌++◌}
 use Rattle.kernel_model.specs.Events.{Event}
 use Rattle.kernel_model.specs.Items.{listing}
 use Rattle.kernel_model.specs.Durable.{listed}
