@@ -19,7 +19,7 @@ use Rattle.power_trace.specs.declared.event.Event as own
 use Rattle.device_model.specs.Words.{Change, Words}
 use Rattle.set_model.specs.Views.{entry_if, entry_of, line_of}
 use Rattle.headline.specs.Runs.{Origin, after, all_lines, event_lines, first_state, world_from}
-use Rattle.kernel_core.specs.Events.{IsAt, PassesEvent, SimulatesEvent}
+use Rattle.kernel_core.specs.Events.{IsAt, SimulatesEvent}
 use Rattle.kernel_core.specs.declared.kernel.Kernel.{Kernel}
 use Rattle.simulation.specs.Counts.{AreFew, fails_in, refusals_in, stales_in, tally_of, total, with_line}
 use Rattle.simulation.specs.declared.tally.Tally.{Tally}
@@ -75,10 +75,9 @@ nothing_more : (t : Tally) → with_line t Nothing ≡ t
 nothing_more t = rw (add-zero t.finishes, add-zero t.stales, add-zero t.refusals, add-zero t.fails, add-zero t.boots) refl
 
 -- an event that tells nothing
-pub quiet_more : (o : Origin) (events : List Event) (n : ℕ) (k j : Kernel) (words : Words) (log : List Change) (e : own.Event) (t : Tally) → slice_get events n ≡ Some (event_of e) → PassesEvent k e j → IsAt o k words (after o (take n events)) → t ≡ tally_of (event_lines o (take n events)) → t ≡ tally_of (event_lines o (take (n + 1) events))
-unfolding PassesEvent
-quiet_more o events n k j words log e t at passes is counts =
-    event_more o events n (event_of e) own_line.Nothing t t at (tells o (after o (take n events)) k j words words log log e own_line.Nothing is (passes words log)) counts (sym (nothing_more t))
+pub quiet_more : (o : Origin) (events : List Event) (n : ℕ) (k j : Kernel) (words later : Words) (log grown : List Change) (e : own.Event) (t : Tally) → slice_get events n ≡ Some (event_of e) → SimulatesEvent k e words log j later grown own_line.Nothing → IsAt o k words (after o (take n events)) → t ≡ tally_of (event_lines o (take n events)) → t ≡ tally_of (event_lines o (take (n + 1) events))
+quiet_more o events n k j words later log grown e t at turns is counts =
+    event_more o events n (event_of e) own_line.Nothing t t at (tells o (after o (take n events)) k j words later log grown e own_line.Nothing is turns) counts (sym (nothing_more t))
 
 pub few_later : (n : ℕ) (t : Tally) → AreFew n t → AreFew (n + 1) t
 few_later n t h = record {

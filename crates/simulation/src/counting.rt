@@ -50,8 +50,11 @@ fn count_events<F: Fram>(
         let Some(event) = events.next() else {
             unreachable!();
         };
-        // most events only step a machine, or find nothing to do
-        if kernel.pass(event) {
+        // most events tell nothing
+        let Ok(taken) = kernel.pass(dev, event) else {
+            return Err(Lost);
+        };
+        if taken {
             continue;
         }
         let Ok(line) = kernel.turn(dev, event) else {

@@ -1,4 +1,4 @@
-use Rattle.std.proofs.Common.{◌≡◌, ◌<◌, ℕ, List, length, take, refl, sym, ap, ◌∙◌, subst, arith}
+use Rattle.std.proofs.Common.{◌≡◌, ◌<◌, ℕ, List, Ok, length, take, refl, sym, ap, ◌∙◌, subst, arith}
 use Rattle.std.proofs.lemmas.List.{take_all}
 use Rattle.schedule_model.specs.Failures.{events_of}
 use Rattle.schedule_model.specs.Parts.{IsOfCores}
@@ -33,7 +33,7 @@ pub pass-requires-clause-at : goal.pass-requires-clause-at
 pass-requires-clause-at g c =
     let b = c.requires.begins in
     let goes = c.loop.invariant.goes b.0 b.1 in
-    (words_in (store g.F.Fram.start g.F.Fram.log g.F.Fram.lost c.loop.dev), (b.0, _, goes.at))
+    (b.0, _, goes.at)
 
 pub pass-requires-clause-core : goal.pass-requires-clause-core
 pass-requires-clause-core g c =
@@ -46,10 +46,26 @@ pass-requires-clause-few g c =
     let b = c.requires.begins in
     listed_below b.0 (events_of c.args.schedule.now) c.loop.counter c.loop.kernel _ _ _ _ (omega (arith, c.loop-test.true, c.len-end.ensures.count)) (c.loop.invariant.goes b.0 b.1)
 
+pub pass-requires-clause-boots : goal.pass-requires-clause-boots
+pass-requires-clause-boots g c =
+    let b = c.requires.begins in
+    boots_below b.0 (events_of c.args.schedule.now) c.loop.counter c.args.kernel.now _ _ _ _ c.kernel_is_at_state.ensures.boots b.1 (omega (arith, c.loop-test.true, c.len-end.ensures.count)) c.loop.kernel (c.loop.invariant.goes b.0 b.1)
+
+pub returns-in_default-pass-clause-done : goal.returns-in_default-pass-clause-done
+returns-in_default-pass-clause-done g c = λ o b.
+    let events = events_of c.args.schedule.now in
+    let is = next_is events c.loop.counter (event_of c.in-Some.event) c.next.new.self (sym c.loop.invariant.left ∙ c.in-Some.ensures.steps) in
+    let less : c.loop.counter < length events = omega (arith, c.loop-test.true, c.len-end.ensures.count) in
+    call_done o events c.loop.counter c.loop.kernel _ (store g.F.Fram.start g.F.Fram.log g.F.Fram.lost c.loop.dev) (store g.F.Fram.start g.F.Fram.log g.F.Fram.lost c.pass.new.dev) c.in-Some.event _ _ c.images_follow_events.ensures.more
+    (c.loop.invariant.goes o b) is less c.in_default-pass.ensures.cut c.in_default-pass.ensures.start
+
+pub returns-in_default-pass-clause-lost : goal.returns-in_default-pass-clause-lost
+returns-in_default-pass-clause-lost g c = rose_later (g.F.Fram.lost c.args.dev.now) (g.F.Fram.lost c.loop.dev) (g.F.Fram.lost c.pass.new.dev) c.loop.invariant.losses c.in_default-pass.ensures.failed
+
 pub turn-requires-clause-at : goal.turn-requires-clause-at
 turn-requires-clause-at g c =
     let b = c.requires.begins in
-    let goes = same_goes b.0 (events_of c.args.schedule.now) c.loop.counter c.loop.kernel c.pass.new.self _ _ _ _ (c.pass.ensures.kept c.if-pass.false) (c.loop.invariant.goes b.0 b.1) in
+    let goes = same_goes b.0 (events_of c.args.schedule.now) c.loop.counter c.loop.kernel c.pass.new.self _ _ _ _ _ (c.in-Ok.ensures.kept (ap Ok c.if-taken.false)).0 (ap (store g.F.Fram.start g.F.Fram.log g.F.Fram.lost) (c.in-Ok.ensures.kept (ap Ok c.if-taken.false)).1) (c.loop.invariant.goes b.0 b.1) in
     (b.0, _, goes.at)
 
 pub turn-requires-clause-core : goal.turn-requires-clause-core
@@ -61,23 +77,23 @@ turn-requires-clause-core g c =
 pub turn-requires-clause-few : goal.turn-requires-clause-few
 turn-requires-clause-few g c =
     let b = c.requires.begins in
-    listed_below b.0 (events_of c.args.schedule.now) c.loop.counter c.pass.new.self _ _ _ _ (omega (arith, c.loop-test.true, c.len-end.ensures.count)) (same_goes b.0 (events_of c.args.schedule.now) c.loop.counter c.loop.kernel c.pass.new.self _ _ _ _ (c.pass.ensures.kept c.if-pass.false) (c.loop.invariant.goes b.0 b.1))
+    listed_below b.0 (events_of c.args.schedule.now) c.loop.counter c.pass.new.self _ _ _ _ (omega (arith, c.loop-test.true, c.len-end.ensures.count)) (same_goes b.0 (events_of c.args.schedule.now) c.loop.counter c.loop.kernel c.pass.new.self _ _ _ _ _ (c.in-Ok.ensures.kept (ap Ok c.if-taken.false)).0 (ap (store g.F.Fram.start g.F.Fram.log g.F.Fram.lost) (c.in-Ok.ensures.kept (ap Ok c.if-taken.false)).1) (c.loop.invariant.goes b.0 b.1))
 
 pub turn-requires-clause-boots : goal.turn-requires-clause-boots
 turn-requires-clause-boots g c =
     let b = c.requires.begins in
-    boots_below b.0 (events_of c.args.schedule.now) c.loop.counter c.args.kernel.now _ _ _ _ c.kernel_is_at_state.ensures.boots b.1 (omega (arith, c.loop-test.true, c.len-end.ensures.count)) c.pass.new.self (same_goes b.0 (events_of c.args.schedule.now) c.loop.counter c.loop.kernel c.pass.new.self _ _ _ _ (c.pass.ensures.kept c.if-pass.false) (c.loop.invariant.goes b.0 b.1))
+    boots_below b.0 (events_of c.args.schedule.now) c.loop.counter c.args.kernel.now _ _ _ _ c.kernel_is_at_state.ensures.boots b.1 (omega (arith, c.loop-test.true, c.len-end.ensures.count)) c.pass.new.self (same_goes b.0 (events_of c.args.schedule.now) c.loop.counter c.loop.kernel c.pass.new.self _ _ _ _ _ (c.in-Ok.ensures.kept (ap Ok c.if-taken.false)).0 (ap (store g.F.Fram.start g.F.Fram.log g.F.Fram.lost) (c.in-Ok.ensures.kept (ap Ok c.if-taken.false)).1) (c.loop.invariant.goes b.0 b.1))
 
 pub returns-in_default-turn-clause-done : goal.returns-in_default-turn-clause-done
 returns-in_default-turn-clause-done g c = λ o b.
     let events = events_of c.args.schedule.now in
     let is = next_is events c.loop.counter (event_of c.in-Some.event) c.next.new.self (sym c.loop.invariant.left ∙ c.in-Some.ensures.steps) in
     let less : c.loop.counter < length events = omega (arith, c.loop-test.true, c.len-end.ensures.count) in
-    call_done o events c.loop.counter c.pass.new.self _ (store g.F.Fram.start g.F.Fram.log g.F.Fram.lost c.loop.dev) (store g.F.Fram.start g.F.Fram.log g.F.Fram.lost c.turn.new.dev) c.in-Some.event _ _ c.images_follow_events.ensures.more
-    (same_goes o (events_of c.args.schedule.now) c.loop.counter c.loop.kernel c.pass.new.self _ _ _ _ (c.pass.ensures.kept c.if-pass.false) (c.loop.invariant.goes o b)) is less c.in_default-turn.ensures.cut c.in_default-turn.ensures.start
+    call_done o events c.loop.counter c.pass.new.self _ (store g.F.Fram.start g.F.Fram.log g.F.Fram.lost c.pass.new.dev) (store g.F.Fram.start g.F.Fram.log g.F.Fram.lost c.turn.new.dev) c.in-Some.event _ _ c.images_follow_events.ensures.more
+    (same_goes o (events_of c.args.schedule.now) c.loop.counter c.loop.kernel c.pass.new.self _ _ _ _ _ (c.in-Ok.ensures.kept (ap Ok c.if-taken.false)).0 (ap (store g.F.Fram.start g.F.Fram.log g.F.Fram.lost) (c.in-Ok.ensures.kept (ap Ok c.if-taken.false)).1) (c.loop.invariant.goes o b)) is less c.in_default-turn.ensures.cut c.in_default-turn.ensures.start
 
 pub returns-in_default-turn-clause-lost : goal.returns-in_default-turn-clause-lost
-returns-in_default-turn-clause-lost g c = rose_later (g.F.Fram.lost c.args.dev.now) (g.F.Fram.lost c.loop.dev) (g.F.Fram.lost c.turn.new.dev) c.loop.invariant.losses c.in_default-turn.ensures.failed
+returns-in_default-turn-clause-lost g c = rose_later (g.F.Fram.lost c.args.dev.now) (g.F.Fram.lost c.pass.new.dev) (g.F.Fram.lost c.turn.new.dev) (omega (arith, c.loop.invariant.losses, c.pass.ensures.never_falls)) c.in_default-turn.ensures.failed
 
 pub loop-preserved : goal.loop-preserved
 loop-preserved g c =
@@ -88,33 +104,33 @@ loop-preserved g c =
       steps = (tt, tt);
       left = rest_is events c.loop.counter (event_of c.in-Some.event) c.next.new.self next;
       goes = λ o b.
-          let goes = same_goes o (events_of c.args.schedule.now) c.loop.counter c.loop.kernel c.pass.new.self _ _ _ _ (c.pass.ensures.kept c.if-pass.false) (c.loop.invariant.goes o b) in
-          goes_on o events c.loop.counter c.pass.new.self c.turn.new.self _ (store g.F.Fram.start g.F.Fram.log g.F.Fram.lost c.loop.dev) (store g.F.Fram.start g.F.Fram.log g.F.Fram.lost c.turn.new.dev) c.in-Some.event c.in-Ok.line silent silent silent o.device.set
-          c.kernel_is_at_state.ensures.durable c.images_follow_events.ensures.more goes is c.in-Ok.ensures.simulates c.in-Ok.ensures.start c.in-Ok.ensures.never_falls c.in-Ok.ensures.rest c.in-Ok.ensures.live refl (untold _);
+          let goes = same_goes o (events_of c.args.schedule.now) c.loop.counter c.loop.kernel c.pass.new.self _ _ _ _ _ (c.in-Ok.ensures.kept (ap Ok c.if-taken.false)).0 (ap (store g.F.Fram.start g.F.Fram.log g.F.Fram.lost) (c.in-Ok.ensures.kept (ap Ok c.if-taken.false)).1) (c.loop.invariant.goes o b) in
+          goes_on o events c.loop.counter c.pass.new.self c.turn.new.self _ (store g.F.Fram.start g.F.Fram.log g.F.Fram.lost c.pass.new.dev) (store g.F.Fram.start g.F.Fram.log g.F.Fram.lost c.turn.new.dev) c.in-Some.event c.in-Ok-turn.line silent silent silent o.device.set
+          c.kernel_is_at_state.ensures.durable c.images_follow_events.ensures.more goes is c.in-Ok-turn.ensures.simulates c.in-Ok-turn.ensures.start c.in-Ok-turn.ensures.never_falls c.in-Ok-turn.ensures.rest c.in-Ok-turn.ensures.live refl (untold _);
       counts = λ o b.
-          let goes = same_goes o (events_of c.args.schedule.now) c.loop.counter c.loop.kernel c.pass.new.self _ _ _ _ (c.pass.ensures.kept c.if-pass.false) (c.loop.invariant.goes o b) in
-          event_more o events c.loop.counter (event_of c.in-Some.event) c.in-Ok.line c.loop.tally c.add.new.self is (tells o _ _ _ _ _ _ _ c.in-Some.event c.in-Ok.line goes.at c.in-Ok.ensures.simulates) (c.loop.invariant.counts o b) c.add.ensures.counts;
+          let goes = same_goes o (events_of c.args.schedule.now) c.loop.counter c.loop.kernel c.pass.new.self _ _ _ _ _ (c.in-Ok.ensures.kept (ap Ok c.if-taken.false)).0 (ap (store g.F.Fram.start g.F.Fram.log g.F.Fram.lost) (c.in-Ok.ensures.kept (ap Ok c.if-taken.false)).1) (c.loop.invariant.goes o b) in
+          event_more o events c.loop.counter (event_of c.in-Some.event) c.in-Ok-turn.line c.loop.tally c.add.new.self is (tells o _ _ _ _ _ _ _ c.in-Some.event c.in-Ok-turn.line goes.at c.in-Ok-turn.ensures.simulates) (c.loop.invariant.counts o b) c.add.ensures.counts;
       few = c.add.ensures.few c.loop.counter c.loop.invariant.few;
-      set = c.in-Ok.ensures.rest.set ∙ c.pass.ensures.rest.set ∙ c.loop.invariant.set;
-      start = c.in-Ok.ensures.start ∙ c.loop.invariant.start;
-      losses = omega (arith, c.loop.invariant.losses, c.in-Ok.ensures.never_falls);
+      set = c.in-Ok-turn.ensures.rest.set ∙ c.pass.ensures.rest.set ∙ c.loop.invariant.set;
+      start = c.in-Ok-turn.ensures.start ∙ c.pass.ensures.start ∙ c.loop.invariant.start;
+      losses = omega (arith, c.loop.invariant.losses, c.pass.ensures.never_falls, c.in-Ok-turn.ensures.never_falls);
     }
 
-pub loop-preserved-then-pass : goal.loop-preserved-then-pass
-loop-preserved-then-pass g c =
+pub loop-preserved-then-taken : goal.loop-preserved-then-taken
+loop-preserved-then-taken g c =
     let events = events_of c.args.schedule.now in
     let next = sym c.loop.invariant.left ∙ c.in-Some.ensures.steps in
     let is = next_is events c.loop.counter (event_of c.in-Some.event) c.next.new.self next in
     record {
       steps = (tt, tt);
       left = rest_is events c.loop.counter (event_of c.in-Some.event) c.next.new.self next;
-      goes = λ o b. passes_on o events c.loop.counter c.loop.kernel c.pass.new.self _ (store g.F.Fram.start g.F.Fram.log g.F.Fram.lost c.loop.dev) c.in-Some.event _ _ c.kernel_is_at_state.ensures.durable c.images_follow_events.ensures.more (c.loop.invariant.goes o b) is (c.pass.ensures.passes c.if-pass.true) c.pass.ensures.rest c.pass.ensures.live;
+      goes = λ o b. passes_on o events c.loop.counter c.loop.kernel c.pass.new.self _ (store g.F.Fram.start g.F.Fram.log g.F.Fram.lost c.loop.dev) (store g.F.Fram.start g.F.Fram.log g.F.Fram.lost c.pass.new.dev) c.in-Some.event _ _ c.kernel_is_at_state.ensures.durable c.images_follow_events.ensures.more (c.loop.invariant.goes o b) is (c.in-Ok.ensures.simulates (ap Ok c.if-taken.true)) c.in-Ok.ensures.start c.in-Ok.ensures.never_falls c.in-Ok.ensures.rest c.in-Ok.ensures.live;
       counts = λ o b.
-          quiet_more o events c.loop.counter c.loop.kernel c.pass.new.self (words_in (store g.F.Fram.start g.F.Fram.log g.F.Fram.lost c.loop.dev)) (g.F.Fram.log c.loop.dev) c.in-Some.event c.loop.tally is (c.pass.ensures.passes c.if-pass.true) (c.loop.invariant.goes o b).at (c.loop.invariant.counts o b);
+          quiet_more o events c.loop.counter c.loop.kernel c.pass.new.self (words_in (store g.F.Fram.start g.F.Fram.log g.F.Fram.lost c.loop.dev)) _ (g.F.Fram.log c.loop.dev) _ c.in-Some.event c.loop.tally is (c.in-Ok.ensures.simulates (ap Ok c.if-taken.true)) (c.loop.invariant.goes o b).at (c.loop.invariant.counts o b);
       few = few_later c.loop.counter c.loop.tally c.loop.invariant.few;
       set = c.pass.ensures.rest.set ∙ c.loop.invariant.set;
-      start = c.loop.invariant.start;
-      losses = c.loop.invariant.losses;
+      start = c.pass.ensures.start ∙ c.loop.invariant.start;
+      losses = omega (arith, c.loop.invariant.losses, c.pass.ensures.never_falls);
     }
 
 pub returns-clause-counted : goal.returns-clause-counted
