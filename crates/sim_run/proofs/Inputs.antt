@@ -2,10 +2,14 @@
 use Rattle.std.proofs.Common.{◌≡◌, ℕ, ◌+◌, ◌≤◌, cond, true, List, [], length, Option, Some, None, inl, inr, ap, sym, subst, refl, arith, ltb}
 use Rattle.std.proofs.lemmas.Bool.{lt-ltb}
 use Rattle.nv_base.specs.Streams.{AreGone, GaveAll, ReadsAll, Stream}
+use Rattle.nv_base.specs.WholeInputs.{Stops}
+use Rattle.nv_base.specs.declared.whole.ReadRefusal.{ReadRefusal}
+use Rattle.nv_base.specs.declared.whole.ReadRefusal.TheVariants as reading
 use Rattle.sim_run.specs.Replies.{Refuses, refused_by, reply, reply_within, too_long, most_input}
 use Rattle.sim_run.specs.Answers.{Exchange, HasReadFew, IsCutOff, IsDone, IsStopped, OfInput, TellsReadFault, how_of, reply_in}
 use Rattle.sim_run.specs.BeforeAnswerLine.{BeforeAnswerLine, LeavesStore, PutOrLost, Unread}
 use Rattle.simulation.specs.Stores.{Store}
+use Rattle.sim_run.specs.Halts.{unread_as}
 use Rattle.sim_run.specs.declared.command.Command.{Command}
 use Rattle.answers.specs.declared.status.Status.{Status}
 use Rattle.answers.specs.declared.status.Status.TheVariants.{Done, Usage, ReadFault, WriteFault, NoMemory, DeviceLost, Image, Small, Script, Packed}
@@ -37,6 +41,11 @@ unread c x DeviceLost e f h = absurd h
 unread c x (Small need len) e f h = absurd h
 unread c x (Image fault) e f h = absurd h
 unread c x (Packed p) e f h = absurd h
+
+pub unread_stops : (old new : Stream) (r : ReadRefusal) → Stops most_input old new r → Unread old new (unread_as r)
+unread_stops old new reading.ReadFault h = h
+unread_stops old new reading.TooLong h = (refl, h)
+unread_stops old new reading.NoMemory h = h
 
 pub unread_few : (old new : Stream) (status : Status) → Unread old new status → HasReadFew old new status
 unread_few old new ReadFault h = inl h.0

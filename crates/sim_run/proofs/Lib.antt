@@ -7,5 +7,7 @@ pub mod Gone
 pub mod Sizes
 pub mod BegunRuns
 pub mod Starting
+pub mod Amid
 pub mod Stopped
 pub mod Chained
+pub mod StoppedChains

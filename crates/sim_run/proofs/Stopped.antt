@@ -1,15 +1,14 @@
 -- A run that was stopped, from where its call begins.
-use Rattle.std.proofs.Common.{◌≡◌, ◌⊎◌, inl, inr, ℕ, List, ◌++◌, length, Option, None, Some, Result, Ok, refl, sym, ◌∙◌, subst}
+use Rattle.std.proofs.Common.{◌≡◌, inl, inr, ℕ, List, Option, None, Some, Result, Ok, refl, sym, ◌∙◌, subst}
 use Rattle.std.specs.Prelude.{◌≢◌}
 use Rattle.nv_base.specs.Streams.{Stream}
 use Rattle.kernel_model.specs.Events.{Event}
 use Rattle.set_model.specs.Sets.{TaskSet}
 use Rattle.device_model.specs.Words.{Change}
-use Rattle.headline.specs.Images.{HasImages}
 use Rattle.kernel_core.specs.declared.kernel.Kernel.{Kernel}
 use Rattle.kernel_core.specs.declared.open.How.{How}
 use Rattle.simulation.specs.Runs.{Stops}
-use Rattle.simulation.specs.Stores.{Store, words_in}
+use Rattle.simulation.specs.Stores.{Store}
 use Rattle.simulation.specs.declared.halt.Halt.{Halt}
 use Rattle.simulation.specs.declared.halt.Halt.TheVariants as halt
 use Rattle.schedule_model.specs.Failures.{events_of}
@@ -18,9 +17,8 @@ use Rattle.script.specs.Causes.{ScriptError}
 use Rattle.answers.specs.Names.{PutsName}
 use Rattle.answers.specs.declared.status.Status.{Status}
 use Rattle.answers.specs.declared.status.Status.TheVariants.{Done, Usage, ReadFault, WriteFault, NoMemory, DeviceLost, Image, Small, Script, Packed}
-use Rattle.sim_run.specs.Answers.{Exchange, OfInput}
+use Rattle.sim_run.specs.Answers.{Exchange}
 use Rattle.sim_run.specs.Halts.{status_at}
-use Rattle.sim_run.specs.Origins.{begin_on, opened_on}
 use Rattle.sim_run.specs.Promises.{HasOpenedPart, IsBegun}
 use Rattle.sim_run.specs.Stopping.{HasStopped, KeepsStop, StoppedAs, StopsTo, TellsStop}
 use Rattle.sim_run.specs.declared.command.Command.{Command}

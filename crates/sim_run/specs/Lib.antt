@@ -2,6 +2,7 @@ pub mod Commands
 pub mod Origins
 pub mod Replies
 pub mod Answers
+pub mod OpeningImages
 pub mod Promises
 pub mod Stopping
 pub mod Chains

@@ -20,7 +20,7 @@ use Rattle.sim_run.specs.Answers.{Exchange, OfInput}
 use Rattle.sim_run.specs.Origins.{begin_on, opened_on}
 use Rattle.sim_run.specs.Promises.{HasOpenedPart}
 use Rattle.sim_run.specs.declared.command.Command.{Command}
-use Rattle.sim_run.specs.declared.command.Command.TheVariants.{Run, Resume, Asm, Dis, Pack}
+use Rattle.sim_run.specs.declared.command.Command.TheVariants.{Run, Resume}
 
 -- within its format or migration or before it reads, and then nothing was put; or at an event, or behind the last one
 abbrev pub HasStopped : How → TaskSet → List Event → (old new : Store) → (sink now : Stream) → Halt → Type 0

@@ -1,11 +1,16 @@
-use Rattle.std.proofs.Common.{inl, refl, subst}
+use Rattle.std.proofs.Common.{inl, map, refl, subst}
+use Rattle.std.specs.Rc.{rc_str_bytes}
 use Rattle.simulation.specs.Stores.{store, words_in}
+use Rattle.sim_run.specs.Answers.{exchange}
+use Rattle.sim_run.specs.Commands.{command_of}
 use Rattle.sim_run.specs.Stopping.{StopsTo}
 use Rattle.sim_run.specs.Promises.{ImagesTo, PromisesTo}
 use Rattle.sim_run.specs.Replies.{reply}
-use Rattle.sim_run.specs.BeforeAnswerLine.{PutOrLost}
+use Rattle.answers.specs.declared.status.Status.{Status}
+use Rattle.sim_run.specs.BeforeAnswerLine.{PutOrLost, Unread}
 use Rattle.sim_run.proofs.Answering.{reply_counts, stood}
 use Rattle.sim_run.proofs.Inputs.{promised, read_few, replied, unread, unread_counts, unread_few, unread_told}
+use Rattle.sim_run.proofs.Promising.{images_unread}
 use Rattle.sim_run.proofs.call.carry_out.Goals as goal
 
 pub returns-in-Err-clause-answer : goal.returns-in-Err-clause-answer
@@ -54,3 +59,11 @@ returns-in-Ok-read_input-clause-stops g c =
     let new = store g.F.Fram.start g.F.Fram.log g.F.Fram.lost c.answer.new.dev in
     rw c.in-Ok.ensures (promised (StopsTo c.in-Ok.command old new (g.K.Sink.seen c.args.out.now) (g.K.Sink.seen c.answer.new.out) c.answer.result) _ _ c.in-Ok-read_input.input.items c.in-Ok-read_input.ensures.given
     (subst (StopsTo c.in-Ok.command old new (g.K.Sink.seen c.args.out.now) (g.K.Sink.seen c.answer.new.out) c.answer.result) c.as_slice.ensures.value c.answer.ensures.stops))
+
+pub returns-in-Err-clause-images : goal.returns-in-Err-clause-images
+returns-in-Err-clause-images g c =
+    let old = g.S.Source.seen c.args.src.now in
+    let new = g.S.Source.seen c.read_input.new.src in
+    let seen = store g.F.Fram.start g.F.Fram.log g.F.Fram.lost in
+    let x = exchange g.S.Source.seen g.K.Sink.seen seen c.args.src.now c.read_input.new.src c.args.out.now c.args.out.now c.args.dev.now c.args.dev.now in
+    images_unread (command_of (map rc_str_bytes c.args.words.now)) x c.in-Err.status refl (λ done. let never = subst (λ (s : Status). Unread old new s) done c.in-Err.ensures.unread in absurd never)
