@@ -2,7 +2,10 @@
 
 mod calling;
 mod faults;
+mod histories;
 mod images;
 mod losses;
+mod reader;
 mod resumes;
+mod shapes;
 mod watched;

@@ -1,72 +1,113 @@
-//! Each word of an image is changed in turn, and the device resumed.
+//! Each word of an image is changed in turn, and the device resumed: the answer is what a plain reader finds there.
 
 use super::calling::{Ended, WORDS, adding, call, device, left_by};
+use super::reader::{Held, Shape, Stands, read_words};
 use super::resumes::{CUT, ENOUGH};
+use super::shapes::adding_shape;
 use answers::ImageFault;
+use fram_dev::MemFram;
 use sim_run::Status;
 use std::test::Fail;
 
-/// Words before the index, but for those of the root and the boots, stand for the set alone.
-const FIRST_INDEX: usize = 22;
-
-// whether the line is that of a faulty word at this place
-fn names_damage(rt: &HostRuntime, ended: &Ended, place: u32) -> Result<bool, Fail> {
-    let line = format!(in rt.alloc(); "error image damaged {place}\n")?;
-    Ok(ended.put.as_slice() == line.as_str().as_bytes())
+// what `resume` puts where this state stands, and steps are enough: the open task adds its argument
+fn report_from(rt: &HostRuntime, held: &Held) -> Result<String, Fail> {
+    let (clock, number, next, x) = (held.clock(), held.number(), held.next(), held.object(0));
+    let boots = held.boots().wrapping_add(1);
+    let Some((task, more)) = held.open() else {
+        return Ok(format!(in rt.alloc();
+            "boot {boots}\nend clock {clock} number {number} next {next} boots {boots}\nobject x {x}\ndone\n"
+        )?);
+    };
+    let (point, count, sum) = (
+        clock.wrapping_add(1),
+        number.wrapping_add(1),
+        x.wrapping_add(more),
+    );
+    Ok(format!(in rt.alloc();
+        "boot {boots}\nstart core 0 task {task} at {clock}\nfinish {count} task {task} point {point} exit 0 first {next}\nend clock {point} number {count} next {next} boots {boots}\nobject x {sum}\ndone\n"
+    )?)
 }
 
-// whether an answer may come where the word at this place was changed to this one
-fn is_right(rt: &HostRuntime, ended: &Ended, at: usize, value: u32) -> Result<bool, Fail> {
-    let of_set = at >= 3 && at < FIRST_INDEX;
-    Ok(match ended.status {
-        Status::Done => at != 0 && !of_set && ended.put.as_slice().ends_with(b"done\n".as_slice()),
-        Status::Image(ImageFault::Blank) => {
-            at == 0 && value == 0 && ended.put.as_slice() == b"error image blank\n".as_slice()
+// whether the device holds then what that report tells at its end
+fn has_left(shape: &Shape, held: &Held, now: &[u32]) -> bool {
+    let Stands::Holds(then) = read_words(shape, now) else {
+        return false;
+    };
+    let (done, more) = match held.open() {
+        None => (0, 0),
+        Some((_, more)) => (1, more),
+    };
+    then.clock() == held.clock().wrapping_add(done)
+        && then.number() == held.number().wrapping_add(done)
+        && then.next() == held.next()
+        && then.boots() == held.boots().wrapping_add(1)
+        && then.object(0) == held.object(0).wrapping_add(more)
+        && then.open().is_none()
+}
+
+// whether a `resume` on these words ended as a plain reader of them says, and left what it says
+fn is_as_read(
+    rt: &HostRuntime,
+    shape: &Shape,
+    words: &[u32],
+    ended: &Ended,
+    dev: &MemFram,
+) -> Result<bool, Fail> {
+    let (fault, line) = match read_words(shape, words) {
+        Stands::Holds(held) => {
+            let report = report_from(rt, &held)?;
+            return Ok(
+                ended.is(Status::Done, report.as_str().as_bytes())
+                    && has_left(shape, &held, dev.words()),
+            );
         }
-        Status::Image(ImageFault::Damaged(place)) => {
-            let exact = at == 0 || of_set;
-            (!exact || place as usize == at) && names_damage(rt, ended, place)?
-        }
-        Status::Image(ImageFault::Worn) => {
-            at != 0 && !of_set && ended.put.as_slice() == b"error image worn\n".as_slice()
-        }
-        _ => false,
-    })
+        Stands::Blank => (
+            ImageFault::Blank,
+            format!(in rt.alloc(); "error image blank\n")?,
+        ),
+        Stands::Worn => (
+            ImageFault::Worn,
+            format!(in rt.alloc(); "error image worn\n")?,
+        ),
+        Stands::Damaged(place) => (
+            ImageFault::Damaged(u32::try_from(place).unwrap_or(u32::MAX)),
+            format!(in rt.alloc(); "error image damaged {place}\n")?,
+        ),
+    };
+    let told = ended.is(Status::Image(fault), line.as_str().as_bytes());
+    Ok(told && dev.words() == words)
 }
 
 // whether a device whose word is changed so is resumed, or told as it stands and left as it is
 fn is_taken(
     rt: &HostRuntime,
+    shape: &Shape,
     input: &[u8],
     left: &[u32],
-    at: usize,
-    value: u32,
+    change: (usize, u32),
 ) -> Result<bool, Fail> {
+    let (at, value) = change;
     let mut words = Vec::from_slice(rt.alloc(), left)?;
     let Some(word) = words.get_mut(at) else {
         return Ok(false);
     };
-    let same = *word == value;
     *word = value;
     let mut dev = device(rt, words.as_slice())?;
     let ended = call(rt, "resume", input, &mut dev)?;
-    if ended.status == Status::Done {
-        let mut again = dev.restore(rt.alloc(), 4096)?;
-        let ended = call(rt, "resume", input, &mut again)?;
-        return Ok(same || ended.status == Status::Done);
-    }
-    Ok(!same && is_right(rt, &ended, at, value)? && dev.words() == words.as_slice())
+    is_as_read(rt, shape, words.as_slice(), &ended, &dev)
 }
 
 #[test]
 fn each_word_of_an_image_is_taken_or_told(rt: HostRuntime) -> Result<(), Fail> {
     for format in [1, 2] {
+        let shape = adding_shape(format);
         let left = left_by(&rt, format, CUT)?;
         let text = adding(&rt, format, ENOUGH)?;
+        let input = text.as_str().as_bytes();
         for at in 0..WORDS {
-            let none = is_taken(&rt, text.as_str().as_bytes(), left.as_slice(), at, 0)?;
-            let one = is_taken(&rt, text.as_str().as_bytes(), left.as_slice(), at, 1)?;
-            let most = is_taken(&rt, text.as_str().as_bytes(), left.as_slice(), at, u32::MAX)?;
+            let none = is_taken(&rt, &shape, input, left.as_slice(), (at, 0))?;
+            let one = is_taken(&rt, &shape, input, left.as_slice(), (at, 1))?;
+            let most = is_taken(&rt, &shape, input, left.as_slice(), (at, u32::MAX))?;
             assert_eq!(rt; (at, none, one, most), (at, true, true, true));
         }
     }

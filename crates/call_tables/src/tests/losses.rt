@@ -1,7 +1,10 @@
 //! A device that loses a call of a run or of a resume, each in turn, and what is told and left.
 
 use super::calling::{adding, call, device, fused, left_by, zeros};
+use super::histories::History;
+use super::reader::{Stands, read_words};
 use super::resumes::{CUT, ENOUGH, RESUMED};
+use super::shapes::{adding_shape, pair_shape};
 use super::watched::Watched;
 use answers::ImageFault;
 use sim_run::Status;
@@ -37,6 +40,28 @@ fn a_format_may_be_cut_at_each_write(rt: HostRuntime) -> Result<(), Fail> {
         let kept = is_blank_or_first(&rt, passes, false)?;
         let made = is_blank_or_first(&rt, passes, true)?;
         assert_eq!(rt; (passes, kept, made), (passes, true, true));
+    }
+    Ok(())
+}
+
+#[test]
+fn a_lost_root_write_is_made_or_not(rt: HostRuntime) -> Result<(), Fail> {
+    let text = adding(&rt, 1, "task add 7\nsteps 0*40\nrun\n")?;
+    // of which 51 are the format's, and 15 the commit's
+    let words = zeros(&rt, 64)?;
+    let mut dev = Watched::new(device(&rt, words.as_slice())?, 0);
+    let ended = call(&rt, "run", text.as_str().as_bytes(), &mut dev)?;
+    assert_eq!(rt; (ended.status, dev.writes), (Status::Done, 66));
+    let lines = b"start core 0 task 1 at 0\nerror device\n".as_slice();
+    for (made, number, x) in [(false, 0, 5), (true, 1, 12)] {
+        let words = zeros(&rt, 64)?;
+        let mut dev = fused(&rt, words.as_slice(), 65, made)?;
+        let ended = call(&rt, "run", text.as_str().as_bytes(), &mut dev)?;
+        assert!(rt; ended.is(Status::DeviceLost, lines));
+        let Stands::Holds(held) = read_words(&adding_shape(1), dev.words()) else {
+            return Ok(assert!(rt; false));
+        };
+        assert_eq!(rt; (held.number(), held.object(0)), (number, x));
     }
     Ok(())
 }
@@ -99,40 +124,27 @@ const FAILS: &str = "power 42\nsteps 0*7 1*35 01*120\nrun\n";
 /// Steps enough for a boot and both.
 const ON: &str = "steps 01*220\nrun\n";
 
-// how often a piece stands in a text
-fn count(text: &[u8], piece: &[u8]) -> u32 {
-    let mut found = 0u32;
-    for at in 0..text.len() {
-        if text[at..].starts_with(piece) {
-            found = found.saturating_add(1);
-        }
-    }
-    found
-}
-
-// how often both texts tell a finish of a task
-fn told(first: &[u8], rest: &[u8], task: &[u8]) -> u32 {
-    count(first, task).saturating_add(count(rest, task))
-}
-
-// whether what two calls have told of both tasks is one history: each once at most, and at the end x and y are what they make in serial order
-fn is_one_history(first: &[u8], rest: &[u8]) -> bool {
-    let cp = told(first, rest, b" task 1 point ".as_slice());
-    let put = told(first, rest, b" task 2 point ".as_slice());
-    let last = told(first, rest, b" task 1 point 2 exit 1 ".as_slice());
-    let y = if rest.ends_with(b"object x 9\nobject y 10\ndone\n".as_slice()) {
-        10
-    } else if rest.ends_with(b"object x 9\nobject y 6\ndone\n".as_slice()) {
-        6
-    } else {
-        0
+// whether a report ends with what a plain replay makes of a history, and with what its device tells
+fn is_replayed(
+    rt: &HostRuntime,
+    history: &mut History,
+    report: &[u8],
+    words: &[u32],
+) -> Result<bool, Fail> {
+    let Stands::Holds(held) = read_words(&pair_shape(), words) else {
+        return Ok(false);
     };
-    let serial = cp == 0 && y != 0 || y == if last == 1 { 10 } else { 6 };
-    cp <= 1
-        && put <= 1
-        && cp.saturating_add(put) >= 1
-        && serial
-        && count(rest, b" number 2 next 3 ".as_slice()) == 1
+    let once = history.is_once_each(2) && history.count() == held.number();
+    history.sort()?;
+    let Some((x, y)) = history.replay() else {
+        return Ok(false);
+    };
+    let (clock, number, boots) = (history.clock(), held.number(), held.boots());
+    let end = format!(in rt.alloc();
+        "end clock {clock} number {number} next 3 boots {boots}\nobject x {x}\nobject y {y}\ndone\n"
+    )?;
+    let left = held.clock() == clock && held.object(0) == x && held.object(1) == y;
+    Ok(once && left && number == 2 && report.ends_with(end.as_str().as_bytes()))
 }
 
 // whether a run of both that loses this write is gone on with as one history
@@ -142,12 +154,21 @@ fn goes_on(rt: &HostRuntime, passes: u32, made: bool) -> Result<bool, Fail> {
     let words = zeros(rt, 84)?;
     let mut dev = fused(rt, words.as_slice(), passes, made)?;
     let first = call(rt, "run", text.as_str().as_bytes(), &mut dev)?;
+    let mut history = History::new(rt);
+    history.tell(first.put.as_slice())?;
     let mut dev = dev.restore(rt.alloc(), 4096)?;
+    let found = match read_words(&pair_shape(), dev.words()) {
+        Stands::Holds(held) => history.find(&held)?,
+        _ => false,
+    };
     let then = call(rt, "resume", rest.as_str().as_bytes(), &mut dev)?;
+    history.tell(then.put.as_slice())?;
+    let ended = first.status == Status::DeviceLost || first.status == Status::Done;
     Ok(
-        then.status == Status::Done
-            && is_one_history(first.put.as_slice(), then.put.as_slice())
-            && (first.status == Status::DeviceLost || first.status == Status::Done),
+        ended
+            && found
+            && then.status == Status::Done
+            && is_replayed(rt, &mut history, then.put.as_slice(), dev.words())?,
     )
 }
 

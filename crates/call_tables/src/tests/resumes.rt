@@ -1,6 +1,8 @@
 //! `resume`: what it goes on with, why it does not, and a migration.
 
 use super::calling::{WORDS, adding, call, device, fused, left_by, zeros};
+use super::reader::{Stands, read_words};
+use super::shapes::{MOVED, adding_moved, adding_shape};
 use super::watched::Watched;
 use answers::ImageFault;
 use sim_run::Status;
@@ -100,17 +102,13 @@ fn a_device_that_is_too_small_is_told_before_its_words(rt: HostRuntime) -> Resul
     let left = left_by(&rt, 1, CUT)?;
     assert!(rt; small(&rt, 1, first_of(&left, 49))? == Some((50, 49)));
     // of format 2 a set needs more, and behind words of format 1 these and its own
-    let Some((fresh, _)) = small(&rt, 2, first_of(&left, 49))? else {
-        return Ok(assert!(rt; false));
-    };
-    assert!(rt; fresh > 50 && fresh < 300);
-    let first = fresh.min(300) as usize;
-    let Some((moved, len)) = small(&rt, 2, first_of(&left, first))? else {
-        return Ok(assert!(rt; false));
-    };
-    assert!(rt; len == fresh && moved > fresh && moved <= 400);
+    assert!(rt; small(&rt, 2, first_of(&left, 88))? == Some((89, 88)));
+    assert!(rt; small(&rt, 2, first_of(&left, 116))? == Some((117, 116)));
     Ok(())
 }
+
+/// How many writes a migration makes: the root, two copies of a page, two slots, and word 0.
+const MOVES: u32 = 68;
 
 // how many writes a migration of these words makes
 fn moves(rt: &HostRuntime, words: &[u32]) -> Result<u32, Fail> {
@@ -120,16 +118,32 @@ fn moves(rt: &HostRuntime, words: &[u32]) -> Result<u32, Fail> {
     Ok(dev.writes)
 }
 
-// whether a migration that is cut so leaves a device that is resumed as if it had not been cut
+// whether the first state stands there, in format 1 or moved
+fn is_first(words: &[u32]) -> bool {
+    let shape = match words.first() {
+        Some(word) if *word == MOVED => adding_moved(),
+        _ => adding_shape(1),
+    };
+    match read_words(&shape, words) {
+        Stands::Holds(held) => {
+            held.number() == 0 && held.object(0) == 5 && held.open() == Some((1, 7))
+        }
+        _ => false,
+    }
+}
+
+// whether a migration that is cut so leaves the state, and a device that is resumed as if it had not been cut
 fn is_moved_again(rt: &HostRuntime, words: &[u32], passes: u32, made: bool) -> Result<bool, Fail> {
     let text = adding(rt, 2, ENOUGH)?;
     let input = text.as_str().as_bytes();
     let mut dev = fused(rt, words, passes, made)?;
     let cut = call(rt, "resume", input, &mut dev)?;
     let mut dev = dev.restore(rt.alloc(), 4096)?;
+    let first = is_first(dev.words());
     let ended = call(rt, "resume", input, &mut dev)?;
     Ok(
-        cut.is(Status::DeviceLost, b"error device\n".as_slice())
+        first
+            && cut.is(Status::DeviceLost, b"error device\n".as_slice())
             && ended.is(Status::Done, RESUMED.as_bytes()),
     )
 }
@@ -137,9 +151,8 @@ fn is_moved_again(rt: &HostRuntime, words: &[u32], passes: u32, made: bool) -> R
 #[test]
 fn a_migration_may_be_cut_at_each_write(rt: HostRuntime) -> Result<(), Fail> {
     let left = left_by(&rt, 1, CUT)?;
-    let all = moves(&rt, left.as_slice())?;
-    assert!(rt; all > 50 && all < 400);
-    for passes in 0..all {
+    assert!(rt; moves(&rt, left.as_slice())? == MOVES);
+    for passes in 0..MOVES {
         let kept = is_moved_again(&rt, left.as_slice(), passes, false)?;
         let made = is_moved_again(&rt, left.as_slice(), passes, true)?;
         assert_eq!(rt; (passes, kept, made), (passes, true, true));
