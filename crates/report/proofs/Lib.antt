@@ -1,1 +1,17 @@
+pub mod EventLines
+pub mod EventsRead
+pub mod FeedCuts
+pub mod Numbers
+pub mod OneReading
+pub mod ReportSizes
+pub mod Runs
 pub mod SetFacts
+pub mod Shapes
+pub mod Standing
+pub mod StateLines
+pub mod StateRead
+pub mod TakenEvents
+pub mod Values
+pub mod Verdicts
+pub mod WholeReports
+pub mod WordRuns

@@ -7,3 +7,11 @@ pub mod Waits
 pub mod Ends
 pub mod Rests
 pub mod ForCallers
+pub mod FitStates
+pub mod FirstSerial
+pub mod OpenFacts
+pub mod TaskLists
+pub mod TurnLists
+pub mod TableTurns
+pub mod ReplayTurns
+pub mod FirstSteps

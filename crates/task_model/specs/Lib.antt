@@ -3,3 +3,8 @@ pub mod Shape
 pub mod Progress
 pub mod WholeRun
 pub mod WorkedRuns
+pub mod Finals
+pub mod FirstFinishes
+pub mod Turns
+pub mod Tables
+pub mod Replaying

@@ -3,7 +3,9 @@
 ghost use Rattle.std.specs.Prelude.{◌<◌};
 
 use super::*;
-use nv_base::{NoMemory, ObjId, ObjSet, Outcome, ProgId, Spawn, TrapCause};
+use nv_base::{
+    Entry, NoMemory, ObjId, ObjSet, Outcome, Point, ProgId, Seq, Spawn, TaskId, TrapCause,
+};
 use rv_core::Machine;
 use std::test::Fail;
 use task_set::{
@@ -286,5 +288,75 @@ fn a_part_is_tested(rt: HostRuntime) -> Result<(), Fail> {
     let whole = run(&rt, &AROUND, 100)?;
     assert!(rt; whole.outcome == Outcome::Trap(TrapCause::CallRange));
     assert!(rt; whole.reads == ObjSet::empty());
+    Ok(())
+}
+
+// A task of program 1 that is open at first.
+fn opened(arg: u32) -> Spawn {
+    Spawn {
+        program: ProgId(1),
+        arg,
+    }
+}
+
+// The two objects, program 1 with this code, and open tasks that run it with 7 and with 3.
+fn two_tasks(rt: &HostRuntime, code: &[u32]) -> Result<TaskSet, Fail> {
+    let mut parts = parts(rt, code, 100)?;
+    parts.tasks.push(opened(7))?;
+    parts.tasks.push(opened(3))?;
+    Ok(TaskSet::build(rt.alloc(), parts)?)
+}
+
+fn entry(number: u32, task: u32, point: u32, code: u32) -> Entry {
+    Entry {
+        number: Seq(number),
+        task: TaskId(task),
+        point: Point(point),
+        first: TaskId(3),
+        outcome: Outcome::Exit(code),
+    }
+}
+
+// What a replay comes to: the place of a wrong entry, or the first word of object 0 and how many tasks are open.
+fn answered(replay: &Replay) -> Result<(u32, usize), u32> {
+    match replay {
+        Replay::Wrong(place) => Err(*place),
+        Replay::Good(end) => {
+            if end.objects.len() == 0 {
+                return Ok((0, end.tasks.len()));
+            }
+            let first = end.objects.get(ObjId(0));
+            let word = if first.is_empty() { 0 } else { first[0] };
+            Ok((word, end.tasks.len()))
+        }
+    }
+}
+
+#[test]
+fn listings_are_replayed_in_serial_order(rt: HostRuntime) -> Result<(), Fail> {
+    let set = two_tasks(&rt, &ADDS)?;
+    let rows = [
+        ([entry(1, 1, 1, 0), entry(2, 2, 2, 0)], Ok((15, 0))),
+        ([entry(1, 1, 1, 0), entry(2, 1, 2, 0)], Err(1)),
+        ([entry(1, 1, 2, 0), entry(2, 1, 1, 0)], Err(0)),
+        ([entry(1, 1, 2, 1), entry(2, 2, 1, 0)], Err(0)),
+        ([entry(1, 2, 1, 0), entry(2, 7, 1, 0)], Err(1)),
+    ];
+    for (listing, wanted) in rows.iter() {
+        let replay = serial(rt.alloc(), &set, listing.as_slice())?;
+        assert!(rt; answered(&replay) == *wanted);
+    }
+    Ok(())
+}
+
+#[test]
+fn the_least_open_task_runs_first(rt: HostRuntime) -> Result<(), Fail> {
+    let set = two_tasks(&rt, &ADDS)?;
+    let (entries, end) = serial_first(rt.alloc(), &set, 1)?;
+    assert!(rt; entries.as_slice() == [entry(1, 1, 1, 0)].as_slice());
+    assert_eq!(rt; end.tasks.len(), 1);
+    let (entries, end) = serial_first(rt.alloc(), &set, 9)?;
+    assert!(rt; entries.as_slice() == [entry(1, 1, 1, 0), entry(2, 2, 2, 0)].as_slice());
+    assert_eq!(rt; end.tasks.len(), 0);
     Ok(())
 }

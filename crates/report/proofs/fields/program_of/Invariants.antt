@@ -1,0 +1,7 @@
+use Rattle.std.proofs.Common.{◌≤◌, map, nat_eq}
+use Rattle.std.specs.Cmp.Lexicographic.{pointwise}
+use Rattle.std.specs.List.{position_or_len}
+use Rattle.report.proofs.fields.program_of.Given as goal
+
+abbrev pub invariant-loop-program : goal.invariant-loop-program
+invariant-loop-program l = l.program ≤ position_or_len (λ name. pointwise nat_eq name l.name) (map (λ o. o.name) l.set.programs)
