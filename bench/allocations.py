@@ -3,8 +3,9 @@
 
     bench/allocations.py [PROGRAM]
 
-PROGRAM is out/nvk where no other is named. With the Nth allocation refused each call must end with 6, tell `error memory` alone,
-and leave the device in its file as it was; from some N on it ends as it does where none is refused. Ends with 1 where one does not."""
+PROGRAM is out/nvk where no other is named. With an allocation refused each call must end with 6, tell `error memory` alone, and
+leave the device in its file as it was, of zeros where there was no file; or end as it does where none is refused, since what asked
+for that memory does without. Ends with 1 where one does not."""
 import os
 import subprocess
 import sys
@@ -14,6 +15,8 @@ from pathlib import Path
 ROOT = Path(__file__).resolve().parent.parent
 EXAMPLES = ROOT / "examples"
 CHAIN = EXAMPLES / "chain"
+ZEROS = bytes(262144)
+MOST = 10000
 
 
 class Bench:
@@ -21,14 +24,15 @@ class Bench:
 
     def __init__(self, program, room):
         self.program, self.room = program, Path(room)
-        self.device = self.room / "device"
+        self.device, self.mark = self.room / "device", self.room / "refused"
         self.refuser = self.room / "refuse.so"
         source = ROOT / "bench/refuse.c"
         subprocess.run(["cc", "-O2", "-shared", "-fPIC", "-fno-builtin", "-o", self.refuser, source], check=True)
 
     def ends(self, words, text, refused=0):
         """How a call ends: its status, its output and what it tells."""
-        env = dict(os.environ, LD_PRELOAD=str(self.refuser), REFUSE=str(refused)) if refused else None
+        self.mark.unlink(missing_ok=True)
+        env = dict(os.environ, LD_PRELOAD=str(self.refuser), REFUSE=str(refused), REFUSED=str(self.mark)) if refused else None
         done = subprocess.run([self.program, *words], input=text, capture_output=True, env=env, timeout=120)
         return done.returncode, done.stdout, done.stderr
 
@@ -44,23 +48,22 @@ class Bench:
     def refuse(self, name, words, text, before):
         """Refuses each allocation of a call; prints how many there are, and what is not as it has to be."""
         self.lay(before)
-        whole, after = self.ends(words, text), self.stands()
-        faults, told = 0, 0
-        number = 1
-        while True:
+        whole = self.ends(words, text), self.stands()
+        early = (6, b"", b"error memory\n"), before
+        kept = ZEROS if before is None and "--image" in words else before
+        refused = (6, b"error memory\n", b""), kept
+        counts = {"early": 0, "refused": 0, "spared": 0, "wrong": 0}
+        for number in range(1, MOST):
             self.lay(before)
-            ended, left = self.ends(words, text, number), self.stands()
-            if (ended, left) == (whole, after):
+            ended = self.ends(words, text, number), self.stands()
+            if not self.mark.exists():
                 break
-            status, put, said = ended
-            if (status, put, said, left) == (6, b"", b"error memory\n", before):
-                told += 1
-            elif (status, put, said, left) != (6, b"error memory\n", b"", before):
-                faults += 1
-                print(f"{name}: with allocation {number} refused: {status} {put[-80:]} {said[-80:]} device {'kept' if left == before else 'changed'}")
-            number += 1
-        print(f"{name}: {number - 1} allocations, {told} of them before the command, {faults} with another answer")
-        return faults
+            kinds = [kind for kind, right in (("early", early), ("refused", refused), ("spared", whole)) if ended == right]
+            counts[(kinds or ["wrong"])[0]] += 1
+            if not kinds:
+                print(f"{name}: with allocation {number} refused it ends so: {ended[0]}")
+        print(f"{name}: {sum(counts.values())} allocations:", ", ".join(f"{count} {kind}" for kind, count in counts.items()))
+        return counts["wrong"]
 
 
 def main():
