@@ -2,7 +2,6 @@
 use Rattle.std.proofs.Common.{◌≡◌, List, [], ◌∷◌, ◌++◌, Result, Ok, Err, refl, sym, ap, ◌∙◌, append_assoc}
 use Rattle.std.proofs.lemmas.List.{append-nil}
 use Rattle.script.specs.declared.refusals.ScriptCause.{ScriptCause}
-use Rattle.nv_base.proofs.ForCallers.{refuses_bind}
 use Rattle.nv_base.specs.declared.refusals.Refusal.{Refusal}
 use Rattle.nv_base.specs.declared.refusals.Refusal.TheVariants as refusals
 use Rattle.nv_base.specs.Refusals.{Refuses}

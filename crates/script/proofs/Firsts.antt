@@ -8,7 +8,6 @@ use Rattle.std.proofs.lemmas.Option.{cond_some}
 use Rattle.rv_asm.specs.Assembly.{assembled}
 use Rattle.rv_asm.specs.Causes.{AsmError}
 use Rattle.plain_text.specs.BadLines.{is_bad}
-use Rattle.script.specs.declared.refusals.ScriptCause.{ScriptCause}
 use Rattle.script.specs.Causes.{ScriptError}
 use Rattle.script.specs.declared.keyword.BlockKind.{BlockKind}
 use Rattle.script.specs.declared.keyword.BlockKind.TheVariants as blocks

@@ -1,12 +1,11 @@
 -- What an answer that is Ok says of the answers before it.
-use Rattle.std.proofs.Common.{◌≡◌, ℕ, suc, ◌≤◌, Bool, true, false, cond, ◌||◌, ◌&&◌, List, [], ◌∷◌, length, replicate, Option, Some, None, Result, Ok, Err, ltb, eqb, refl, sym, ap, subst, ◌∙◌, arith}
+use Rattle.std.proofs.Common.{◌≡◌, ℕ, suc, ◌≤◌, Bool, true, false, cond, ◌||◌, List, [], ◌∷◌, length, replicate, Option, Some, None, Result, Ok, Err, ltb, eqb, refl, sym, ap, subst, ◌∙◌, arith}
 use Rattle.nv_base.proofs.ForCallers.{bind_ok}
 use Rattle.std.specs.List.{AllByRecursion}
 use Rattle.std.proofs.lemmas.Bool.{ltb-false, eqb-true, or_parts}
 use Rattle.std.proofs.lemmas.List.{length-replicate}
 use Rattle.plain_text.specs.Numbers.{value_in, within}
 use Rattle.plain_text.specs.declared.numbers.NumberFault.TheVariants as faults
-use Rattle.script.specs.declared.refusals.ScriptCause.{ScriptCause}
 use Rattle.script.specs.declared.refusals.ScriptCause.TheVariants as causes
 use Rattle.nv_base.specs.Results.{◌>>=◌}
 use Rattle.script.specs.Results.{each}
@@ -17,7 +16,6 @@ use Rattle.script.specs.Keywords.{keyword_of, may_follow, stage_of}
 use Rattle.script.specs.Parts.{Parts}
 use Rattle.script.specs.Lines.{found, keyword_after, words_after}
 use Rattle.script.specs.SetLines.{first_values}
-use Rattle.nv_base.specs.Refusals.{at}
 
 pub refused_if : {E A : Type 0} (b : Bool) (e : E) (x y : A) → cond b (Err e) (Ok x) ≡ Ok y → (b ≡ false) × (x ≡ y)
 refused_if true e x y h = absurd cc

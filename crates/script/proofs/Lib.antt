@@ -3,6 +3,7 @@ pub mod Each
 pub mod BodyLines
 pub mod Faults
 pub mod Firsts
+pub mod FrontLines
 pub mod HexWords
 pub mod Inversions
 pub mod Kept

@@ -1,11 +1,8 @@
 -- Names, as things with names of their own come one after another.
-use Rattle.std.proofs.Common.{◌≡◌, ◌≢◌, ℕ, suc, ◌+◌, ◌≤◌, ◌<◌, Bool, true, false, cond, not, ◌&&◌, is_some, List, [], ◌∷◌, ◌++◌, length, map, Option, Some, None, Ok, Err, ltb, leb, refl, sym, ap, subst, ◌∙◌, inl, inr, arith, nat_eq, get_or}
-use Rattle.std.specs.Char.{is_ascii_digit}
+use Rattle.std.proofs.Common.{◌≡◌, ◌≢◌, ℕ, suc, ◌+◌, ◌≤◌, ◌<◌, Bool, true, false, cond, not, is_some, List, [], ◌∷◌, ◌++◌, length, map, Option, Some, None, Ok, Err, ltb, refl, sym, ap, subst, ◌∙◌, arith, nat_eq}
 use Rattle.std.specs.Cmp.Lexicographic.{pointwise}
-use Rattle.std.specs.Int.{is_in_range}
-use Rattle.std.specs.List.{AllByRecursion, list_all, position, position_or_len}
-use Rattle.std.proofs.lemmas.Bool.{cases_lt, lt-ltb, ltb-true, leb-true, and_parts}
-use Rattle.std.proofs.lemmas.List.Sums.{AllPass-from_list_all}
+use Rattle.std.specs.List.{AllByRecursion, position_or_len}
+use Rattle.std.proofs.lemmas.Bool.{ltb-true}
 use Rattle.std.proofs.lemmas.Option.{cond_some}
 use Rattle.std.proofs.lemmas.List.{map_push}
 use Rattle.plain_text.specs.Names.{IsName, is_name}

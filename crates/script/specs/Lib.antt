@@ -9,6 +9,7 @@ pub mod Lines
 pub mod Sections
 pub mod Blocks
 pub mod Reading
+pub mod Fronts
 pub mod Laws
 -- How the code meets them.
 pub mod Causes

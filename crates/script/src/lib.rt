@@ -4,6 +4,7 @@
 mod block;
 mod cause_words;
 mod draft;
+mod front;
 mod items;
 mod keyword;
 pub mod laws;
@@ -15,6 +16,7 @@ mod set_lines;
 mod timeline;
 mod words;
 
+pub use front::read_front;
 pub use keyword::{BlockKind, Keyword, Stage};
 pub use reading::{Script, read_script};
 pub use refusals::{ScriptCause, ScriptError, ScriptRefusal};

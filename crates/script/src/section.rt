@@ -36,7 +36,7 @@ pub(crate) enum Section<'a> {
 }
 
 /// The block that a line opens.
-fn block_opened_by(line: &[u8]) -> Option<Opening<'_>>
+pub(crate) fn block_opened_by(line: &[u8]) -> Option<Opening<'_>>
     ensures { option_map open_of result ≡ opened line.now }
 {
     if !is_plain(line) {
@@ -52,7 +52,8 @@ fn block_opened_by(line: &[u8]) -> Option<Opening<'_>>
     }
 }
 
-fn ends(line: &[u8]) -> bool
+/// Whether a line ends a block.
+pub(crate) fn ends(line: &[u8]) -> bool
     ensures { result ≡ line_ends line.now }
 {
     match Words::new(line).next() {

@@ -102,3 +102,31 @@ fn a_script_is_read(rt: HostRuntime) -> Result<(), Fail> {
     assert_eq!(rt; script.schedule.len(), 24);
     Ok(())
 }
+
+/// How many bytes of a text behind a front are still of the script. None where it is refused.
+fn bytes_of_script(alloc: Global, front: &[u8], text: &[u8]) -> Result<Option<usize>, Fail> {
+    let mut bytes = Vec::from_slice(alloc, front)?;
+    bytes.extend_from_slice(text)?;
+    match read_front(alloc, &bytes) {
+        Ok((_, count)) => Ok(count.checked_sub(front.len())),
+        Err(ScriptRefusal::At(_)) => Ok(None),
+        Err(ScriptRefusal::NoMemory) => Err("no memory")?,
+    }
+}
+
+#[test]
+fn a_front_is_read(rt: HostRuntime) -> Result<(), Fail> {
+    let rows: [(&[u8], &[u8], Option<usize>); 6] = [
+        (CODE, b"run", Some(3)),
+        (CODE, b"run\nend clock 0\n", Some(4)),
+        (CODE, b"\n run # now\r\nrun\n", Some(13)),
+        (CODE, b"run now\n", None),
+        (CODE, b"task add 1\n", None),
+        // no `run` line stands in a block
+        (OBJECTS, b"code p 1\nrun\nend\n", None),
+    ];
+    for (front, text, expected) in rows {
+        assert_eq!(rt; bytes_of_script(rt.alloc(), front, text)?, expected);
+    }
+    Ok(())
+}
