@@ -3,7 +3,7 @@ use Rattle.std.proofs.Common.{◌≡◌, ℕ, ◌≤◌, ◌⊎◌, List, [], Op
 use Rattle.nv_base.specs.Streams.{PutsFront, PutsText, FaultCounted, Stream}
 use Rattle.sim_run.specs.Replies.{Finds, Puts, Refuses, Reply, refused_by, status_of}
 use Rattle.answers.specs.Names.{PutsName}
-use Rattle.sim_run.specs.Answers.{Answered, AnsweredTo, Exchange, IsComplete, IsCutOff, IsDone, IsSpared, IsStopped, NoFault, OfInput, reply_in}
+use Rattle.sim_run.specs.Answers.{Answered, AnsweredTo, Exchange, IsComplete, IsCutOff, IsDone, IsSpared, IsStopped, NoFault, OfInput, input_of, reply_in}
 use Rattle.sim_run.specs.BeforeAnswerLine.{BeforeAnswerLine, LeavesStore, PutOrLost, PutReply}
 use Rattle.simulation.specs.Stores.{Store}
 use Rattle.kernel_core.specs.declared.open.How.{How}
@@ -109,18 +109,18 @@ Named new from status = PutsName status from new
 answered_to : (c : Command) (x : Exchange) (new : Stream) (status : Status)
     → PutsName status x.sink_now new → AnsweredTo (Unnamed x) c x status → AnsweredTo (Named new) c (later x new) status
 answered_to c x new Done name h =
-    (h.0, on_input x.source.bytes (IsDone c x) (IsDone c (later x new)) (λ input d. still_done c x new input (no_line x.sink_now new name) d) h.1)
+    (h.0, on_input (input_of c x) (IsDone c x) (IsDone c (later x new)) (λ input d. still_done c x new input (no_line x.sink_now new name) d) h.1)
 answered_to c x new Usage name h = h
-answered_to c x new ReadFault name h = (h.0, h.1, named x new ReadFault h.2 name)
+answered_to c x new ReadFault name h = (h.0, h.1, h.2, named x new ReadFault h.3 name)
 answered_to c x new WriteFault name h =
     let e : new ≡ x.sink_now = no_line x.sink_now new name in (
       subst (λ s. FaultCounted x.sink.faults s.faults) (sym e) h.0,
       h.1,
-      on_input x.source.bytes (IsCutOff c x) (IsCutOff c (later x new)) (λ input d. still_cut c x new input e d) h.2,
+      on_input (input_of c x) (IsCutOff c x) (IsCutOff c (later x new)) (λ input d. still_cut c x new input e d) h.2,
     )
 answered_to c x new NoMemory name h = (h.0, named x new NoMemory h.1 name)
 answered_to c x new DeviceLost name h =
-    (h.0, h.1, on_input x.source.bytes (IsStopped (Unnamed x) c x) (IsStopped (Named new) c (later x new)) (λ input d. still_stopped c x new input name d) h.2)
+    (h.0, h.1, on_input (input_of c x) (IsStopped (Unnamed x) c x) (IsStopped (Named new) c (later x new)) (λ input d. still_stopped c x new input name d) h.2)
 answered_to c x new (Small need len) name h = (h.0, h.1, h.2, named x new (Small need len) h.3 name)
 answered_to c x new (Image fault) name h = (h.0, h.1, h.2, named x new (Image fault) h.3 name)
 answered_to c x new (Script e) name h = (h.0, h.1, h.2, named x new (Script e) h.3 name)
@@ -140,23 +140,23 @@ out_of_memory : (x : Exchange) (c : Command) (left : Option (List ℕ)) → OfIn
 out_of_memory x c None = tt
 out_of_memory x c (Some input) = inr refl
 
-refused : (c : Command) (x : Exchange) (status : Status) → OfInput x.source.bytes (λ input. reply_in x c input ≡ Refuses status) → OfInput x.source.bytes (IsReplied x c status)
-refused c x status h = on_input x.source.bytes (λ input. reply_in x c input ≡ Refuses status) (IsReplied x c status) (λ input d. inl (sym (ap status_of d))) h
+refused : (c : Command) (x : Exchange) (status : Status) → OfInput (input_of c x) (λ input. reply_in x c input ≡ Refuses status) → OfInput (input_of c x) (IsReplied x c status)
+refused c x status h = on_input (input_of c x) (λ input. reply_in x c input ≡ Refuses status) (IsReplied x c status) (λ input d. inl (sym (ap status_of d))) h
 
 by_refused : (r : Reply) (status : Status) → refused_by r ≡ Some status → status ≡ status_of r
 by_refused (Puts text) status e = absurd (cc e)
 by_refused (Refuses other) status e = cc e
 by_refused (Finds other) status e = cc e
 
-found : (c : Command) (x : Exchange) (status : Status) → OfInput x.source.bytes (λ input. refused_by (reply_in x c input) ≡ Some status) → OfInput x.source.bytes (IsReplied x c status)
-found c x status h = on_input x.source.bytes (λ input. refused_by (reply_in x c input) ≡ Some status) (IsReplied x c status) (λ input d. inl (by_refused (reply_in x c input) status d)) h
+found : (c : Command) (x : Exchange) (status : Status) → OfInput (input_of c x) (λ input. refused_by (reply_in x c input) ≡ Some status) → OfInput (input_of c x) (IsReplied x c status)
+found c x status h = on_input (input_of c x) (λ input. refused_by (reply_in x c input) ≡ Some status) (IsReplied x c status) (λ input d. inl (by_refused (reply_in x c input) status d)) h
 
-complete_to : (Names : Stream → Status → Type 0) (c : Command) (x : Exchange) (status : Status) → AnsweredTo Names c x status → NoFault x → OfInput x.source.bytes (IsReplied x c status)
-complete_to Names c x Done h ok = on_input x.source.bytes (IsDone c x) (IsReplied x c Done) (λ input d. inl (sym (ap status_of d.replies))) h.1
+complete_to : (Names : Stream → Status → Type 0) (c : Command) (x : Exchange) (status : Status) → AnsweredTo Names c x status → NoFault x → OfInput (input_of c x) (IsReplied x c status)
+complete_to Names c x Done h ok = on_input (input_of c x) (IsDone c x) (IsReplied x c Done) (λ input d. inl (sym (ap status_of d.replies))) h.1
 complete_to Names c x Usage h ok = absurd h
-complete_to Names c x ReadFault h ok = absurd (ok.0 h.0)
+complete_to Names c x ReadFault h ok = absurd (ok.0 h.1)
 complete_to Names c x WriteFault h ok = absurd (ok.1 h.0)
-complete_to Names c x NoMemory h ok = out_of_memory x c x.source.bytes
+complete_to Names c x NoMemory h ok = out_of_memory x c (input_of c x)
 complete_to Names c x DeviceLost h ok = absurd (ok.2 h.0)
 complete_to Names c x (Small need len) h ok = found c x (Small need len) h.2
 complete_to Names c x (Image fault) h ok = found c x (Image fault) h.2

@@ -1,20 +1,23 @@
 -- From what was read, or not read, to what a call has done.
-use Rattle.std.proofs.Common.{◌≡◌, ℕ, ◌+◌, ◌≤◌, cond, true, List, [], length, Option, Some, None, inl, inr, ap, sym, subst, refl, arith, ltb}
+use Rattle.std.proofs.Common.{◌≡◌, ℕ, ◌+◌, ◌≤◌, cond, true, List, [], length, Option, Some, None, inl, inr, ap, sym, ◌∙◌, subst, refl, arith, ltb}
 use Rattle.std.proofs.lemmas.Bool.{lt-ltb}
-use Rattle.nv_base.specs.Streams.{AreGone, GaveAll, ReadsAll, Stream}
+use Rattle.nv_base.specs.Streams.{AreGone, GaveAll, Stream}
 use Rattle.nv_base.specs.WholeInputs.{Stops}
 use Rattle.nv_base.specs.declared.whole.ReadRefusal.{ReadRefusal}
 use Rattle.nv_base.specs.declared.whole.ReadRefusal.TheVariants as reading
 use Rattle.sim_run.specs.Replies.{Refuses, refused_by, reply, reply_within, too_long, most_input}
-use Rattle.sim_run.specs.Answers.{Exchange, HasReadFew, IsCutOff, IsDone, IsStopped, OfInput, TellsReadFault, how_of, reply_in}
-use Rattle.sim_run.specs.BeforeAnswerLine.{BeforeAnswerLine, LeavesStore, PutOrLost, Unread}
+use Rattle.sim_run.specs.Answers.{Exchange, HasReadFew, IsCutOff, IsDone, IsReadUnless, IsStopped, OfInput, TellsReadFault, how_of, input_of, or_given, own_input, reply_in}
+use Rattle.sim_run.specs.BeforeAnswerLine.{BeforeAnswerLine, IsGiven, IsNotGiven, LeavesStore, PutOrLost, Unread}
 use Rattle.simulation.specs.Stores.{Store}
 use Rattle.sim_run.specs.Halts.{unread_as}
+use Rattle.device_model.specs.Words.{Words}
+use Rattle.sim_run.specs.Promises.{PromisesTo}
 use Rattle.sim_run.specs.declared.command.Command.{Command}
+use Rattle.sim_run.specs.declared.command.Command.TheVariants.{Run, Resume, Asm, Dis, Pack, Make}
 use Rattle.answers.specs.declared.status.Status.{Status}
 use Rattle.answers.specs.declared.status.Status.TheVariants.{Done, Usage, ReadFault, WriteFault, NoMemory, DeviceLost, Image, Small, Script, Packed}
 use Rattle.sim_run.proofs.Answering.{stood}
-use Rattle.sim_run.proofs.Gone.{all_gone}
+use Rattle.sim_run.proofs.Gone.{all_gone, none_gone}
 
 -- ---- an input that was not read
 
@@ -29,25 +32,38 @@ long_input : (c : Command) (s : Store) (left now : Option (List ℕ)) → AreGon
 long_input c s None now h = tt
 long_input c s (Some input) now h = refuses_long c s input h.0
 
-pub unread : (c : Command) (x : Exchange) (status : Status) → x.sink_now ≡ x.sink → x.device_now ≡ x.device → Unread x.source x.source_now status → BeforeAnswerLine (Some c) x status
-unread c x ReadFault e f h = (h.1, f, e)
-unread c x (Script s) e f h =
-    (inr h.1.0, f, subst (λ t. OfInput x.source.bytes (λ input. reply_in x c input ≡ Refuses (Script t))) (sym h.0) (long_input c x.device x.source.bytes x.source_now.bytes h.1.0), e)
-unread c x NoMemory e f h = (f, e)
-unread c x Done e f h = absurd h
-unread c x Usage e f h = absurd h
-unread c x WriteFault e f h = absurd h
-unread c x DeviceLost e f h = absurd h
-unread c x (Small need len) e f h = absurd h
-unread c x (Image fault) e f h = absurd h
-unread c x (Packed p) e f h = absurd h
+unread : (c : Command) (x : Exchange) (status : Status) → own_input c ≡ None → x.sink_now ≡ x.sink → x.device_now ≡ x.device → Unread x.source x.source_now status → BeforeAnswerLine (Some c) x status
+unread c x ReadFault o e f h = (o, h.1, f, e)
+unread c x (Script s) o e f h = (
+  inr (o, h.1.0),
+  f,
+  subst (λ own. OfInput (or_given own x.source.bytes) (λ input. reply_in x c input ≡ Refuses (Script s))) (sym o)
+      (subst (λ t. OfInput x.source.bytes (λ input. reply_in x c input ≡ Refuses (Script t))) (sym h.0) (long_input c x.device x.source.bytes x.source_now.bytes h.1.0)),
+  e,
+)
+unread c x NoMemory o e f h = (f, e)
+unread c x Done o e f h = absurd h
+unread c x Usage o e f h = absurd h
+unread c x WriteFault o e f h = absurd h
+unread c x DeviceLost o e f h = absurd h
+unread c x (Small need len) o e f h = absurd h
+unread c x (Image fault) o e f h = absurd h
+unread c x (Packed p) o e f h = absurd h
 
 pub unread_stops : (old new : Stream) (r : ReadRefusal) → Stops most_input old new r → Unread old new (unread_as r)
 unread_stops old new reading.ReadFault h = h
 unread_stops old new reading.TooLong h = (refl, h)
 unread_stops old new reading.NoMemory h = h
 
-pub unread_few : (old new : Stream) (status : Status) → Unread old new status → HasReadFew old new status
+-- whether the command has an input of its own or not
+pub not_given : (c : Command) (x : Exchange) (status : Status) → x.sink_now ≡ x.sink → x.device_now ≡ x.device → IsNotGiven (own_input c) x.source x.source_now status → BeforeAnswerLine (Some c) x status
+not_given c x status e f h = at (own_input c) refl h
+  where
+    at : (own : Option (List ℕ)) → own_input c ≡ own → IsNotGiven own x.source x.source_now status → BeforeAnswerLine (Some c) x status
+    at None o h = unread c x status o e f h
+    at (Some text) o h = subst (λ s. BeforeAnswerLine (Some c) x s) (sym h.0) (f, e)
+
+unread_few : (old new : Stream) (status : Status) → Unread old new status → HasReadFew old new status
 unread_few old new ReadFault h = inl h.0
 unread_few old new (Script s) h = inr (ap (λ t. Script t) h.0, h.1.0)
 unread_few old new NoMemory h = inl h.0
@@ -59,7 +75,7 @@ unread_few old new (Small need len) h = absurd h
 unread_few old new (Image fault) h = absurd h
 unread_few old new (Packed p) h = absurd h
 
-pub unread_told : (old new : Stream) (status : Status) → Unread old new status → TellsReadFault old new status
+unread_told : (old new : Stream) (status : Status) → Unread old new status → TellsReadFault old new status
 unread_told old new ReadFault h = inr refl
 unread_told old new (Script s) h = inl h.1.1
 unread_told old new NoMemory h = inl h.1
@@ -71,7 +87,7 @@ unread_told old new (Small need len) h = absurd h
 unread_told old new (Image fault) h = absurd h
 unread_told old new (Packed p) h = absurd h
 
-pub unread_counts : (old new : Stream) (status : Status) → Unread old new status → old.faults ≤ new.faults
+unread_counts : (old new : Stream) (status : Status) → Unread old new status → old.faults ≤ new.faults
 unread_counts old new ReadFault h = h.1.0
 unread_counts old new (Script s) h = stood old.faults new.faults h.1.1
 unread_counts old new NoMemory h = stood old.faults new.faults h.1
@@ -83,6 +99,35 @@ unread_counts old new (Small need len) h = absurd h
 unread_counts old new (Image fault) h = absurd h
 unread_counts old new (Packed p) h = absurd h
 
+pub not_given_few : (own : Option (List ℕ)) (old new : Stream) (status : Status) → IsNotGiven own old new status → HasReadFew old new status
+not_given_few None old new status h = unread_few old new status h
+not_given_few (Some text) old new status h = subst (λ (s : Stream). HasReadFew old s status) (sym h.1) (inl (none_gone old.bytes most_input))
+
+pub not_given_told : (own : Option (List ℕ)) (old new : Stream) (status : Status) → IsNotGiven own old new status → TellsReadFault old new status
+not_given_told None old new status h = unread_told old new status h
+not_given_told (Some text) old new status h = inl (ap (λ (s : Stream). s.faults) h.1)
+
+pub not_given_counts : (own : Option (List ℕ)) (old new : Stream) (status : Status) → IsNotGiven own old new status → old.faults ≤ new.faults
+not_given_counts None old new status h = unread_counts old new status h
+not_given_counts (Some text) old new status h = stood old.faults new.faults (ap (λ (s : Stream). s.faults) h.1)
+
+pub not_given_undone : (own : Option (List ℕ)) (old new : Stream) (status : Status) → IsNotGiven own old new status → status ≡ Done → ⊥
+not_given_undone None old new status h e = subst (Unread old new) e h
+not_given_undone (Some text) old new status h e = let same : Done ≡ NoMemory = sym e ∙ h.0 in cc same
+
+-- what is promised of Done
+promise_undone : (c : Command) (words : Words) (status : Status) (input : List ℕ) → (status ≡ Done → ⊥) → PromisesTo c words status input
+promise_undone Run words status input ne = λ e. absurd (ne e)
+promise_undone Resume words status input ne = λ e. absurd (ne e)
+promise_undone Asm words status input ne = tt
+promise_undone Dis words status input ne = tt
+promise_undone Pack words status input ne = tt
+promise_undone (Make seed) words status input ne = λ e. absurd (ne e)
+
+pub undone_promised : (c : Command) (words : Words) (status : Status) (left : Option (List ℕ)) → (status ≡ Done → ⊥) → OfInput left (PromisesTo c words status)
+undone_promised c words status None ne = tt
+undone_promised c words status (Some input) ne = promise_undone c words status input ne
+
 -- ---- an input that was read
 
 all_read : (left now : Option (List ℕ)) (bytes : List ℕ) → GaveAll left now bytes → OfInput left (λ input. now ≡ Some [])
@@ -93,36 +138,43 @@ of_given : (left now : Option (List ℕ)) (bytes : List ℕ) (P : List ℕ → T
 of_given None now bytes P h p = tt
 of_given (Some input) now bytes P h p = subst P (sym h.0) p
 
-found : (c : Command) (x : Exchange) (bytes : List ℕ) (status : Status) → GaveAll x.source.bytes x.source_now.bytes bytes → refused_by (reply_in x c bytes) ≡ Some status
-    → OfInput x.source.bytes (λ input. refused_by (reply_in x c input) ≡ Some status)
-found c x bytes status g e = of_given x.source.bytes x.source_now.bytes bytes (λ input. refused_by (reply_in x c input) ≡ Some status) g e
+-- what holds of the bytes that are the input
+pub of_input : (own : Option (List ℕ)) (old new : Stream) (bytes : List ℕ) (P : List ℕ → Type 0) → IsGiven own bytes old new → P bytes → OfInput (or_given own old.bytes) P
+of_input None old new bytes P g p = of_given old.bytes new.bytes bytes P g.gave p
+of_input (Some text) old new bytes P g p = subst P g.0 p
 
-refused : (c : Command) (x : Exchange) (bytes : List ℕ) (status : Status) → GaveAll x.source.bytes x.source_now.bytes bytes → reply_in x c bytes ≡ Refuses status
-    → OfInput x.source.bytes (λ input. reply_in x c input ≡ Refuses status)
-refused c x bytes status g e = of_given x.source.bytes x.source_now.bytes bytes (λ input. reply_in x c input ≡ Refuses status) g e
+was_read : (own : Option (List ℕ)) (old new : Stream) (bytes : List ℕ) → IsGiven own bytes old new → IsReadUnless own old new
+was_read None old new bytes g = all_read old.bytes new.bytes bytes g.gave
+was_read (Some text) old new bytes g = g.1
 
-replied_to : (c : Command) (x : Exchange) (bytes : List ℕ) (status : Status) → GaveAll x.source.bytes x.source_now.bytes bytes → PutOrLost (reply_in x c bytes) x.sink x.sink_now status
+found : (c : Command) (x : Exchange) (bytes : List ℕ) (status : Status) → IsGiven (own_input c) bytes x.source x.source_now → refused_by (reply_in x c bytes) ≡ Some status
+    → OfInput (input_of c x) (λ input. refused_by (reply_in x c input) ≡ Some status)
+found c x bytes status g e = of_input (own_input c) x.source x.source_now bytes (λ input. refused_by (reply_in x c input) ≡ Some status) g e
+
+refused : (c : Command) (x : Exchange) (bytes : List ℕ) (status : Status) → IsGiven (own_input c) bytes x.source x.source_now → reply_in x c bytes ≡ Refuses status
+    → OfInput (input_of c x) (λ input. reply_in x c input ≡ Refuses status)
+refused c x bytes status g e = of_input (own_input c) x.source x.source_now bytes (λ input. reply_in x c input ≡ Refuses status) g e
+
+pub replied : (c : Command) (x : Exchange) (bytes : List ℕ) (status : Status) → IsGiven (own_input c) bytes x.source x.source_now → PutOrLost (reply_in x c bytes) x.sink x.sink_now status
     → LeavesStore (how_of c) x.device x.device_now status → BeforeAnswerLine (Some c) x status
-replied_to c x bytes Done g h f = (all_read _ _ _ g, of_given x.source.bytes x.source_now.bytes bytes (IsDone c x) g (record { text = h.0; replies = h.1; put = h.2 }))
-replied_to c x bytes Usage g h f = absurd h
-replied_to c x bytes ReadFault g h f = absurd h
-replied_to c x bytes WriteFault g h f =
-    (h.2.counted, all_read _ _ _ g, of_given x.source.bytes x.source_now.bytes bytes (IsCutOff c x) g (record { text = h.0; replies = h.1; put = h.2 }))
-replied_to c x bytes NoMemory g h f = (f, h)
-replied_to c x bytes DeviceLost g h f =
-    (f, all_read _ _ _ g, of_given x.source.bytes x.source_now.bytes bytes (IsStopped (λ from status. x.sink_now ≡ from) c x) g (record { text = h.0; replies = h.1; middle = x.sink_now; put = h.2; named = refl }))
-replied_to c x bytes (Small need len) g h f = (inl (all_read _ _ _ g), f, found c x bytes (Small need len) g h.0, h.1)
-replied_to c x bytes (Image fault) g h f = (inl (all_read _ _ _ g), f, found c x bytes (Image fault) g h.0, h.1)
-replied_to c x bytes (Script s) g h f = (inl (all_read _ _ _ g), f, refused c x bytes (Script s) g h.0, h.1)
-replied_to c x bytes (Packed p) g h f = (inl (all_read _ _ _ g), f, refused c x bytes (Packed p) g h.0, h.1)
+replied c x bytes Done g h f = (was_read (own_input c) x.source x.source_now bytes g, of_input (own_input c) x.source x.source_now bytes (IsDone c x) g (record { text = h.0; replies = h.1; put = h.2 }))
+replied c x bytes Usage g h f = absurd h
+replied c x bytes ReadFault g h f = absurd h
+replied c x bytes WriteFault g h f =
+    (h.2.counted, was_read (own_input c) x.source x.source_now bytes g, of_input (own_input c) x.source x.source_now bytes (IsCutOff c x) g (record { text = h.0; replies = h.1; put = h.2 }))
+replied c x bytes NoMemory g h f = (f, h)
+replied c x bytes DeviceLost g h f =
+    (f, was_read (own_input c) x.source x.source_now bytes g, of_input (own_input c) x.source x.source_now bytes (IsStopped (λ from status. x.sink_now ≡ from) c x) g (record { text = h.0; replies = h.1; middle = x.sink_now; put = h.2; named = refl }))
+replied c x bytes (Small need len) g h f = (inl (was_read (own_input c) x.source x.source_now bytes g), f, found c x bytes (Small need len) g h.0, h.1)
+replied c x bytes (Image fault) g h f = (inl (was_read (own_input c) x.source x.source_now bytes g), f, found c x bytes (Image fault) g h.0, h.1)
+replied c x bytes (Script s) g h f = (inl (was_read (own_input c) x.source x.source_now bytes g), f, refused c x bytes (Script s) g h.0, h.1)
+replied c x bytes (Packed p) g h f = (inl (was_read (own_input c) x.source x.source_now bytes g), f, refused c x bytes (Packed p) g h.0, h.1)
 
-pub replied : (c : Command) (x : Exchange) (bytes : List ℕ) (status : Status) → ReadsAll bytes x.source x.source_now → PutOrLost (reply_in x c bytes) x.sink x.sink_now status → LeavesStore (how_of c) x.device x.device_now status
-    → BeforeAnswerLine (Some c) x status
-replied c x bytes status g h f = replied_to c x bytes status g.gave h f
+pub given_few : (own : Option (List ℕ)) (old new : Stream) (bytes : List ℕ) (status : Status) → IsGiven own bytes old new → length bytes ≤ most_input → HasReadFew old new status
+given_few None old new bytes status g l = inl (all_gone old.bytes new.bytes bytes most_input g.gave l)
+given_few (Some text) old new bytes status g l = subst (λ (s : Stream). HasReadFew old s status) (sym g.1) (inl (none_gone old.bytes most_input))
 
-pub read_few : (old new : Stream) (bytes : List ℕ) (status : Status) → ReadsAll bytes old new → length bytes ≤ most_input → HasReadFew old new status
-read_few old new bytes status g l = inl (all_gone old.bytes new.bytes bytes most_input g.gave l)
-
--- what is promised of the input
-pub promised : (P : List ℕ → Type 0) (old new : Stream) (bytes : List ℕ) → ReadsAll bytes old new → P bytes → OfInput old.bytes P
-promised P old new bytes g p = of_given old.bytes new.bytes bytes P g.gave p
+-- the source did not fail
+pub given_still : (own : Option (List ℕ)) (old new : Stream) (bytes : List ℕ) → IsGiven own bytes old new → new.faults ≡ old.faults
+given_still None old new bytes g = g.still
+given_still (Some text) old new bytes g = ap (λ (s : Stream). s.faults) g.1

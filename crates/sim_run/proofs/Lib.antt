@@ -11,3 +11,5 @@ pub mod Amid
 pub mod Stopped
 pub mod Chained
 pub mod StoppedChains
+pub mod MadeRead
+pub mod Summing

@@ -7,7 +7,8 @@ use Rattle.kernel_core.specs.Opening.{IsLeft}
 use Rattle.schedule_model.specs.Failures.{events_of}
 use Rattle.headline.specs.Headline.{Headline}
 use Rattle.headline.specs.Report.{report_text}
-use Rattle.headline.specs.Runs.{Origin}
+use Rattle.headline.specs.Runs.{Origin, all_lines}
+use Rattle.simulation.specs.Counts.{tally_of}
 use Rattle.kernel_core.specs.declared.open.How.{How}
 use Rattle.kernel_core.specs.declared.open.How.TheVariants.{Fresh, Again}
 use Rattle.script.specs.Parts as scripts
@@ -20,12 +21,14 @@ use Rattle.answers.specs.Refusals.{script_answer}
 use Rattle.answers.specs.declared.status.Status.{Status}
 use Rattle.answers.specs.declared.status.Status.TheVariants.{Done, Script}
 use Rattle.sim_run.specs.declared.command.Command.{Command}
-use Rattle.sim_run.specs.declared.command.Command.TheVariants.{Run, Resume, Asm, Dis, Pack}
-use Rattle.sim_run.specs.Origins.{begin_on}
-use Rattle.sim_run.specs.Replies.{Puts, Refuses, most_input, reply, run_reply, too_long}
-use Rattle.sim_run.specs.Answers.{Answered, Exchange, IsDone, OfInput}
-use Rattle.sim_run.specs.Promises.{ImagesTo, IsHeadlined, IsImaged, IsPromised, KeepsHeadline, KeepsImages, KeepsPromise}
-use Rattle.nv_base.specs.Streams.{Stream}
+use Rattle.sim_run.specs.declared.command.Command.TheVariants.{Run, Resume, Asm, Dis, Pack, Make}
+use Rattle.sim_run.specs.Origins.{begin_on, fresh_run}
+use Rattle.sim_run.specs.MadeScript.{made_text}
+use Rattle.sim_run.specs.Summary.{summary_text}
+use Rattle.sim_run.specs.Replies.{Finds, Puts, Refuses, Reply, device_reply, in_place, made_reply, most_input, reply, run_reply, too_long}
+use Rattle.sim_run.specs.Answers.{Answered, Exchange, IsDone, OfInput, input_of}
+use Rattle.sim_run.specs.Promises.{ImagesTo, IsHeadlined, IsImaged, IsPromised, IsSummedUp, KeepsHeadline, KeepsImages, KeepsPromise}
+use Rattle.nv_base.specs.Streams.{PutsText, Stream}
 use Rattle.sim_run.proofs.Amid.{unopened}
 use Rattle.sim_run.proofs.Answering.{later}
 use Rattle.sim_run.proofs.Sizes.{text_begun}
@@ -67,7 +70,39 @@ resume_is : Runs Resume Again
 unfolding reply
 resume_is = record { says = λ d input. refl }
 
-done_at : (c : Command) (x : Exchange) (status : Status) → status ≡ Done → Answered (Some c) x status → OfInput x.source.bytes (IsDone c x)
+-- the summary is that of the report of which the headline holds
+other_text : (text put : List ℕ) (r : Reply) → in_place text r ≡ Puts put → text ≡ put
+other_text text put (Puts report) e = cc e
+other_text text put (Refuses status) e = absurd (cc e)
+other_text text put (Finds status) e = absurd (cc e)
+
+summary_is : (seed : ℕ) (long : Bool) (d : Store) (r : Result scripts.Script ScriptError) (s : scripts.Script) (o : Origin) (text : List ℕ) → r ≡ Ok s → begin_on Fresh s.set (words_in d) ≡ Some o → cond long (Refuses (Script too_long)) (made_reply seed d r) ≡ Puts text
+    → summary_text seed (tally_of (all_lines o (events_of s.schedule))) ≡ text
+summary_is seed true d r s o text e b h = absurd (cc h)
+summary_is seed false d r s o text e b h =
+    let same : fresh_run s.set ≡ o = cc b in
+    let put = sym (ap (made_reply seed d) e) ∙ h in
+    ap (λ (x : Origin). summary_text seed (tally_of (all_lines x (events_of s.schedule)))) (sym same) ∙ other_text (summary_text seed (tally_of (all_lines (fresh_run s.set) (events_of s.schedule)))) text (device_reply Fresh d s.set (events_of s.schedule)) put
+
+make_is : (seed : ℕ) (d : Store) (input : List ℕ) → reply (Make seed) d input ≡ cond (ltb most_input (length input)) (Refuses (Script too_long)) (made_reply seed d (read input))
+unfolding reply
+make_is seed d input = refl
+
+summed_up : (seed : ℕ) (x : Exchange) (input : List ℕ) → IsPromised Fresh (words_in x.device) input → IsDone (Make seed) x input → IsSummedUp seed x input
+summed_up seed x input p d =
+    let o = p.run.origin in
+    let events = events_of p.script.schedule in
+    let same = summary_is seed (ltb most_input (length input)) x.device (read input) p.script o d.text p.reads p.run.begins (sym (make_is seed x.device input) ∙ d.replies) in record {
+      script = p.script;
+      reads = p.reads;
+      origin = o;
+      begins = p.run.begins;
+      promise = p.run.promise;
+      goes_on = p.run.goes_on;
+      put = subst (λ (t : List ℕ). PutsText t x.sink x.sink_now) (sym same) d.put;
+    }
+
+done_at : (c : Command) (x : Exchange) (status : Status) → status ≡ Done → Answered (Some c) x status → OfInput (input_of c x) (IsDone c x)
 done_at c x status e h = let at : Answered (Some c) x Done = subst (λ (s : Status). Answered (Some c) x s) e h in at.1
 
 pub keeps_headline : (command : Option Command) (x : Exchange) (status : Status) → Answered command x status → KeepsPromise command x status → KeepsHeadline command x status
@@ -77,6 +112,7 @@ keeps_headline (Some Resume) x status h p = λ e. both Resume Again x status x.s
 keeps_headline (Some Asm) x status h p = tt
 keeps_headline (Some Dis) x status h p = tt
 keeps_headline (Some Pack) x status h p = tt
+keeps_headline (Some (Make seed)) x status h p = λ e. summed_up seed x (made_text seed) (p e) (done_at (Make seed) x status e h)
 
 -- also behind the line that names the answer
 pub promise_later : (command : Option Command) (x : Exchange) (new : Stream) (status : Status) → KeepsPromise command x status → KeepsPromise command (later x new) status
@@ -102,17 +138,14 @@ none_written how set events old status never = record {
 none_imaged : (c : Command) (old : Store) (status : Status) (input : List ℕ) → (status ≡ Done → ⊥) → ImagesTo c old old status input
 none_imaged Run old status input never = λ s e. none_written Fresh s.set (events_of s.schedule) old status never
 none_imaged Resume old status input never = λ s e. none_written Again s.set (events_of s.schedule) old status never
+none_imaged (Make seed) old status input never = λ s e. none_written Fresh s.set (events_of s.schedule) old status never
 none_imaged Asm old status input never = tt
 none_imaged Dis old status input never = tt
 none_imaged Pack old status input never = tt
 
-pub images_unread : (command : Option Command) (x : Exchange) (status : Status) → x.device_now ≡ x.device → (status ≡ Done → ⊥) → KeepsImages command x status
-images_unread None x status e never = tt
-images_unread (Some c) x status e never = subst (λ (d : Store). OfInput x.source.bytes (ImagesTo c x.device d status)) (sym e) (at x.source.bytes)
-  where
-    at : (left : Option (List ℕ)) → OfInput left (ImagesTo c x.device x.device status)
-    at None = tt
-    at (Some input) = none_imaged c x.device status input never
+pub images_unread : (c : Command) (old : Store) (status : Status) (left : Option (List ℕ)) → (status ≡ Done → ⊥) → OfInput left (ImagesTo c old old status)
+images_unread c old status None never = tt
+images_unread c old status (Some input) never = none_imaged c old status input never
 
 pub script_refused : (r : Refusal ScriptError) → script_answer r ≡ Done → ⊥
 script_refused (refusal.At e) done = cc done

@@ -17,7 +17,7 @@ use Rattle.script.specs.Causes.{ScriptError}
 use Rattle.answers.specs.Names.{PutsName}
 use Rattle.answers.specs.declared.status.Status.{Status}
 use Rattle.answers.specs.declared.status.Status.TheVariants.{Done, Usage, ReadFault, WriteFault, NoMemory, DeviceLost, Image, Small, Script, Packed}
-use Rattle.sim_run.specs.Answers.{Exchange}
+use Rattle.sim_run.specs.Answers.{Exchange, input_of}
 use Rattle.sim_run.specs.Halts.{status_at}
 use Rattle.sim_run.specs.Promises.{HasOpenedPart, IsBegun}
 use Rattle.sim_run.specs.Stopping.{HasStopped, KeepsStop, StoppedAs, StopsTo, TellsStop}
@@ -66,4 +66,4 @@ same_stop how a b r old new sink now status e f h = let ok : Ok a ≡ Ok b = sym
 pub stop_told : (command : Option Command) (x : Exchange) (new : Stream) (status : Status) → PutsName status x.sink_now new → KeepsStop command x status → TellsStop command (later x new) status
 stop_told None x new status name h = tt
 stop_told (Some c) x new status name h =
-    on_input x.source.bytes (StopsTo c x.device x.device_now x.sink x.sink_now status) (λ input. (middle : Stream) × StopsTo c x.device x.device_now x.sink middle status input × PutsName status middle new) (λ input s. (x.sink_now, s, name)) h
+    on_input (input_of c x) (StopsTo c x.device x.device_now x.sink x.sink_now status) (λ input. (middle : Stream) × StopsTo c x.device x.device_now x.sink middle status input × PutsName status middle new) (λ input s. (x.sink_now, s, name)) h

@@ -5,12 +5,13 @@ use Rattle.sim_run.specs.Replies.{Puts, Refuses, Reply, reply, refused_by, statu
 use Rattle.simulation.specs.Runs.{PutsStart}
 use Rattle.simulation.specs.Stores.{Store}
 use Rattle.answers.specs.Names.{PutsName}
+use Rattle.sim_run.specs.MadeScript.{made_text}
 use Rattle.sim_run.specs.declared.command.Command.{Command}
 use Rattle.answers.specs.declared.status.Status.{Status}
 use Rattle.answers.specs.declared.status.Status.TheVariants.{Done, Usage, Script, ReadFault, WriteFault, NoMemory, DeviceLost, Image, Small}
 use Rattle.kernel_core.specs.declared.open.How.{How}
 use Rattle.kernel_core.specs.declared.open.How.TheVariants.{Fresh, Again}
-use Rattle.sim_run.specs.declared.command.Command.TheVariants.{Run, Resume}
+use Rattle.sim_run.specs.declared.command.Command.TheVariants.{Run, Resume, Make}
 
 -- a source, a sink and a device, at the call and at the return
 pub record Exchange : Type 0 where
@@ -72,13 +73,30 @@ abbrev pub OfInput : Option (List ℕ) → (List ℕ → Type 0) → Type 0
 OfInput None P = Unit {0}
 OfInput (Some input) P = P input
 
--- nothing is left
-abbrev pub HasReadAll : Exchange → Type 0
-HasReadAll x = OfInput x.source.bytes (λ input. x.source_now.bytes ≡ Some [])
+-- the script of its own that a command has for its input: `make` alone has one
+abbrev pub own_input : Command → Option (List ℕ)
+own_input (Make seed) = Some (made_text seed)
+own_input _ = None
 
--- nothing is left, or one byte more than the most was read
-abbrev pub HasReadEnough : Exchange → Type 0
-HasReadEnough x = HasReadAll x ⊎ AreGone x.source.bytes x.source_now.bytes (most_input + 1)
+-- its input: that, or else what its source gives
+abbrev pub or_given : (own given : Option (List ℕ)) → Option (List ℕ)
+or_given None given = given
+or_given (Some text) given = Some text
+
+abbrev pub input_of : Command → Exchange → Option (List ℕ)
+input_of c x = or_given (own_input c) x.source.bytes
+
+-- nothing is left of the source; or it was not read, where it gives no input
+abbrev pub IsReadUnless : (own : Option (List ℕ)) → (old new : Stream) → Type 0
+IsReadUnless None old new = OfInput old.bytes (λ input. new.bytes ≡ Some [])
+IsReadUnless (Some text) old new = new ≡ old
+
+abbrev pub HasReadAll : Command → Exchange → Type 0
+HasReadAll c x = IsReadUnless (own_input c) x.source x.source_now
+
+-- the same, or one byte more than the most was read
+abbrev pub HasReadEnough : Command → Exchange → Type 0
+HasReadEnough c x = HasReadAll c x ⊎ ((own_input c ≡ None) × AreGone x.source.bytes x.source_now.bytes (most_input + 1))
 
 -- what a command replies to an input
 abbrev pub reply_in : Exchange → Command → List ℕ → Reply
@@ -106,19 +124,19 @@ pub record IsStopped (Names : Stream → Status → Type 0) (c : Command) (x : E
 
 -- each answer to a command: when it may come, and what it leaves. Names: what was put from some moment on to name it
 abbrev pub AnsweredTo : (Stream → Status → Type 0) → Command → Exchange → Status → Type 0
-AnsweredTo Names c x Done = HasReadAll x × OfInput x.source.bytes (IsDone c x)
+AnsweredTo Names c x Done = HasReadAll c x × OfInput (input_of c x) (IsDone c x)
 AnsweredTo Names c x Usage = ⊥
-AnsweredTo Names c x ReadFault = ReadFailed x × IsUntouched x × Names x.sink ReadFault
-AnsweredTo Names c x WriteFault = WriteFailed x × HasReadAll x × OfInput x.source.bytes (IsCutOff c x)
+AnsweredTo Names c x ReadFault = (own_input c ≡ None) × ReadFailed x × IsUntouched x × Names x.sink ReadFault
+AnsweredTo Names c x WriteFault = WriteFailed x × HasReadAll c x × OfInput (input_of c x) (IsCutOff c x)
 AnsweredTo Names c x NoMemory = IsUntouched x × Names x.sink NoMemory
-AnsweredTo Names c x DeviceLost = DeviceFailed x × HasReadAll x × OfInput x.source.bytes (IsStopped Names c x)
+AnsweredTo Names c x DeviceLost = DeviceFailed x × HasReadAll c x × OfInput (input_of c x) (IsStopped Names c x)
 AnsweredTo Names c x (Small need len) =
-    HasReadEnough x × IsSpared (how_of c) x.device x.device_now × OfInput x.source.bytes (λ input. refused_by (reply_in x c input) ≡ Some (Small need len))
+    HasReadEnough c x × IsSpared (how_of c) x.device x.device_now × OfInput (input_of c x) (λ input. refused_by (reply_in x c input) ≡ Some (Small need len))
     × Names x.sink (Small need len)
 AnsweredTo Names c x (Image fault) =
-    HasReadEnough x × IsSpared (how_of c) x.device x.device_now × OfInput x.source.bytes (λ input. refused_by (reply_in x c input) ≡ Some (Image fault))
+    HasReadEnough c x × IsSpared (how_of c) x.device x.device_now × OfInput (input_of c x) (λ input. refused_by (reply_in x c input) ≡ Some (Image fault))
     × Names x.sink (Image fault)
-AnsweredTo Names c x status = HasReadEnough x × IsUntouched x × OfInput x.source.bytes (λ input. reply_in x c input ≡ Refuses status) × Names x.sink status
+AnsweredTo Names c x status = HasReadEnough c x × IsUntouched x × OfInput (input_of c x) (λ input. reply_in x c input ≡ Refuses status) × Names x.sink status
 
 -- words that are no command are answered by Usage, and nothing is read
 abbrev pub AnsweredBy : (Stream → Status → Type 0) → Option Command → Exchange → Status → Type 0
@@ -129,10 +147,11 @@ AnsweredBy Names (Some c) x status = AnsweredTo Names c x status
 abbrev pub Answered : Option Command → Exchange → Status → Type 0
 Answered command x status = AnsweredBy (λ from named. PutsName named from x.sink_now) command x status
 
--- only `run` and `resume` may touch the device
+-- only `run`, `resume` and `make` may touch the device
 abbrev pub MayUse : Command → (old new : Store) → Type 0
 MayUse Run old new = new.start ≡ old.start
 MayUse Resume old new = new.start ≡ old.start
+MayUse (Make seed) old new = new.start ≡ old.start
 MayUse _ old new = new ≡ old
 
 abbrev pub LeavesDevice : Option Command → Exchange → Type 0
@@ -146,7 +165,7 @@ NoFault x = (ReadFailed x → ⊥) × (WriteFailed x → ⊥) × (DeviceFailed x
 -- a command, and no fault: the answer is what the command replies to the input, unless memory ran out
 abbrev pub IsComplete : Option Command → Exchange → Status → Type 0
 IsComplete None x status = status ≡ Usage
-IsComplete (Some c) x status = NoFault x → OfInput x.source.bytes (λ input. (status ≡ status_of (reply_in x c input)) ⊎ (status ≡ NoMemory))
+IsComplete (Some c) x status = NoFault x → OfInput (input_of c x) (λ input. (status ≡ status_of (reply_in x c input)) ⊎ (status ≡ NoMemory))
 
 -- at most as many bytes as an input may have were read; or one more, and then the answer says so
 abbrev pub HasReadFew : Stream → Stream → Status → Type 0

@@ -1,6 +1,6 @@
 -- What a call has done before the line that names its answer.
-use Rattle.std.specs.Prelude.{◌≡◌, List, ℕ, Option, Some}
-use Rattle.nv_base.specs.Streams.{PutsFront, PutsText, FaultCounted, Stream}
+use Rattle.std.specs.Prelude.{◌≡◌, List, ℕ, Option, None, Some}
+use Rattle.nv_base.specs.Streams.{PutsFront, PutsText, FaultCounted, ReadsAll, Stream}
 use Rattle.nv_base.specs.WholeInputs.{Stops}
 use Rattle.nv_base.specs.declared.whole.ReadRefusal.TheVariants as reading
 use Rattle.sim_run.specs.Replies.{Reply, Puts, Refuses, refused_by, text_by, too_long, most_input}
@@ -16,12 +16,22 @@ use Rattle.answers.specs.declared.status.Status.TheVariants.{Done, Usage, ReadFa
 abbrev pub BeforeAnswerLine : Option Command → Exchange → Status → Type 0
 BeforeAnswerLine command x status = AnsweredBy (λ from named. x.sink_now ≡ from) command x status
 
+-- these bytes are the input: all that the source gave, or what the command has of its own
+abbrev pub IsGiven : (own : Option (List ℕ)) → List ℕ → (old new : Stream) → Type 0
+IsGiven None bytes old new = ReadsAll bytes old new
+IsGiven (Some text) bytes old new = (bytes ≡ text) × (new ≡ old)
+
 -- why no input was read
 abbrev pub Unread : Stream → Stream → Status → Type 0
 Unread old new ReadFault = Stops most_input old new reading.ReadFault
 Unread old new (Script e) = (e ≡ too_long) × Stops most_input old new reading.TooLong
 Unread old new NoMemory = Stops most_input old new reading.NoMemory
 Unread old new _ = ⊥
+
+-- why there is none
+abbrev pub IsNotGiven : (own : Option (List ℕ)) → (old new : Stream) → Status → Type 0
+IsNotGiven None old new status = Unread old new status
+IsNotGiven (Some text) old new status = (status ≡ NoMemory) × (new ≡ old)
 
 -- what became of the device by way of a reply: nothing where memory ran out or the reply refuses, and a call was lost where the answer says so
 abbrev pub LeavesStore : How → Store → Store → Status → Type 0

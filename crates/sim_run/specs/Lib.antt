@@ -1,6 +1,8 @@
 pub mod Commands
 pub mod Origins
 pub mod Replies
+pub mod MadeScript
+pub mod Summary
 pub mod Answers
 pub mod OpeningImages
 pub mod Promises

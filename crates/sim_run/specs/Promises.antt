@@ -1,17 +1,17 @@
--- What the headline promises of the answers to `run` and `resume`. This project's own.
+-- What the headline promises of the answers to `run`, `resume` and `make`. This project's own.
 use Rattle.std.specs.Prelude.{◌≡◌, ◌⊎◌, ◌≤◌, ℕ, List, ◌++◌, length, Option, None, Some, Ok}
 use Rattle.nv_base.specs.Streams.{PutsText}
 use Rattle.schedule_model.specs.Failures.{events_of}
 use Rattle.headline.specs.Chains.{GoesOn}
 use Rattle.headline.specs.Headline.{Headline}
 use Rattle.headline.specs.Report.{report_text}
-use Rattle.headline.specs.Runs.{Origin}
+use Rattle.headline.specs.Runs.{Origin, all_lines}
 use Rattle.script.specs.Parts.{Script}
 use Rattle.script.specs.Reading.{read}
 use Rattle.answers.specs.declared.status.Status.{Status}
 use Rattle.answers.specs.declared.status.Status.TheVariants.{Done}
 use Rattle.sim_run.specs.declared.command.Command.{Command}
-use Rattle.sim_run.specs.declared.command.Command.TheVariants.{Run, Resume}
+use Rattle.sim_run.specs.declared.command.Command.TheVariants.{Run, Resume, Make}
 use Rattle.sim_run.specs.OpeningImages.{HasOpening}
 use Rattle.sim_run.specs.Origins.{begin_on, opened_on}
 use Rattle.sim_run.specs.Replies.{Puts, device_reply}
@@ -25,7 +25,10 @@ use Rattle.kernel_core.specs.declared.open.How.{How}
 use Rattle.kernel_core.specs.declared.open.How.TheVariants.{Fresh, Again}
 use Rattle.simulation.specs.Runs.{Begins, HasDone, HasDoneAll}
 use Rattle.simulation.specs.Stores.{Store, words_in}
-use Rattle.sim_run.specs.Answers.{Exchange, OfInput}
+use Rattle.simulation.specs.Counts.{tally_of}
+use Rattle.sim_run.specs.Answers.{Exchange, OfInput, input_of}
+use Rattle.sim_run.specs.MadeScript.{made_text}
+use Rattle.sim_run.specs.Summary.{summary_text}
 
 -- a run begins on the words at entry, of whose report the headline holds
 pub record HasPromise (how : How) (set : TaskSet) (events : List Event) (words : Words) : Type 0 where
@@ -50,6 +53,16 @@ pub record IsHeadlined (how : How) (x : Exchange) (input : List ℕ) : Type 0 wh
   pub promise : Headline origin (events_of script.schedule) text
   pub goes_on : GoesOn origin (events_of script.schedule)
   pub put : PutsText text x.sink x.sink_now
+
+-- and the lines of that report were counted, and its summary put, whole
+pub record IsSummedUp (seed : ℕ) (x : Exchange) (input : List ℕ) : Type 0 where
+  pub script : Script
+  pub reads : read input ≡ Ok script
+  pub origin : Origin
+  pub begins : begin_on Fresh script.set (words_in x.device) ≡ Some origin
+  pub promise : let events = events_of script.schedule in Headline origin events (report_text origin events)
+  pub goes_on : GoesOn origin (events_of script.schedule)
+  pub put : PutsText (summary_text seed (tally_of (all_lines origin (events_of script.schedule)))) x.sink x.sink_now
 
 -- what was written of a format or a migration, and what stands there then
 pub record HasOpenedPart (how : How) (set : TaskSet) (old new : Store) : Type 0 where
@@ -78,6 +91,7 @@ pub record IsImaged (how : How) (set : TaskSet) (events : List Event) (old new :
 abbrev pub PromisesTo : Command → Words → Status → (input : List ℕ) → Type 0
 PromisesTo Run words status input = status ≡ Done → IsPromised Fresh words input
 PromisesTo Resume words status input = status ≡ Done → IsPromised Again words input
+PromisesTo (Make seed) words status input = status ≡ Done → IsPromised Fresh words input
 PromisesTo _ words status input = Unit {0}
 
 abbrev pub HasImagesOf : How → (old new : Store) → Status → (input : List ℕ) → Type 0
@@ -87,26 +101,28 @@ HasImagesOf how old new status input =
 abbrev pub ImagesTo : Command → (old new : Store) → Status → (input : List ℕ) → Type 0
 ImagesTo Run old new status input = HasImagesOf Fresh old new status input
 ImagesTo Resume old new status input = HasImagesOf Again old new status input
+ImagesTo (Make seed) old new status input = HasImagesOf Fresh old new status input
 ImagesTo _ old new status input = Unit {0}
 
 -- ---- of a call
 
--- of `run` and `resume`, at each answer: so each image of the device is known
+-- of `run`, `resume` and `make`, at each answer: so each image of the device is known
 abbrev pub KeepsImages : Option Command → Exchange → Status → Type 0
 KeepsImages None x status = Unit {0}
-KeepsImages (Some c) x status = OfInput x.source.bytes (ImagesTo c x.device x.device_now status)
+KeepsImages (Some c) x status = OfInput (input_of c x) (ImagesTo c x.device x.device_now status)
 
 -- where they are answered by Done
 abbrev pub KeepsHeadline : Option Command → Exchange → Status → Type 0
 KeepsHeadline (Some Run) x status = status ≡ Done → OfInput x.source.bytes (IsHeadlined Fresh x)
 KeepsHeadline (Some Resume) x status = status ≡ Done → OfInput x.source.bytes (IsHeadlined Again x)
+KeepsHeadline (Some (Make seed)) x status = status ≡ Done → IsSummedUp seed x (made_text seed)
 KeepsHeadline _ x status = Unit {0}
 
 -- ---- within
 
 abbrev pub KeepsPromise : Option Command → Exchange → Status → Type 0
 KeepsPromise None x status = Unit {0}
-KeepsPromise (Some c) x status = OfInput x.source.bytes (PromisesTo c (words_in x.device) status)
+KeepsPromise (Some c) x status = OfInput (input_of c x) (PromisesTo c (words_in x.device) status)
 
 -- a kernel stands before the first event of a run on the words at entry
 pub record IsBegun (how : How) (set : TaskSet) (events : List Event) (old new : Store) (k : Kernel) : Type 0 where

@@ -30,9 +30,12 @@ use Rattle.script.specs.Causes.{ScriptError}
 use Rattle.answers.specs.declared.status.Status.{Status}
 use Rattle.answers.specs.declared.status.Status.TheVariants.{Done, Script, Packed, Small, Image}
 use Rattle.answers.specs.declared.status.ImageFault.TheVariants as fault
+use Rattle.headline.specs.Runs.{all_lines}
+use Rattle.simulation.specs.Counts.{tally_of}
 use Rattle.sim_run.specs.Origins.{device_for, device_from, fresh_run}
+use Rattle.sim_run.specs.Summary.{summary_text}
 use Rattle.sim_run.specs.declared.command.Command.{Command}
-use Rattle.sim_run.specs.declared.command.Command.TheVariants.{Run, Resume, Asm, Dis, Pack}
+use Rattle.sim_run.specs.declared.command.Command.TheVariants.{Run, Resume, Asm, Dis, Pack, Make}
 
 -- a text, or the answer that refuses the input, or the one that tells what was found on the device
 pub data Reply : Type 0 where
@@ -122,6 +125,22 @@ abbrev pub pack_reply : Result scripts.Script ScriptError → Reply
 pack_reply (Ok s) = Puts (packed s.set)
 pack_reply (Err e) = Refuses (Script e)
 
+-- ---- `make`: the summary of a run on a formatted device
+
+-- a text in the place of the one that is put
+abbrev pub in_place : List ℕ → Reply → Reply
+in_place text (Puts other) = Puts text
+in_place text (Refuses status) = Refuses status
+in_place text (Finds status) = Finds status
+
+-- as `run`, with how many lines of each kind the report has in its place
+abbrev pub summed_reply : (seed : ℕ) → Store → TaskSet → List Event → Reply
+summed_reply seed s set events = in_place (summary_text seed (tally_of (all_lines (fresh_run set) events))) (device_reply Fresh s set events)
+
+abbrev pub made_reply : (seed : ℕ) → Store → Result scripts.Script ScriptError → Reply
+made_reply seed s (Err e) = Refuses (Script e)
+made_reply seed s (Ok script) = summed_reply seed s script.set (events_of script.schedule)
+
 -- ---- all of them
 
 abbrev pub reply_within : Command → Store → List ℕ → Reply
@@ -130,6 +149,7 @@ reply_within Resume s input = run_reply Again s (read input)
 reply_within Asm s input = asm_reply (lines input)
 reply_within Dis s input = dis_reply (unpacked input)
 reply_within Pack s input = pack_reply (read input)
+reply_within (Make seed) s input = made_reply seed s (read input)
 
 unfoldable pub reply : Command → Store → List ℕ → Reply
 reply c s input = if nat_lt most_input (length input) then Refuses (Script too_long) else reply_within c s input

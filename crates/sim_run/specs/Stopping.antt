@@ -16,11 +16,11 @@ use Rattle.script.specs.Reading.{read}
 use Rattle.answers.specs.Names.{PutsName}
 use Rattle.answers.specs.declared.status.Status.{Status}
 use Rattle.answers.specs.declared.status.Status.TheVariants.{WriteFault, DeviceLost}
-use Rattle.sim_run.specs.Answers.{Exchange, OfInput}
+use Rattle.sim_run.specs.Answers.{Exchange, OfInput, input_of}
 use Rattle.sim_run.specs.Origins.{begin_on, opened_on}
-use Rattle.sim_run.specs.Promises.{HasOpenedPart}
+use Rattle.sim_run.specs.Promises.{HasOpenedPart, HasRunAll}
 use Rattle.sim_run.specs.declared.command.Command.{Command}
-use Rattle.sim_run.specs.declared.command.Command.TheVariants.{Run, Resume}
+use Rattle.sim_run.specs.declared.command.Command.TheVariants.{Run, Resume, Make}
 
 -- within its format or migration or before it reads, and then nothing was put; or at an event, or behind the last one
 abbrev pub HasStopped : How → TaskSet → List Event → (old new : Store) → (sink now : Stream) → Halt → Type 0
@@ -39,18 +39,29 @@ abbrev pub HasStoppedOf : How → (old new : Store) → (sink now : Stream) → 
 HasStoppedOf how old new sink now status input =
     (s : Script) → read input ≡ Ok s → StoppedAs how s.set (events_of s.schedule) old new sink now status
 
+-- of `make`, which puts nothing before the last event: where its device lost a call, nothing; and where its sink failed, all events were done
+abbrev pub StoppedUntold : TaskSet → List Event → (old new : Store) → (sink now : Stream) → Status → Type 0
+StoppedUntold set events old new sink now WriteFault = HasRunAll Fresh set events old new
+StoppedUntold set events old new sink now DeviceLost = now ≡ sink
+StoppedUntold set events old new sink now status = Unit {0}
+
+abbrev pub HasStoppedUntold : (old new : Store) → (sink now : Stream) → Status → (input : List ℕ) → Type 0
+HasStoppedUntold old new sink now status input =
+    (s : Script) → read input ≡ Ok s → StoppedUntold s.set (events_of s.schedule) old new sink now status
+
 abbrev pub StopsTo : Command → (old new : Store) → (sink now : Stream) → Status → (input : List ℕ) → Type 0
 StopsTo Run old new sink now status input = HasStoppedOf Fresh old new sink now status input
 StopsTo Resume old new sink now status input = HasStoppedOf Again old new sink now status input
+StopsTo (Make seed) old new sink now status input = HasStoppedUntold old new sink now status input
 StopsTo _ old new sink now status input = Unit {0}
 
 -- of a call, before the line that names its answer
 abbrev pub KeepsStop : Option Command → Exchange → Status → Type 0
 KeepsStop None x status = Unit {0}
-KeepsStop (Some c) x status = OfInput x.source.bytes (StopsTo c x.device x.device_now x.sink x.sink_now status)
+KeepsStop (Some c) x status = OfInput (input_of c x) (StopsTo c x.device x.device_now x.sink x.sink_now status)
 
 -- and with it
 abbrev pub TellsStop : Option Command → Exchange → Status → Type 0
 TellsStop None x status = Unit {0}
-TellsStop (Some c) x status = OfInput x.source.bytes
+TellsStop (Some c) x status = OfInput (input_of c x)
     (λ input. (middle : Stream) × StopsTo c x.device x.device_now x.sink middle status input × PutsName status middle x.sink_now)

@@ -12,7 +12,8 @@ ghost use Rattle.sim_run.specs.BeforeAnswerLine.{BeforeAnswerLine, LeavesStore, 
 
 use crate::assembly::asm;
 use crate::command::{Command, words_of};
-use crate::input::read_input;
+use crate::input::input_for;
+use crate::make::make;
 use crate::packing::{dis, pack};
 use crate::run::run;
 use answers::{Status, put_name};
@@ -54,6 +55,7 @@ fn answer<K: Sink, F: Fram>(
         Command::Asm => asm(alloc, input, out),
         Command::Dis => dis(alloc, input, out),
         Command::Pack => pack(alloc, input, out),
+        Command::Make(seed) => make(alloc, seed, input, out, dev),
     }
 }
 
@@ -89,16 +91,16 @@ fn carry_out<S: Source, K: Sink, F: Fram>(
     let Ok(command) = words_of(words) else {
         return Status::Usage;
     };
-    match read_input(alloc, src) {
+    match input_for(alloc, command, src) {
         Ok(input) => answer(alloc, command, input.as_slice(), out, dev),
         Err(status) => status,
     }
 }
 
-/// Carries out a command: reads the source to its end, and puts what the command replies to the input. Every other
+/// Carries out a command: reads the source to its end, but for `make`, and puts what the command replies to the input. Every other
 /// answer is named by a line, and then nothing else was put, but for a sink that failed on the way, or a device that lost
 /// a call. `run` formats the device, `resume` goes on from what it holds, and each puts the event machine's report, of which
-/// the headline holds; what the device holds is known at each of its writes. No other command touches it. It waits for nobody, and takes all its memory before
+/// the headline holds; `make` runs a script of its own as `run` does, and puts a summary of the report. What the device holds is known at each of its writes. No other command touches it. It waits for nobody, and takes all its memory before
 /// anything is put or written.
 pub fn simulate<S: Source, K: Sink, F: Fram>(
     alloc: Global,

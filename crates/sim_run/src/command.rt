@@ -2,8 +2,9 @@
 
 ghost use Rattle.std.specs.Prelude.{◌≡◌, map, Some, None, MatchResult};
 ghost use Rattle.std.specs.Rc.{rc_str_bytes};
-ghost use Rattle.sim_run.specs.Commands.{command_of, named};
+ghost use Rattle.sim_run.specs.Commands.{command_of, named, numbered};
 
+use plain_text::number_in;
 use std::rc::RcStr;
 
 /// What `simulate` is asked for.
@@ -19,6 +20,8 @@ pub enum Command {
     Dis,
     /// `pack`: a script in, its packed set out.
     Pack,
+    /// `make N`: nothing in, the summary of a run out, whose steps are drawn with this seed.
+    Make(u32),
 }
 
 /// Why words are no command.
@@ -46,16 +49,37 @@ fn named(word: &str) -> Option<Command>
     }
 }
 
+fn numbered(word: &str, number: &str) -> Option<Command>
+    ensures { result ≡ numbered word.now number.now }
+{
+    if word == "make" {
+        match number_in(0, u32::MAX, number.as_bytes()) {
+            Ok(seed) => Some(Command::Make(seed)),
+            Err(_) => None,
+        }
+    } else {
+        None
+    }
+}
+
+// A command that was found.
+fn or_usage(found: Option<Command>) -> Result<Command, WordsRefusal>
+    ensures { MatchResult result (λ c. found ≡ Some c) (λ e. found ≡ None) }
+{
+    match found {
+        Some(command) => Ok(command),
+        None => Err(WordsRefusal::Usage),
+    }
+}
+
 /// The command that these words name. `Usage` exactly where they name none. Takes no memory.
 pub fn words_of(words: &[RcStr]) -> Result<Command, WordsRefusal>
     ensures { let named = command_of (map rc_str_bytes words.now) in
         MatchResult result (λ c. named ≡ Some c) (λ e. named ≡ None) }
 {
-    let [word] = words else {
-        return Err(WordsRefusal::Usage);
-    };
-    match named(word.as_str()) {
-        Some(command) => Ok(command),
-        None => Err(WordsRefusal::Usage),
+    match words {
+        [word] => or_usage(named(word.as_str())),
+        [word, number] => or_usage(numbered(word.as_str(), number.as_str())),
+        _ => Err(WordsRefusal::Usage),
     }
 }

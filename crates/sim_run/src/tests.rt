@@ -239,3 +239,33 @@ fn a_lost_call_is_told_behind_the_lines_before(rt: HostRuntime) -> Result<(), Fa
     }
     Ok(())
 }
+
+/// The seven lines of these counts.
+fn seven_lines(
+    rt: &HostRuntime,
+    seed: &str,
+    finishes: u32,
+    refused: u32,
+) -> Result<String, NoMemory> {
+    Ok(format!(in rt.alloc();
+        "made {seed}\nfinishes {finishes}\nstale 0\nrefused {refused}\nfails 40\nboots 39\nagreed {finishes}\n"
+    )?)
+}
+
+#[test]
+fn made_scripts_are_summed_up(rt: HostRuntime) -> Result<(), Fail> {
+    // counted from the reports of a plain C machine
+    for (seed, finishes, refused) in [
+        ("0", 51, 12),
+        ("7", 51, 13),
+        ("18", 51, 12),
+        ("4294967295", 50, 13),
+    ] {
+        let expected = seven_lines(&rt, seed, finishes, refused)?;
+        assert!(rt; answers(&rt, &["make", seed], "not read", 0, expected.as_str())?);
+    }
+    assert!(rt; answers(&rt, &["make", "4294967296"], "", 2, "error usage\n")?);
+    assert!(rt; answers(&rt, &["make"], "", 2, "error usage\n")?);
+    assert!(rt; answers(&rt, &["make", "-1"], "", 2, "error usage\n")?);
+    Ok(())
+}

@@ -3,3 +3,4 @@ pub mod Halting
 pub mod Going
 pub mod ReadBack
 pub mod Tails
+pub mod Counted

@@ -1,3 +1,4 @@
 pub mod Stores
 pub mod Runs
 pub mod Places
+pub mod Counts
