@@ -1,5 +1,6 @@
 -- A kernel that goes on from what a device holds, once a state of format 1 was moved.
-use Rattle.std.proofs.Common.{◌≡◌, ◌⊎◌, inl, inr, ⊎_elim, ℕ, ◌≤◌, ◌&&◌, ◌++◌, Bool, true, false, cond, not, List, [], length, refl, sym, ap, ap₂, ◌∙◌, subst, arith}
+use Rattle.std.proofs.Common.{◌≡◌, ◌⊎◌, inl, inr, ⊎_elim, ℕ, ◌<◌, ◌≤◌, ◌&&◌, ◌++◌, Bool, true, false, cond, not, List, [], length, refl, sym, ap, ap₂, ◌∙◌, subst, arith}
+use Rattle.std.specs.Prelude.{nat_le}
 use Rattle.std.proofs.lemmas.Bool.{cases_eq, eq-eqb, ne_eqb}
 use Rattle.std.proofs.lemmas.List.{append-nil}
 use Rattle.std.proofs.Math.Seq.{take-length}
@@ -19,7 +20,7 @@ use Rattle.recovery.proofs.KindLaws.{named_magic}
 use Rattle.recovery.proofs.MovedState.{moved_at, moved_own, plain_named}
 use Rattle.recovery.proofs.ObjectRead.{held_once}
 use Rattle.recovery.proofs.ShiftLaws.{held_device, held_named, unmoved_device}
-use Rattle.kernel_core.specs.Opening.{IsMoved, IsNotBooted, IsLeft, IsNotOpened, IsReady, durable_stored, migration_of, opening_writes}
+use Rattle.kernel_core.specs.Opening.{IsMoved, IsNotBooted, IsLeft, IsNotOpened, IsReady, durable_stored, is_of_migration, migration_of, need_for, opening_writes}
 use Rattle.kernel_core.specs.declared.open.How.{How}
 use Rattle.kernel_core.specs.declared.open.How.TheVariants.{Fresh, Again}
 use Rattle.kernel_core.specs.declared.open.OpenRefusal.{OpenRefusal}
@@ -90,6 +91,22 @@ pub front_begun : {X : Type 0} (set : TaskSet) (len : ℕ) (words : Words) (log 
 front_begun set len words log grown two = ⊎_elim
     (front_none (opening_writes Again set words) log grown)
     (λ b. subst (λ (writes : List Change). HasFront writes log grown) (sym (all_writes set words two b.1.held b.1.fresh)) b.2)
+
+-- ---- a device that is too small
+
+either_fits : (b : Bool) (m n len : ℕ) → m ≤ len → n ≤ len → len < cond b m n → ⊥
+either_fits true m n len a b less = omega (arith, a, less)
+either_fits false m n len a b less = omega (arith, b, less)
+
+-- is not written where it is to be migrated: what can be moved has room
+fits_moved : (set : TaskSet) (len : ℕ) (words : Words) → need_on (device_of set 0) ≤ len → CanMove set words len → len < need_for Again set words len → ⊥
+fits_moved set len words long can less = either_fits (nat_le (need_on (device_of set 0)) len && is_of_migration set words) (need_on (migrated set)) (need_on (device_of set 0)) len can.old.room long less
+
+pub spared_cut : {X : Type 0} (set : TaskSet) (len : ℕ) (words : Words) (log grown : List Change) → need_on (device_of set 0) ≤ len → (grown ≡ log) ⊎ (X × CanMove set words len × HasBegun set words log grown) → len < need_for Again set words len → grown ≡ log
+spared_cut set len words log grown long unwritten less = ⊎_elim (λ e. e) (λ b. absurd (fits_moved set len words long b.1 less)) unwritten
+
+pub spared_moved : (set : TaskSet) (len : ℕ) (words : Words) (log grown : List Change) → need_on (device_of set 0) ≤ len → IsMigrated set words len log grown → len < need_for Again set words len → grown ≡ log
+spared_moved set len words log grown long m less = ⊎_elim (λ u. u.1) (⊎_elim (λ b. b.2) (λ c. absurd (fits_moved set len words long c.0 less))) m
 
 -- ---- what a format leaves, whole or cut
 

@@ -44,6 +44,9 @@ impl Kernel {
             → OnErr result (F.log dev.new ≡ F.log dev.old) }
         ensures cut { let words = words_of (F.log dev.old) (F.start dev.old) in OnErr result
             (HasFront (opening_writes How.Again self.old.set words) (F.log dev.old) (F.log dev.new)) }
+        ensures spared { let words = words_of (F.log dev.old) (F.start dev.old) in
+            let len = length (F.start dev.old) in
+            len < need_for How.Again self.old.set words len → F.log dev.new ≡ F.log dev.old }
         ensures left { let words = words_of (F.log dev.old) (F.start dev.old) in
             IsLeft How.Again self.old.set words (words_of (F.log dev.new) (F.start dev.new)) }
         ensures rest { KeepsSet self.old self.new }
@@ -77,6 +80,9 @@ impl Kernel {
             → OnErr result (F.log dev.new ≡ F.log dev.old) }
         ensures cut { let words = words_of (F.log dev.old) (F.start dev.old) in OnErr result
             (HasFront (opening_writes How.Again self.old.set words) (F.log dev.old) (F.log dev.new)) }
+        ensures spared { let words = words_of (F.log dev.old) (F.start dev.old) in
+            let len = length (F.start dev.old) in
+            len < need_for How.Again self.old.set words len → F.log dev.new ≡ F.log dev.old }
         ensures left { let words = words_of (F.log dev.old) (F.start dev.old) in
             IsLeft How.Again self.old.set words (words_of (F.log dev.new) (F.start dev.new)) }
         ensures room { (room : ℕ) → HasRoomFor self.old.set room self.old

@@ -70,7 +70,8 @@ impl Kernel {
     /// `Small` where the device has fewer words than the set needs, before all other answers; and where it has fewer than a
     /// migration reads or wrote, after `NoMemory` and where the device does not lose the call that reads word 0. `Lost` where
     /// the device lost a call: the first writes of the format or of the migration may be made. `Blank`, `Damaged` and `Worn`
-    /// come with `Again` alone, by the words at entry. But at `Lost` nothing was written.
+    /// come with `Again` alone, by the words at entry. But at `Lost` nothing was written; and where the device has too few words
+    /// nothing ever is.
     pub fn open<F: Fram>(
         alloc: Global,
         dev: &mut F,
@@ -99,6 +100,9 @@ impl Kernel {
             → OnErr result (F.log dev.new ≡ F.log dev.old) }
         ensures cut { let words = words_of (F.log dev.old) (F.start dev.old) in
             OnErr result (HasFront (opening_writes how set words) (F.log dev.old) (F.log dev.new)) }
+        ensures spared { let words = words_of (F.log dev.old) (F.start dev.old) in
+            let len = length (F.start dev.old) in
+            len < need_for how set words len → F.log dev.new ≡ F.log dev.old }
         ensures left { let words = words_of (F.log dev.old) (F.start dev.old) in
             IsLeft how set words (words_of (F.log dev.new) (F.start dev.new)) }
         ensures start { F.start dev.new ≡ F.start dev.old }
@@ -139,6 +143,9 @@ impl Kernel {
             → OnErr result (F.log dev.new ≡ F.log dev.old) }
         ensures cut { let words = words_of (F.log dev.old) (F.start dev.old) in OnErr result
             (HasFront (opening_writes how self.old.set words) (F.log dev.old) (F.log dev.new)) }
+        ensures spared { let words = words_of (F.log dev.old) (F.start dev.old) in
+            let len = length (F.start dev.old) in
+            len < need_for how self.old.set words len → F.log dev.new ≡ F.log dev.old }
         ensures left { let words = words_of (F.log dev.old) (F.start dev.old) in
             IsLeft how self.old.set words (words_of (F.log dev.new) (F.start dev.new)) }
         ensures rest { KeepsSet self.old self.new }

@@ -148,6 +148,7 @@ again set events room old new k o long left start grows count few first then =
       written = o.written;
       start = start;
       few = grows;
+      fits = then;
     }
 
 fresh : (set : TaskSet) (events : List Event) (room : ℕ) (old new : Store) (k : Kernel) → IsOpened Fresh set room (words_in old) old.log (words_in new) new.log k → new.start ≡ old.start → old.losses ≤ new.losses → room ≡ length events → length events ≤ 1000000 → need_on (device_for set) ≤ length old.start
@@ -166,6 +167,7 @@ fresh set events room old new k o start grows count few first = record {
   written = o.written;
   start = start;
   few = grows;
+  fits = first;
 }
 
 pub begun : {Q : Type 0} → (how : How) (set : TaskSet) (events : List Event) (room : ℕ) (old new : Store) (r : Result Kernel OpenRefusal) (k : Kernel) → SmallLaw (length old.start) (need_on (device_for set)) r Q → MoveLaw (length old.start) (need_for how set (words_in old) (length old.start)) r → r ≡ Ok k

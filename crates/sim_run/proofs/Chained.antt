@@ -23,7 +23,7 @@ use Rattle.sim_run.specs.Chains.{AreOneHistory}
 use Rattle.sim_run.specs.Origins.{begin_on, device_from, found_origin, fresh_run, opened_on}
 use Rattle.sim_run.specs.Promises.{HasPromise, HasRunAll}
 
-some_is : {A : Type 0} (x y : A) → Some x ≡ Some y → x ≡ y
+pub some_is : {A : Type 0} (x y : A) → Some x ≡ Some y → x ≡ y
 some_is x y e = cc e
 
 -- ---- of which set a run is
@@ -37,7 +37,7 @@ set_from set Plain = at (set.format == 2)
 set_from set Paged = refl
 set_from set Migrated = refl
 
-found_by : (set : TaskSet) (s : stored.Stored) (kind : Kind) (h : Held) (p : Origin) → s ≡ stored.Holds kind h → found_origin set s ≡ Some p → booting_origin (device_from set kind) h ≡ p
+pub found_by : (set : TaskSet) (s : stored.Stored) (kind : Kind) (h : Held) (p : Origin) → s ≡ stored.Holds kind h → found_origin set s ≡ Some p → booting_origin (device_from set kind) h ≡ p
 found_by set s kind h p e f = at (is_worn (durable_of h)) (sym (ap (found_origin set) e) ∙ f)
   where
     at : (b : Bool) → cond b None (Some (booting_origin (device_from set kind) h)) ≡ Some p → booting_origin (device_from set kind) h ≡ p
@@ -49,21 +49,25 @@ set_found set stored.Blank p f = absurd (cc f)
 set_found set (stored.Damaged place) p f = absurd (cc f)
 set_found set (stored.Holds kind h) p f = sym (ap (λ (o : Origin). o.device.set) (found_by set (stored.Holds kind h) kind h p refl f)) ∙ set_from set kind
 
-set_begun : (how : How) (set : TaskSet) (words : Words) (o : Origin) → begin_on how set words ≡ Some o → o.device.set ≡ set
+pub set_begun : (how : How) (set : TaskSet) (words : Words) (o : Origin) → begin_on how set words ≡ Some o → o.device.set ≡ set
 set_begun Fresh set words o e = let same : fresh_run set ≡ o = some_is _ _ e in sym (ap (λ (x : Origin). x.device.set) same)
 set_begun Again set words o e = set_found set (decode set words) o e
 
 -- ---- what the first run left
 
-words_left : (o : Origin) (events : List Event) (start : List ℕ) (before log : List Change) → HasImages o events start before log (length events) → Decodes o (words_of log start) (after o events)
-words_left o events start before log h =
-    let n : ℕ = length events in
+pub words_after : (o : Origin) (events : List Event) (start : List ℕ) (before log : List Change) (n : ℕ) → HasImages o events start before log n → Decodes o (words_of log start) (after o (take n events))
+words_after o events start before log n h =
     let k : ℕ = writes_by o (take n events) in
     let count = h.count in
     let all : before ++ take k h.writes ≡ log = ap (λ (x : List Change). before ++ x) (take_all k h.writes (omega (arith, count))) ∙ sym h.grown in
-    subst (λ (x : List Event). Decodes o (words_of log start) (after o x)) (take_all n events (omega arith)) (subst (λ (x : List Change). Decodes o (words_of x start) (after o (take n events))) all (h.images n k (omega arith) refl))
+    subst (λ (x : List Change). Decodes o (words_of x start) (after o (take n events))) all (h.images n k (omega arith) refl)
 
-follows : (set : TaskSet) (o : Origin) (events : List Event) (words : Words) (p : Origin) → o.device.set ≡ set → Decodes o words (after o events) → begin_on Again set words ≡ Some p → Follows o events p
+words_left : (o : Origin) (events : List Event) (start : List ℕ) (before log : List Change) → HasImages o events start before log (length events) → Decodes o (words_of log start) (after o events)
+words_left o events start before log h =
+    let n : ℕ = length events in
+    subst (λ (x : List Event). Decodes o (words_of log start) (after o x)) (take_all n events (omega arith)) (words_after o events start before log n h)
+
+pub follows : (set : TaskSet) (o : Origin) (events : List Event) (words : Words) (p : Origin) → o.device.set ≡ set → Decodes o words (after o events) → begin_on Again set words ≡ Some p → Follows o events p
 follows set o events words p same d e =
     let holds : decode set words ≡ stored.Holds o.device.kind d.held = subst (λ (x : TaskSet). decode x words ≡ stored.Holds o.device.kind d.held) same d.holds in
     let begins = found_by set (decode set words) o.device.kind d.held p holds e in record {

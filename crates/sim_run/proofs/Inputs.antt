@@ -2,10 +2,14 @@
 use Rattle.std.proofs.Common.{◌≡◌, ℕ, ◌+◌, ◌≤◌, cond, true, List, [], length, Option, Some, None, inl, inr, ap, sym, ◌∙◌, subst, refl, arith, ltb}
 use Rattle.std.proofs.lemmas.Bool.{lt-ltb}
 use Rattle.nv_base.specs.Streams.{AreGone, GaveAll, Stream}
+use Rattle.nv_base.specs.WholeInputs.{Stops}
+use Rattle.nv_base.specs.declared.whole.ReadRefusal.{ReadRefusal}
+use Rattle.nv_base.specs.declared.whole.ReadRefusal.TheVariants as reading
 use Rattle.sim_run.specs.Replies.{Refuses, refused_by, reply, reply_within, too_long, most_input}
 use Rattle.sim_run.specs.Answers.{Exchange, HasReadFew, IsCutOff, IsDone, IsReadUnless, IsStopped, OfInput, TellsReadFault, how_of, input_of, or_given, own_input, reply_in}
 use Rattle.sim_run.specs.BeforeAnswerLine.{BeforeAnswerLine, IsGiven, IsNotGiven, LeavesStore, PutOrLost, Unread}
 use Rattle.simulation.specs.Stores.{Store}
+use Rattle.sim_run.specs.Halts.{unread_as}
 use Rattle.device_model.specs.Words.{Words}
 use Rattle.sim_run.specs.Promises.{PromisesTo}
 use Rattle.sim_run.specs.declared.command.Command.{Command}
@@ -45,6 +49,11 @@ unread c x DeviceLost o e f h = absurd h
 unread c x (Small need len) o e f h = absurd h
 unread c x (Image fault) o e f h = absurd h
 unread c x (Packed p) o e f h = absurd h
+
+pub unread_stops : (old new : Stream) (r : ReadRefusal) → Stops most_input old new r → Unread old new (unread_as r)
+unread_stops old new reading.ReadFault h = h
+unread_stops old new reading.TooLong h = (refl, h)
+unread_stops old new reading.NoMemory h = h
 
 -- whether the command has an input of its own or not
 pub not_given : (c : Command) (x : Exchange) (status : Status) → x.sink_now ≡ x.sink → x.device_now ≡ x.device → IsNotGiven (own_input c) x.source x.source_now status → BeforeAnswerLine (Some c) x status

@@ -7,7 +7,9 @@ pub mod Gone
 pub mod Sizes
 pub mod BegunRuns
 pub mod Starting
+pub mod Amid
 pub mod Stopped
 pub mod Chained
+pub mod StoppedChains
 pub mod MadeRead
 pub mod Summing

@@ -1,5 +1,9 @@
 -- The report that was put is the one of which the headline holds.
-use Rattle.std.proofs.Common.{◌≡◌, ℕ, Bool, true, false, cond, List, length, Option, Some, None, Result, Ok, refl, subst, sym, ap, ◌∙◌, ltb}
+use Rattle.std.proofs.Common.{◌≡◌, inl, arith, ℕ, Bool, true, false, cond, List, length, Option, Some, None, Result, Ok, refl, subst, sym, ap, ◌∙◌, ltb}
+use Rattle.std.proofs.lemmas.List.{append-nil}
+use Rattle.kernel_model.specs.Events.{Event}
+use Rattle.set_model.specs.Sets.{TaskSet}
+use Rattle.kernel_core.specs.Opening.{IsLeft}
 use Rattle.schedule_model.specs.Failures.{events_of}
 use Rattle.headline.specs.Headline.{Headline}
 use Rattle.headline.specs.Report.{report_text}
@@ -11,6 +15,9 @@ use Rattle.script.specs.Parts as scripts
 use Rattle.script.specs.Causes.{ScriptError}
 use Rattle.script.specs.Reading.{read}
 use Rattle.simulation.specs.Stores.{Store, words_in}
+use Rattle.nv_base.specs.declared.refusals.Refusal.{Refusal}
+use Rattle.nv_base.specs.declared.refusals.Refusal.TheVariants as refusal
+use Rattle.answers.specs.Refusals.{script_answer}
 use Rattle.answers.specs.declared.status.Status.{Status}
 use Rattle.answers.specs.declared.status.Status.TheVariants.{Done, Script}
 use Rattle.sim_run.specs.declared.command.Command.{Command}
@@ -20,8 +27,9 @@ use Rattle.sim_run.specs.MadeScript.{made_text}
 use Rattle.sim_run.specs.Summary.{summary_text}
 use Rattle.sim_run.specs.Replies.{Finds, Puts, Refuses, Reply, device_reply, in_place, made_reply, most_input, reply, run_reply, too_long}
 use Rattle.sim_run.specs.Answers.{Answered, Exchange, IsDone, OfInput, input_of}
-use Rattle.sim_run.specs.Promises.{IsHeadlined, IsPromised, IsSummedUp, KeepsHeadline, KeepsImages, KeepsPromise}
+use Rattle.sim_run.specs.Promises.{ImagesTo, IsHeadlined, IsImaged, IsPromised, IsSummedUp, KeepsHeadline, KeepsImages, KeepsPromise}
 use Rattle.nv_base.specs.Streams.{PutsText, Stream}
+use Rattle.sim_run.proofs.Amid.{unopened}
 use Rattle.sim_run.proofs.Answering.{later}
 use Rattle.sim_run.proofs.Sizes.{text_begun}
 
@@ -114,3 +122,31 @@ promise_later (Some c) x new status h = h
 pub images_later : (command : Option Command) (x : Exchange) (new : Stream) (status : Status) → KeepsImages command x status → KeepsImages command (later x new) status
 images_later None x new status h = tt
 images_later (Some c) x new status h = h
+
+-- and where no input was read
+pub none_written : (how : How) (set : TaskSet) (events : List Event) (old : Store) (status : Status) → (status ≡ Done → ⊥) → IsImaged how set events old old status
+none_written how set events old status never = record {
+  written = inl (record { front = (0, omega arith, sym (append-nil old.log)); left = same how });
+  opened = unopened how set old;
+  whole = λ done. absurd (never done);
+}
+  where
+    same : (how : How) → IsLeft how set (words_in old) (words_in old)
+    same Fresh = inl refl
+    same Again = refl
+
+none_imaged : (c : Command) (old : Store) (status : Status) (input : List ℕ) → (status ≡ Done → ⊥) → ImagesTo c old old status input
+none_imaged Run old status input never = λ s e. none_written Fresh s.set (events_of s.schedule) old status never
+none_imaged Resume old status input never = λ s e. none_written Again s.set (events_of s.schedule) old status never
+none_imaged (Make seed) old status input never = λ s e. none_written Fresh s.set (events_of s.schedule) old status never
+none_imaged Asm old status input never = tt
+none_imaged Dis old status input never = tt
+none_imaged Pack old status input never = tt
+
+pub images_unread : (c : Command) (old : Store) (status : Status) (left : Option (List ℕ)) → (status ≡ Done → ⊥) → OfInput left (ImagesTo c old old status)
+images_unread c old status None never = tt
+images_unread c old status (Some input) never = none_imaged c old status input never
+
+pub script_refused : (r : Refusal ScriptError) → script_answer r ≡ Done → ⊥
+script_refused (refusal.At e) done = cc done
+script_refused refusal.NoMemory done = cc done

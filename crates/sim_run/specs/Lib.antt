@@ -4,6 +4,7 @@ pub mod Replies
 pub mod MadeScript
 pub mod Summary
 pub mod Answers
+pub mod OpeningImages
 pub mod Promises
 pub mod Stopping
 pub mod Chains

@@ -1,5 +1,5 @@
 -- What the headline promises of the answers to `run`, `resume` and `make`. This project's own.
-use Rattle.std.specs.Prelude.{◌≡◌, ◌⊎◌, ◌≤◌, ℕ, List, ◌++◌, Option, None, Some, Ok}
+use Rattle.std.specs.Prelude.{◌≡◌, ◌⊎◌, ◌≤◌, ℕ, List, ◌++◌, length, Option, None, Some, Ok}
 use Rattle.nv_base.specs.Streams.{PutsText}
 use Rattle.schedule_model.specs.Failures.{events_of}
 use Rattle.headline.specs.Chains.{GoesOn}
@@ -12,13 +12,14 @@ use Rattle.answers.specs.declared.status.Status.{Status}
 use Rattle.answers.specs.declared.status.Status.TheVariants.{Done}
 use Rattle.sim_run.specs.declared.command.Command.{Command}
 use Rattle.sim_run.specs.declared.command.Command.TheVariants.{Run, Resume, Make}
+use Rattle.sim_run.specs.OpeningImages.{HasOpening}
 use Rattle.sim_run.specs.Origins.{begin_on, opened_on}
 use Rattle.sim_run.specs.Replies.{Puts, device_reply}
 use Rattle.kernel_model.specs.Events.{Event}
 use Rattle.set_model.specs.Sets.{TaskSet}
 use Rattle.device_model.specs.Words.{Words}
 use Rattle.device_format.specs.Puts.{HasFront}
-use Rattle.kernel_core.specs.Opening.{IsLeft, opening_writes}
+use Rattle.kernel_core.specs.Opening.{IsLeft, need_for, opening_writes}
 use Rattle.kernel_core.specs.declared.kernel.Kernel.{Kernel}
 use Rattle.kernel_core.specs.declared.open.How.{How}
 use Rattle.kernel_core.specs.declared.open.How.TheVariants.{Fresh, Again}
@@ -79,9 +80,10 @@ abbrev pub HasRunAll : How → TaskSet → List Event → (old new : Store) → 
 HasRunAll how set events old new =
     (o : Origin) × (begin_on how set (words_in old) ≡ Some o) × HasDoneAll o events (opened_on how set old) new
 
--- what a run that ends so has written; at Done all of it
+-- what a run that ends so has written, and what each image of its format or migration holds; at Done all of it
 pub record IsImaged (how : How) (set : TaskSet) (events : List Event) (old new : Store) (status : Status) : Type 0 where
   pub written : HasRun how set events old new
+  pub opened : HasOpening how set old new
   pub whole : status ≡ Done → HasRunAll how set events old new
 
 -- ---- of a command and its input
@@ -131,3 +133,4 @@ pub record IsBegun (how : How) (set : TaskSet) (events : List Event) (old new : 
   pub written : new.log ≡ old.log ++ opening_writes how set (words_in old)
   pub start : new.start ≡ old.start
   pub few : old.losses ≤ new.losses
+  pub fits : need_for how set (words_in old) (length old.start) ≤ length old.start

@@ -5,6 +5,7 @@ ghost use Rattle.nv_base.specs.Streams.{ReadsAll};
 ghost use Rattle.sim_run.specs.Answers.{own_input};
 ghost use Rattle.sim_run.specs.MadeScript.{made_text};
 ghost use Rattle.sim_run.specs.BeforeAnswerLine.{IsGiven, IsNotGiven, Unread};
+ghost use Rattle.sim_run.specs.Halts.{unread_as};
 
 use crate::command::Command;
 use crate::made_script::make_text;
@@ -17,6 +18,20 @@ use std::alloc::Global;
 /// The most bytes of an input.
 pub(crate) const MOST_INPUT: usize = MAX_INPUT as usize;
 
+// How a command ends whose input is not read.
+fn unread_as(refusal: ReadRefusal) -> Status
+    ensures { result ≡ unread_as refusal }
+{
+    match refusal {
+        ReadRefusal::ReadFault => Status::ReadFault,
+        ReadRefusal::TooLong => Status::Script(ScriptError {
+            line: 0,
+            cause: ScriptCause::Long,
+        }),
+        ReadRefusal::NoMemory => Status::NoMemory,
+    }
+}
+
 /// All bytes that a source gives. `ReadFault` only where the source failed; `Script`, of line 0, where they are
 /// too many; `NoMemory`.
 fn read_input<S: Source>(alloc: Global, src: &mut S) -> Result<Vec<u8>, Status>
@@ -26,12 +41,7 @@ fn read_input<S: Source>(alloc: Global, src: &mut S) -> Result<Vec<u8>, Status>
 {
     match read_all(alloc, src, MOST_INPUT) {
         Ok(bytes) => Ok(bytes),
-        Err(ReadRefusal::ReadFault) => Err(Status::ReadFault),
-        Err(ReadRefusal::TooLong) => Err(Status::Script(ScriptError {
-            line: 0,
-            cause: ScriptCause::Long,
-        })),
-        Err(ReadRefusal::NoMemory) => Err(Status::NoMemory),
+        Err(refusal) => Err(unread_as(refusal)),
     }
 }
 

@@ -6,6 +6,7 @@ ghost use Rattle.script.specs.Reading.{read};
 ghost use Rattle.answers.specs.declared.status.Status.TheVariants as Status;
 ghost use Rattle.kernel_core.specs.declared.open.How.TheVariants as Opened;
 ghost use Rattle.simulation.specs.Stores.{store, words_in};
+ghost use Rattle.sim_run.specs.OpeningImages.{HasOpening};
 ghost use Rattle.sim_run.specs.BeforeAnswerLine.{LeavesStore, PutOrLost};
 ghost use Rattle.sim_run.specs.Promises.{HasImagesOf, HasPromise, HasRun, HasRunAll, IsPromised};
 ghost use Rattle.sim_run.specs.Replies.{made_reply, summed_reply};
@@ -48,6 +49,8 @@ fn sum_up<K: Sink, F: Fram>(
     ensures images { let old = store F.start F.log F.lost dev.old in
         let new = store F.start F.log F.lost dev.new in
         HasRun Opened.Fresh set (events_of schedule.now) old new }
+    ensures opening { let old = store F.start F.log F.lost dev.old in
+        HasOpening Opened.Fresh set old (store F.start F.log F.lost dev.new) }
     ensures stops { let old = store F.start F.log F.lost dev.old in
         let new = store F.start F.log F.lost dev.new in
         StoppedUntold set (events_of schedule.now) old new (K.seen out.old) (K.seen out.new) result }
@@ -56,6 +59,8 @@ fn sum_up<K: Sink, F: Fram>(
     ensures start { F.start dev.new ≡ F.start dev.old }
     ensures never_falls { F.lost dev.old ≤ F.lost dev.new }
 {
+    // that the set keeps its limits
+    let _ = set.format();
     report_keeps_headline();
     runs_are_one_history();
     events_are_within_limits();

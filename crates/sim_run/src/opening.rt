@@ -1,10 +1,11 @@
 //! A kernel on the device of a call, or the answer that there is none.
 
-ghost use Rattle.std.specs.Prelude.{◌≡◌, ◌≢◌, ◌≤◌, IfErr, IfOk, List, OnErr, length};
+ghost use Rattle.std.specs.Prelude.{◌≡◌, ◌≢◌, ◌<◌, ◌≤◌, IfErr, IfOk, List, OnErr, length};
 ghost use Rattle.nv_base.specs.Streams.{Stream};
 ghost use Rattle.kernel_model.specs.Events.{Event};
 ghost use Rattle.answers.specs.declared.status.Status.TheVariants as Status;
-ghost use Rattle.simulation.specs.Stores.{store};
+ghost use Rattle.kernel_core.specs.Opening.{need_for};
+ghost use Rattle.simulation.specs.Stores.{store, words_in};
 ghost use Rattle.sim_run.specs.BeforeAnswerLine.{LeavesStore, PutOrLost};
 ghost use Rattle.sim_run.specs.Halts.{refused_as};
 ghost use Rattle.sim_run.specs.Promises.{HasOpenedPart, IsBegun};
@@ -54,6 +55,9 @@ pub(crate) fn open_for<F: Fram>(
         IfErr result (LeavesStore how old new) }
     ensures part { let old = store F.start F.log F.lost dev.old in
         OnErr result (HasOpenedPart how set old (store F.start F.log F.lost dev.new)) }
+    ensures spared { let old = store F.start F.log F.lost dev.old in
+        let len = length old.start in
+        len < need_for how set (words_in old) len → F.log dev.new ≡ F.log dev.old }
     ensures undone { IfErr result (λ status. status ≢ Status.Done) }
     ensures unput { IfErr result (λ status. status ≢ Status.WriteFault) }
     ensures start { F.start dev.new ≡ F.start dev.old }

@@ -11,6 +11,7 @@ ghost use Rattle.answers.specs.declared.status.Status.TheVariants as Status;
 ghost use Rattle.simulation.specs.Stores.{store, words_in};
 ghost use Rattle.sim_run.specs.BeforeAnswerLine.{LeavesStore, PutOrLost};
 ghost use Rattle.sim_run.specs.Halts.{status_at};
+ghost use Rattle.sim_run.specs.OpeningImages.{HasOpening};
 ghost use Rattle.sim_run.specs.Origins.{begin_on};
 ghost use Rattle.sim_run.specs.Replies.{device_reply, run_reply};
 ghost use Rattle.sim_run.specs.Stopping.{HasStoppedOf, StoppedAs};
@@ -60,6 +61,8 @@ pub(crate) fn run_events<K: Sink, F: Fram>(
         result ≡ Status.Done → HasPromise how set (events_of schedule.now) (words_in old) }
     ensures images { let old = store F.start F.log F.lost dev.old in
         HasRun how set (events_of schedule.now) old (store F.start F.log F.lost dev.new) }
+    ensures opening { let old = store F.start F.log F.lost dev.old in
+        HasOpening how set old (store F.start F.log F.lost dev.new) }
     ensures stops { let old = store F.start F.log F.lost dev.old in
         let new = store F.start F.log F.lost dev.new in
         StoppedAs how set (events_of schedule.now) old new (K.seen out.old) (K.seen out.new) result }
@@ -68,6 +71,8 @@ pub(crate) fn run_events<K: Sink, F: Fram>(
     ensures start { F.start dev.new ≡ F.start dev.old }
     ensures never_falls { F.lost dev.old ≤ F.lost dev.new }
 {
+    // that the set keeps its limits
+    let _ = set.format();
     report_keeps_headline();
     runs_are_one_history();
     events_are_within_limits();

@@ -1,12 +1,17 @@
-use Rattle.std.proofs.Common.{inl, refl, subst}
+use Rattle.std.proofs.Common.{inl, map, refl, subst}
+use Rattle.std.specs.Rc.{rc_str_bytes}
 use Rattle.simulation.specs.Stores.{store, words_in}
+use Rattle.sim_run.specs.Answers.{exchange}
+use Rattle.sim_run.specs.Commands.{command_of}
 use Rattle.sim_run.specs.Stopping.{StopsTo}
 use Rattle.sim_run.specs.Promises.{ImagesTo, PromisesTo}
 use Rattle.sim_run.specs.Replies.{reply}
-use Rattle.sim_run.specs.BeforeAnswerLine.{PutOrLost}
+use Rattle.answers.specs.declared.status.Status.{Status}
+use Rattle.sim_run.specs.BeforeAnswerLine.{PutOrLost, Unread}
 use Rattle.sim_run.proofs.Answering.{reply_counts, stood}
 use Rattle.sim_run.specs.Answers.{own_input}
 use Rattle.sim_run.proofs.Inputs.{given_few, given_still, not_given, not_given_counts, not_given_few, not_given_told, not_given_undone, of_input, replied, undone_promised}
+use Rattle.sim_run.proofs.Promising.{images_unread}
 use Rattle.sim_run.proofs.call.carry_out.Goals as goal
 
 pub returns-in-Err-clause-answer : goal.returns-in-Err-clause-answer
@@ -55,6 +60,11 @@ returns-in-Ok-input_for-clause-stops g c =
     let new = store g.F.Fram.start g.F.Fram.log g.F.Fram.lost c.answer.new.dev in
     rw c.in-Ok.ensures (of_input (own_input c.in-Ok.command) _ _ c.in-Ok-input_for.input.items (StopsTo c.in-Ok.command old new (g.K.Sink.seen c.args.out.now) (g.K.Sink.seen c.answer.new.out) c.answer.result) c.in-Ok-input_for.ensures.given
     (subst (StopsTo c.in-Ok.command old new (g.K.Sink.seen c.args.out.now) (g.K.Sink.seen c.answer.new.out) c.answer.result) c.as_slice.ensures.value c.answer.ensures.stops))
+
+pub returns-in-Err-clause-images : goal.returns-in-Err-clause-images
+returns-in-Err-clause-images g c =
+    let old = store g.F.Fram.start g.F.Fram.log g.F.Fram.lost c.args.dev.now in
+    rw c.in-Ok.ensures (images_unread c.in-Ok.command old c.in-Err.status _ (not_given_undone (own_input c.in-Ok.command) _ _ c.in-Err.status c.in-Err.ensures.not_given))
 
 pub returns-in-Err-clause-headline : goal.returns-in-Err-clause-headline
 returns-in-Err-clause-headline g c =

@@ -14,7 +14,7 @@ returns-in-Ok-clause-headline g c = λ done. record { script = _; reads = c.in-O
 pub returns-in-Ok-clause-images : goal.returns-in-Ok-clause-images
 returns-in-Ok-clause-images g c = λ s e.
     same_script Fresh _ s _ (store g.F.Fram.start g.F.Fram.log g.F.Fram.lost c.args.dev.now) (store g.F.Fram.start g.F.Fram.log g.F.Fram.lost c.sum_up.new.dev) c.sum_up.result c.in-Ok.ensures.reads e
-    (record { written = c.sum_up.ensures.images; whole = c.sum_up.ensures.whole })
+    (record { written = c.sum_up.ensures.images; opened = c.sum_up.ensures.opening; whole = c.sum_up.ensures.whole })
 
 pub returns-in-Ok-clause-stops : goal.returns-in-Ok-clause-stops
 returns-in-Ok-clause-stops g c = λ s e.

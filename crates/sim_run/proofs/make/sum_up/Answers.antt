@@ -1,3 +1,5 @@
+use Rattle.std.proofs.Common.{arith}
+use Rattle.sim_run.proofs.Amid.{has_opening}
 use Rattle.schedule_model.specs.Failures.{events_of}
 use Rattle.kernel_core.specs.declared.open.How.TheVariants.{Fresh}
 use Rattle.headline.specs.Runs.{all_lines}
@@ -74,3 +76,23 @@ returns-in-Err-clause-stops g c =
     let old = store g.F.Fram.start g.F.Fram.log g.F.Fram.lost c.args.dev.now in
     let mid = store g.F.Fram.start g.F.Fram.log g.F.Fram.lost c.open_for.new.dev in
     untold_before c.args.set (events_of c.args.schedule.now) old mid (g.K.Sink.seen c.args.out.now) c.in-Err.status c.in-Err.ensures.unput
+
+pub returns-in-Ok-count_lines-clause-opening : goal.returns-in-Ok-count_lines-clause-opening
+returns-in-Ok-count_lines-clause-opening g c =
+    let old = store g.F.Fram.start g.F.Fram.log g.F.Fram.lost c.args.dev.now in
+    let new = store g.F.Fram.start g.F.Fram.log g.F.Fram.lost c.count_lines.new.dev in
+    let b = c.in-Ok.ensures.begun (events_of c.args.schedule.now) c.len-room.ensures.count in
+    has_opening Fresh c.args.set old new c.format.ensures.limits (λ less. absurd (omega (arith, less, b.fits)))
+
+pub returns-in-Err-count_lines-clause-opening : goal.returns-in-Err-count_lines-clause-opening
+returns-in-Err-count_lines-clause-opening g c =
+    let old = store g.F.Fram.start g.F.Fram.log g.F.Fram.lost c.args.dev.now in
+    let new = store g.F.Fram.start g.F.Fram.log g.F.Fram.lost c.count_lines.new.dev in
+    let b = c.in-Ok.ensures.begun (events_of c.args.schedule.now) c.len-room.ensures.count in
+    has_opening Fresh c.args.set old new c.format.ensures.limits (λ less. absurd (omega (arith, less, b.fits)))
+
+pub returns-in-Err-clause-opening : goal.returns-in-Err-clause-opening
+returns-in-Err-clause-opening g c =
+    let old = store g.F.Fram.start g.F.Fram.log g.F.Fram.lost c.args.dev.now in
+    let mid = store g.F.Fram.start g.F.Fram.log g.F.Fram.lost c.open_for.new.dev in
+    has_opening Fresh c.args.set old mid c.format.ensures.limits c.open_for.ensures.spared

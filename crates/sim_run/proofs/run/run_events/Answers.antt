@@ -1,7 +1,9 @@
+use Rattle.std.proofs.Common.{arith}
 use Rattle.schedule_model.specs.Failures.{events_of}
 use Rattle.headline.specs.Report.{report_text}
 use Rattle.simulation.specs.Stores.{store}
 use Rattle.sim_run.specs.Replies.{device_reply}
+use Rattle.sim_run.proofs.Amid.{has_opening, unopened}
 use Rattle.sim_run.proofs.Starting.{halted_reply, halted_store, headline_here, run_all, run_done}
 use Rattle.sim_run.proofs.Stopped.{stopped_before, stopped_then}
 use Rattle.sim_run.proofs.run.run_events.Goals as goal
@@ -82,3 +84,26 @@ returns-in-Err-put_report-clause-stops g c =
     let new = store g.F.Fram.start g.F.Fram.log g.F.Fram.lost c.put_report.new.dev in
     let b = c.in-Ok-open_for.ensures.begun events c.len-room.ensures.count in
     stopped_then c.args.how c.args.set events old mid new c.in-Ok-open_for.kernel _ _ c.in-Err-put_report.halt c.status_at.result b (c.in-Err-put_report.ensures.stops b.origin b.begins) c.status_at.ensures
+
+pub returns-in-Ok-put_report-clause-opening : goal.returns-in-Ok-put_report-clause-opening
+returns-in-Ok-put_report-clause-opening g c =
+    let old = store g.F.Fram.start g.F.Fram.log g.F.Fram.lost c.args.dev.now in
+    let new = store g.F.Fram.start g.F.Fram.log g.F.Fram.lost c.put_report.new.dev in
+    let b = c.in-Ok-open_for.ensures.begun (events_of c.args.schedule.now) c.len-room.ensures.count in
+    has_opening c.args.how c.args.set old new c.format.ensures.limits (λ less. absurd (omega (arith, less, b.fits)))
+
+pub returns-in-Err-put_report-clause-opening : goal.returns-in-Err-put_report-clause-opening
+returns-in-Err-put_report-clause-opening g c =
+    let old = store g.F.Fram.start g.F.Fram.log g.F.Fram.lost c.args.dev.now in
+    let new = store g.F.Fram.start g.F.Fram.log g.F.Fram.lost c.put_report.new.dev in
+    let b = c.in-Ok-open_for.ensures.begun (events_of c.args.schedule.now) c.len-room.ensures.count in
+    has_opening c.args.how c.args.set old new c.format.ensures.limits (λ less. absurd (omega (arith, less, b.fits)))
+
+pub returns-in-Err-clause-opening : goal.returns-in-Err-clause-opening
+returns-in-Err-clause-opening g c =
+    let old = store g.F.Fram.start g.F.Fram.log g.F.Fram.lost c.args.dev.now in
+    let mid = store g.F.Fram.start g.F.Fram.log g.F.Fram.lost c.open_for.new.dev in
+    has_opening c.args.how c.args.set old mid c.format.ensures.limits c.open_for.ensures.spared
+
+pub returns-in_default-clause-opening : goal.returns-in_default-clause-opening
+returns-in_default-clause-opening g c = unopened c.args.how c.args.set (store g.F.Fram.start g.F.Fram.log g.F.Fram.lost c.args.dev.now)

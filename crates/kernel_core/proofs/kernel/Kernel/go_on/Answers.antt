@@ -51,3 +51,6 @@ returns-clause-long g c =
     on_ok_here c.begin_again.result
     (subst (λ (w : Words). need_on (device_at set w) ≤ length (start last)) (sym (ap₂ words_of c.begin_again.ensures.log c.begin_again.ensures.start))
     (subst (λ (xs : List ℕ). need_on (device_at set later) ≤ length xs) (sym kept) c.in_default.ensures.ready.long))
+
+pub returns-clause-spared : goal.returns-clause-spared
+returns-clause-spared g c = λ less. c.begin_again.ensures.log ∙ c.move_first.ensures.spared less

@@ -1,6 +1,6 @@
 use Rattle.std.proofs.Common.{◌≡◌, length, ap₂, arith}
 use Rattle.recovery.specs.Images.{words_of}
-use Rattle.kernel_core.proofs.Moving.{cut_holds, front_begun, left, ready_holds}
+use Rattle.kernel_core.proofs.Moving.{cut_holds, front_begun, left, ready_holds, spared_cut, spared_moved}
 use Rattle.kernel_core.proofs.kernel.Kernel.move_first.Goals as goal
 
 pub returns-in-Ok-clause-ready : goal.returns-in-Ok-clause-ready
@@ -39,3 +39,9 @@ returns-in-Err-clause-left g c =
     let grown = g.F.Fram.log c.migrate.new.dev in
     let words = words_of log (g.F.Fram.start c.args.dev.now) in
     cut_holds set _ words (words_of grown (g.F.Fram.start c.migrate.new.dev)) log grown (λ e. ap₂ words_of e c.migrate.ensures.start) c.in-Err.ensures.unwritten c.in-Err.ensures.cut
+
+pub returns-in-Ok-clause-spared : goal.returns-in-Ok-clause-spared
+returns-in-Ok-clause-spared g c = spared_moved c.args.self.now.set (length (g.F.Fram.start c.args.dev.now)) _ _ _ c.requires.long c.in-Ok.ensures.migrated
+
+pub returns-in-Err-clause-spared : goal.returns-in-Err-clause-spared
+returns-in-Err-clause-spared g c = spared_cut c.args.self.now.set (length (g.F.Fram.start c.args.dev.now)) _ _ _ c.requires.long c.in-Err.ensures.unwritten
