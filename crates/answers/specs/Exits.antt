@@ -3,15 +3,17 @@ use Rattle.std.specs.Prelude.{ℕ, List, [], ◌++◌, codes}
 use Rattle.std.specs.Fmt.{decimal}
 use Rattle.script.specs.CauseWords.{cause_word}
 use Rattle.answers.specs.declared.status.Status.{Status}
-use Rattle.answers.specs.declared.status.Status.TheVariants.{Done, Usage, Script, Packed, ReadFault, WriteFault, NoMemory, DeviceLost, Image, Small}
+use Rattle.answers.specs.declared.status.Status.TheVariants.{Done, Differs, Usage, Script, Packed, Report, ReadFault, WriteFault, NoMemory, DeviceLost, Image, Small}
 use Rattle.answers.specs.declared.status.ImageFault.{ImageFault}
 use Rattle.answers.specs.declared.status.ImageFault.TheVariants.{Blank, Damaged, Worn}
 
 abbrev pub exit_of : Status → ℕ
 exit_of Done = 0
+exit_of (Differs line) = 1
 exit_of Usage = 2
 exit_of (Script e) = 3
 exit_of (Packed place) = 3
+exit_of (Report line) = 3
 exit_of ReadFault = 4
 exit_of WriteFault = 5
 exit_of NoMemory = 6
@@ -29,9 +31,11 @@ fault_line Worn = codes "error image worn\n"
 abbrev pub line_for : Status → List ℕ
 line_for Done = []
 line_for WriteFault = []
+line_for (Differs line) = codes "differs " ++ decimal line ++ codes "\n"
 line_for Usage = codes "error usage\n"
 line_for (Script e) = codes "error script " ++ decimal e.line ++ codes " " ++ cause_word e.cause ++ codes "\n"
 line_for (Packed place) = codes "error packed " ++ decimal place ++ codes "\n"
+line_for (Report line) = codes "error report " ++ decimal line ++ codes "\n"
 line_for ReadFault = codes "error read\n"
 line_for NoMemory = codes "error memory\n"
 line_for DeviceLost = codes "error device\n"

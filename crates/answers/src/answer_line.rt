@@ -40,6 +40,11 @@ fn line_for(status: Status) -> ArrayString<ROOM>
     let mut line = ArrayString::new();
     match status {
         Status::Done | Status::WriteFault => {}
+        Status::Differs(place) => {
+            push(&mut line, "differs ");
+            push_number(&mut line, place);
+            push(&mut line, "\n");
+        }
         Status::Usage => push(&mut line, "error usage\n"),
         Status::Script(error) => {
             push(&mut line, "error script ");
@@ -50,6 +55,11 @@ fn line_for(status: Status) -> ArrayString<ROOM>
         }
         Status::Packed(place) => {
             push(&mut line, "error packed ");
+            push_number(&mut line, place);
+            push(&mut line, "\n");
+        }
+        Status::Report(place) => {
+            push(&mut line, "error report ");
             push_number(&mut line, place);
             push(&mut line, "\n");
         }

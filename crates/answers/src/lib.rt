@@ -6,7 +6,7 @@ mod refusals;
 mod status;
 
 pub use answer_line::put_name;
-pub use refusals::{of_assembly, of_packed, of_script};
+pub use refusals::{of_assembly, of_audit, of_packed, of_report, of_script};
 pub use status::{ImageFault, Status};
 
 #[cfg(test)]

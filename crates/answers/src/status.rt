@@ -10,12 +10,16 @@ use script::ScriptError;
 pub enum Status {
     /// 0: the defined answer was put.
     Done,
+    /// 1, `differs LINE`: a report differs, first at this line of it, from the serial replay of what it lists.
+    Differs(u32),
     /// 2, `error usage`: the words are no command.
     Usage,
     /// 3, `error script LINE CAUSE`: the input's first line that is refused, and its first cause.
     Script(ScriptError),
     /// 3, `error packed PLACE`: the bytes are no packed set, first at this offset.
     Packed(u32),
+    /// 3, `error report LINE`: what stands behind the script is no report, first at this line of it.
+    Report(u32),
     /// 4, `error read`: the source failed.
     ReadFault,
     /// 5, with no line: the sink failed.
@@ -54,8 +58,9 @@ impl Status {
     {
         match self {
             Status::Done => 0,
+            Status::Differs(_) => 1,
             Status::Usage => 2,
-            Status::Script(_) | Status::Packed(_) => 3,
+            Status::Script(_) | Status::Packed(_) | Status::Report(_) => 3,
             Status::ReadFault => 4,
             Status::WriteFault => 5,
             Status::NoMemory => 6,

@@ -18,6 +18,7 @@ fn refused(cause: ScriptCause) -> Status {
 fn each_answer_has_its_exit_and_its_line(rt: HostRuntime) -> Result<(), Fail> {
     let table = [
         (Status::Done, 0, ""),
+        (Status::Differs(1_048_576), 1, "differs 1048576\n"),
         (Status::Usage, 2, "error usage\n"),
         (refused(ScriptCause::Long), 3, "error script 1048576 long\n"),
         (
@@ -29,6 +30,11 @@ fn each_answer_has_its_exit_and_its_line(rt: HostRuntime) -> Result<(), Fail> {
             Status::Packed(4_294_967_295),
             3,
             "error packed 4294967295\n",
+        ),
+        (
+            Status::Report(1_048_576),
+            3,
+            "error report 1048576\n",
         ),
         (Status::ReadFault, 4, "error read\n"),
         (Status::WriteFault, 5, ""),

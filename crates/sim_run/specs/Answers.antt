@@ -1,7 +1,7 @@
 -- The answers of a call, each with its cause, and with what was put and written. This project's own.
 use Rattle.std.specs.Prelude.{◌≡◌, ℕ, ◌+◌, ◌≤◌, ◌⊎◌, List, [], Option, Some, None}
 use Rattle.nv_base.specs.Streams.{AreGone, AtMostGone, PutsFront, PutsText, FaultCounted, Stream}
-use Rattle.sim_run.specs.Replies.{Puts, Refuses, Reply, reply, refused_by, status_of, text_by, most_input, too_long}
+use Rattle.sim_run.specs.Replies.{Puts, Refuses, Replies, Reply, refused_by, status_of, text_by, most_input, too_long}
 use Rattle.simulation.specs.Runs.{PutsStart}
 use Rattle.simulation.specs.Stores.{Store}
 use Rattle.answers.specs.Names.{PutsName}
@@ -99,28 +99,34 @@ abbrev pub HasReadEnough : Command → Exchange → Type 0
 HasReadEnough c x = HasReadAll c x ⊎ ((own_input c ≡ None) × AreGone x.source.bytes x.source_now.bytes (most_input + 1))
 
 -- what a command replies to an input
-abbrev pub reply_in : Exchange → Command → List ℕ → Reply
-reply_in x c input = reply c x.device input
+abbrev pub RepliesIn : Exchange → Command → List ℕ → Reply → Type 0
+RepliesIn x c input r = Replies c x.device input r
 
 -- the command's text, put whole
 pub record IsDone (c : Command) (x : Exchange) (input : List ℕ) : Type 0 where
   pub text : List ℕ
-  pub replies : reply_in x c input ≡ Puts text
+  pub replies : RepliesIn x c input (Puts text)
   pub put : PutsText text x.sink x.sink_now
 
 -- a front of it
 pub record IsCutOff (c : Command) (x : Exchange) (input : List ℕ) : Type 0 where
   pub text : List ℕ
-  pub replies : reply_in x c input ≡ Puts text
+  pub replies : RepliesIn x c input (Puts text)
   pub put : PutsFront text x.sink x.sink_now
 
 -- a front of it whole, and then what names that the device lost a call
 pub record IsStopped (Names : Stream → Status → Type 0) (c : Command) (x : Exchange) (input : List ℕ) : Type 0 where
   pub text : List ℕ
-  pub replies : text_by (reply_in x c input) ≡ Some text
+  pub reply : Reply
+  pub replies : RepliesIn x c input reply
+  pub with_text : text_by reply ≡ Some text
   pub middle : Stream
   pub put : PutsStart text x.sink middle
   pub named : Names middle DeviceLost
+
+-- its reply is this answer, in place of a text
+abbrev pub IsRefused : Command → Exchange → Status → List ℕ → Type 0
+IsRefused c x status input = (r : Reply) × RepliesIn x c input r × (refused_by r ≡ Some status)
 
 -- each answer to a command: when it may come, and what it leaves. Names: what was put from some moment on to name it
 abbrev pub AnsweredTo : (Stream → Status → Type 0) → Command → Exchange → Status → Type 0
@@ -131,12 +137,12 @@ AnsweredTo Names c x WriteFault = WriteFailed x × HasReadAll c x × OfInput (in
 AnsweredTo Names c x NoMemory = IsUntouched x × Names x.sink NoMemory
 AnsweredTo Names c x DeviceLost = DeviceFailed x × HasReadAll c x × OfInput (input_of c x) (IsStopped Names c x)
 AnsweredTo Names c x (Small need len) =
-    HasReadEnough c x × IsSpared (how_of c) x.device x.device_now × OfInput (input_of c x) (λ input. refused_by (reply_in x c input) ≡ Some (Small need len))
+    HasReadEnough c x × IsSpared (how_of c) x.device x.device_now × OfInput (input_of c x) (IsRefused c x (Small need len))
     × Names x.sink (Small need len)
 AnsweredTo Names c x (Image fault) =
-    HasReadEnough c x × IsSpared (how_of c) x.device x.device_now × OfInput (input_of c x) (λ input. refused_by (reply_in x c input) ≡ Some (Image fault))
+    HasReadEnough c x × IsSpared (how_of c) x.device x.device_now × OfInput (input_of c x) (IsRefused c x (Image fault))
     × Names x.sink (Image fault)
-AnsweredTo Names c x status = HasReadEnough c x × IsUntouched x × OfInput (input_of c x) (λ input. reply_in x c input ≡ Refuses status) × Names x.sink status
+AnsweredTo Names c x status = HasReadEnough c x × IsUntouched x × OfInput (input_of c x) (λ input. RepliesIn x c input (Refuses status)) × Names x.sink status
 
 -- words that are no command are answered by Usage, and nothing is read
 abbrev pub AnsweredBy : (Stream → Status → Type 0) → Option Command → Exchange → Status → Type 0
@@ -162,10 +168,14 @@ LeavesDevice (Some c) x = MayUse c x.device x.device_now
 abbrev pub NoFault : Exchange → Type 0
 NoFault x = (ReadFailed x → ⊥) × (WriteFailed x → ⊥) × (DeviceFailed x → ⊥)
 
+-- the answer is that of the command's reply
+abbrev pub IsReplied : Command → Exchange → Status → List ℕ → Type 0
+IsReplied c x status input = (r : Reply) × RepliesIn x c input r × (status ≡ status_of r)
+
 -- a command, and no fault: the answer is what the command replies to the input, unless memory ran out
 abbrev pub IsComplete : Option Command → Exchange → Status → Type 0
 IsComplete None x status = status ≡ Usage
-IsComplete (Some c) x status = NoFault x → OfInput (input_of c x) (λ input. (status ≡ status_of (reply_in x c input)) ⊎ (status ≡ NoMemory))
+IsComplete (Some c) x status = NoFault x → OfInput (input_of c x) (λ input. IsReplied c x status input ⊎ (status ≡ NoMemory))
 
 -- at most as many bytes as an input may have were read; or one more, and then the answer says so
 abbrev pub HasReadFew : Stream → Stream → Status → Type 0

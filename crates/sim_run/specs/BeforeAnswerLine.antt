@@ -1,5 +1,5 @@
 -- What a call has done before the line that names its answer.
-use Rattle.std.specs.Prelude.{◌≡◌, List, ℕ, Option, None, Some}
+use Rattle.std.specs.Prelude.{◌≡◌, ◌⊎◌, List, ℕ, Option, None, Some}
 use Rattle.nv_base.specs.Streams.{PutsFront, PutsText, FaultCounted, ReadsAll, Stream}
 use Rattle.nv_base.specs.WholeInputs.{Stops}
 use Rattle.nv_base.specs.declared.whole.ReadRefusal.TheVariants as reading
@@ -58,3 +58,7 @@ PutOrLost r old new DeviceLost = (text : List ℕ) × (text_by r ≡ Some text) 
 PutOrLost r old new (Small need len) = (refused_by r ≡ Some (Small need len)) × (new ≡ old)
 PutOrLost r old new (Image fault) = (refused_by r ≡ Some (Image fault)) × (new ≡ old)
 PutOrLost r old new status = PutReply r old new status
+
+-- the same by way of a reply of which this holds; where memory ran out, nothing was put
+abbrev pub PutsReply : (Reply → Type 0) → Stream → Stream → Status → Type 0
+PutsReply Of old new status = ((status ≡ NoMemory) × (new ≡ old)) ⊎ ((r : Reply) × Of r × PutOrLost r old new status)

@@ -1,5 +1,5 @@
--- What the headline promises of the answers to `run`, `resume` and `make`. This project's own.
-use Rattle.std.specs.Prelude.{◌≡◌, ◌⊎◌, ◌≤◌, ℕ, List, ◌++◌, length, Option, None, Some, Ok}
+-- What the headline promises of the answers to `run`, `resume` and `make`, and what those of `serial` and `audit` mean. This project's own.
+use Rattle.std.specs.Prelude.{◌≡◌, ◌⊎◌, ◌≤◌, ℕ, List, ◌++◌, drop, length, Option, None, Some, Ok}
 use Rattle.nv_base.specs.Streams.{PutsText}
 use Rattle.schedule_model.specs.Failures.{events_of}
 use Rattle.headline.specs.Chains.{GoesOn}
@@ -8,15 +8,22 @@ use Rattle.headline.specs.Report.{report_text}
 use Rattle.headline.specs.Runs.{Origin, all_lines}
 use Rattle.script.specs.Parts.{Script}
 use Rattle.script.specs.Reading.{read}
+use Rattle.script.specs.Fronts.{read_front}
 use Rattle.answers.specs.declared.status.Status.{Status}
-use Rattle.answers.specs.declared.status.Status.TheVariants.{Done}
+use Rattle.answers.specs.declared.status.Status.TheVariants.{Done, Differs}
 use Rattle.sim_run.specs.declared.command.Command.{Command}
-use Rattle.sim_run.specs.declared.command.Command.TheVariants.{Run, Resume, Make}
+use Rattle.sim_run.specs.declared.command.Command.TheVariants.{Run, Resume, Serial, Audit, Make}
 use Rattle.sim_run.specs.OpeningImages.{HasOpening}
 use Rattle.sim_run.specs.Origins.{begin_on, opened_on}
 use Rattle.sim_run.specs.Replies.{Puts, device_reply}
 use Rattle.kernel_model.specs.Events.{Event}
+use Rattle.kernel_model.specs.Serial as serial_order
+use Rattle.task_model.specs.Finals.{runs_of}
+use Rattle.task_model.specs.FirstFinishes.{first_finishes}
+use Rattle.report_text.specs.Reports.{IsReportOf, Report}
+use Rattle.audit.specs.Differences.{IsSerialReport}
 use Rattle.set_model.specs.Sets.{TaskSet}
+use Rattle.set_model.specs.Formatted.{formatted}
 use Rattle.device_model.specs.Words.{Words}
 use Rattle.device_format.specs.Puts.{HasFront}
 use Rattle.kernel_core.specs.Opening.{IsLeft, need_for, opening_writes}
@@ -86,11 +93,29 @@ pub record IsImaged (how : How) (set : TaskSet) (events : List Event) (old new :
   pub opened : HasOpening how set old new
   pub whole : status ≡ Done → HasRunAll how set events old new
 
+-- the input is a script, and its first finishes, with the state that they leave, are serial from the formatted state
+pub record HasSerialFinishes (count : ℕ) (input : List ℕ) : Type 0 where
+  pub script : Script
+  pub reads : read input ≡ Ok script
+  pub serial : let f = first_finishes script.set count (formatted script.set) in serial_order.Serial (runs_of script.set) (formatted script.set) f.entries f.state
+
+-- what an audit of bytes means: where it agrees, they are a report, and what it lists is serial and leaves what it tells; where it differs, they are a report, and that is not so
+abbrev pub MeansReport : TaskSet → (bytes : List ℕ) → Status → Type 0
+MeansReport set bytes Done = (r : Report) × IsReportOf set r bytes × IsSerialReport set r
+MeansReport set bytes (Differs line) = (r : Report) × IsReportOf set r bytes × (IsSerialReport set r → ⊥)
+MeansReport set bytes _ = Unit {0}
+
+-- of an input, which is a script and the bytes behind it
+abbrev pub MeansAudit : Status → (input : List ℕ) → Type 0
+MeansAudit status input = (s : Script) (count : ℕ) → read_front input ≡ Ok (s, count) → MeansReport s.set (drop count input) status
+
 -- ---- of a command and its input
 
 abbrev pub PromisesTo : Command → Words → Status → (input : List ℕ) → Type 0
 PromisesTo Run words status input = status ≡ Done → IsPromised Fresh words input
 PromisesTo Resume words status input = status ≡ Done → IsPromised Again words input
+PromisesTo (Serial count) words status input = status ≡ Done → HasSerialFinishes count input
+PromisesTo Audit words status input = MeansAudit status input
 PromisesTo (Make seed) words status input = status ≡ Done → IsPromised Fresh words input
 PromisesTo _ words status input = Unit {0}
 
@@ -111,10 +136,12 @@ abbrev pub KeepsImages : Option Command → Exchange → Status → Type 0
 KeepsImages None x status = Unit {0}
 KeepsImages (Some c) x status = OfInput (input_of c x) (ImagesTo c x.device x.device_now status)
 
--- where they are answered by Done
+-- where they are answered by Done; and what the answers to `serial` and `audit` mean
 abbrev pub KeepsHeadline : Option Command → Exchange → Status → Type 0
 KeepsHeadline (Some Run) x status = status ≡ Done → OfInput x.source.bytes (IsHeadlined Fresh x)
 KeepsHeadline (Some Resume) x status = status ≡ Done → OfInput x.source.bytes (IsHeadlined Again x)
+KeepsHeadline (Some (Serial count)) x status = status ≡ Done → OfInput x.source.bytes (HasSerialFinishes count)
+KeepsHeadline (Some Audit) x status = OfInput x.source.bytes (MeansAudit status)
 KeepsHeadline (Some (Make seed)) x status = status ≡ Done → IsSummedUp seed x (made_text seed)
 KeepsHeadline _ x status = Unit {0}
 

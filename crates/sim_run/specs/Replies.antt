@@ -1,5 +1,5 @@
 -- What each command replies to an input, where nothing fails and memory is found: `run` and `resume` also by their device, at entry. This project's own.
-use Rattle.std.specs.Prelude.{ℕ, ◌+◌, nat_lt, List, [], ◌∷◌, ◌++◌, length, position, Option, Some, None, Result, Ok, Err, if◌then◌else◌}
+use Rattle.std.specs.Prelude.{◌≡◌, ℕ, ◌+◌, nat_lt, Bool, true, false, List, [], ◌∷◌, ◌++◌, length, map, drop, position, Option, Some, None, Result, Ok, Err, if◌then◌else◌, codes}
 use Rattle.std.specs.List.{flat_map}
 use Rattle.std.specs.Str.Lines.{lines}
 use Rattle.plain_text.specs.BadLines.{is_bad}
@@ -8,7 +8,9 @@ use Rattle.rv_isa.specs.Texts.{hexadecimal}
 use Rattle.rv_asm.specs.Assembly.{assembled}
 use Rattle.rv_asm.specs.Causes.{AsmError}
 use Rattle.set_model.specs.Sets.{TaskSet}
+use Rattle.set_model.specs.Formatted.{formatted}
 use Rattle.kernel_model.specs.Events.{Event}
+use Rattle.kernel_model.specs.Turns.{Finish}
 use Rattle.schedule_model.specs.Failures.{events_of}
 use Rattle.device_model.specs.Words.{Words}
 use Rattle.device_model.specs.Decoding.{decode, durable_of, is_worn}
@@ -16,6 +18,10 @@ use Rattle.device_model.specs.Decoding as stored
 use Rattle.device_model.specs.Devices.{need_on}
 use Rattle.headline.specs.Runs.{booting_origin}
 use Rattle.headline.specs.Report.{report_text}
+use Rattle.report_text.specs.Report.{end_part, lines_text}
+use Rattle.report_text.specs.Reports as reports
+use Rattle.task_model.specs.FirstFinishes.{Finished, first_finishes}
+use Rattle.audit.specs.Differences.{IsFirstDifference}
 use Rattle.kernel_core.specs.Opening.{need_for}
 use Rattle.kernel_core.specs.declared.open.How.{How}
 use Rattle.kernel_core.specs.declared.open.How.TheVariants.{Fresh, Again}
@@ -24,18 +30,19 @@ use Rattle.task_image.specs.Packed.{packed}
 use Rattle.task_image.specs.Unpacked.{unpacked}
 use Rattle.script.specs.Parts as scripts
 use Rattle.script.specs.Reading.{read}
+use Rattle.script.specs.Fronts.{read_front}
 use Rattle.script_text.specs.ScriptText.{script_text}
 use Rattle.script.specs.declared.refusals.ScriptCause.TheVariants.{Long, Byte, Code}
 use Rattle.script.specs.Causes.{ScriptError}
 use Rattle.answers.specs.declared.status.Status.{Status}
-use Rattle.answers.specs.declared.status.Status.TheVariants.{Done, Script, Packed, Small, Image}
+use Rattle.answers.specs.declared.status.Status.TheVariants.{Done, Differs, Script, Packed, Report, Small, Image}
 use Rattle.answers.specs.declared.status.ImageFault.TheVariants as fault
 use Rattle.headline.specs.Runs.{all_lines}
 use Rattle.simulation.specs.Counts.{tally_of}
 use Rattle.sim_run.specs.Origins.{device_for, device_from, fresh_run}
-use Rattle.sim_run.specs.Summary.{summary_text}
+use Rattle.sim_run.specs.Summary.{number_line, summary_text}
 use Rattle.sim_run.specs.declared.command.Command.{Command}
-use Rattle.sim_run.specs.declared.command.Command.TheVariants.{Run, Resume, Asm, Dis, Pack, Make}
+use Rattle.sim_run.specs.declared.command.Command.TheVariants.{Run, Resume, Asm, Dis, Pack, Serial, Audit, Make}
 
 -- a text, or the answer that refuses the input, or the one that tells what was found on the device
 pub data Reply : Type 0 where
@@ -141,15 +148,44 @@ abbrev pub made_reply : (seed : ℕ) → Store → Result scripts.Script ScriptE
 made_reply seed s (Err e) = Refuses (Script e)
 made_reply seed s (Ok script) = summed_reply seed s script.set (events_of script.schedule)
 
+-- ---- `serial`: the first finishes of a script's tasks, each run whole, the least open id first, and the state that they leave
+
+abbrev pub finishes_text : TaskSet → Finished → List ℕ
+finishes_text set f = lines_text set (map (λ e. Finish e) f.entries) ++ end_part set f.state 0
+
+abbrev pub serial_reply : (count : ℕ) → Result scripts.Script ScriptError → Reply
+serial_reply count (Ok s) = Puts (finishes_text s.set (first_finishes s.set count (formatted s.set)))
+serial_reply count (Err e) = Refuses (Script e)
+
+-- ---- `audit`: the report behind a script, beside the serial replay of what it lists
+
+-- how many finishes there are, where the report has no difference; the line of the first one; or that of the first line that can't stand there
+abbrev pub Audits : TaskSet → List ℕ → Reply → Type 0
+Audits set bytes (Puts text) = (r : reports.Report) × reports.IsReportOf set r bytes × IsFirstDifference set r None × (text ≡ number_line (codes "agreed ") (length r.listing))
+Audits set bytes (Refuses (Differs line)) = (r : reports.Report) × reports.IsReportOf set r bytes × IsFirstDifference set r (Some line)
+Audits set bytes (Refuses (Report line)) = reports.IsFirstBadLine set line bytes
+Audits set bytes _ = ⊥
+
+abbrev pub AuditReplies : (input : List ℕ) → Result (scripts.Script × ℕ) ScriptError → Reply → Type 0
+AuditReplies input (Ok front) r = Audits front.0.set (drop front.1 input) r
+AuditReplies input (Err e) r = r ≡ Refuses (Script e)
+
 -- ---- all of them
 
-abbrev pub reply_within : Command → Store → List ℕ → Reply
-reply_within Run s input = run_reply Fresh s (read input)
-reply_within Resume s input = run_reply Again s (read input)
-reply_within Asm s input = asm_reply (lines input)
-reply_within Dis s input = dis_reply (unpacked input)
-reply_within Pack s input = pack_reply (read input)
-reply_within (Make seed) s input = made_reply seed s (read input)
+abbrev pub RepliesWithin : Command → Store → List ℕ → Reply → Type 0
+RepliesWithin Run s input r = run_reply Fresh s (read input) ≡ r
+RepliesWithin Resume s input r = run_reply Again s (read input) ≡ r
+RepliesWithin Asm s input r = asm_reply (lines input) ≡ r
+RepliesWithin Dis s input r = dis_reply (unpacked input) ≡ r
+RepliesWithin Pack s input r = pack_reply (read input) ≡ r
+RepliesWithin (Serial count) s input r = serial_reply count (read input) ≡ r
+RepliesWithin Audit s input r = AuditReplies input (read_front input) r
+RepliesWithin (Make seed) s input r = made_reply seed s (read input) ≡ r
 
-unfoldable pub reply : Command → Store → List ℕ → Reply
-reply c s input = if nat_lt most_input (length input) then Refuses (Script too_long) else reply_within c s input
+abbrev pub RepliesUnless : (long : Bool) → Command → Store → List ℕ → Reply → Type 0
+RepliesUnless true c s input r = r ≡ Refuses (Script too_long)
+RepliesUnless false c s input r = RepliesWithin c s input r
+
+-- a command replies this to an input; to one of too many bytes, that it is too long
+unfoldable pub Replies : Command → Store → List ℕ → Reply → Type 0
+Replies c s input r = RepliesUnless (nat_lt most_input (length input)) c s input r

@@ -3,15 +3,17 @@
 ghost use Rattle.std.specs.Prelude.{◌≤◌, length, map};
 ghost use Rattle.std.specs.Rc.{rc_str_bytes};
 ghost use Rattle.simulation.specs.Stores.{store, words_in};
-ghost use Rattle.sim_run.specs.Commands.{command_of};
-ghost use Rattle.sim_run.specs.Replies.{reply};
+ghost use Rattle.sim_run.specs.Commands.{IsWithin, command_of};
+ghost use Rattle.sim_run.specs.Replies.{Replies};
 ghost use Rattle.sim_run.specs.Answers.{Answered, HasReadFew, IsComplete, LeavesDevice, MayUse, NeverFalls, TellsReadFault, exchange, how_of};
 ghost use Rattle.sim_run.specs.Promises.{ImagesTo, KeepsHeadline, KeepsImages, KeepsPromise, PromisesTo};
 ghost use Rattle.sim_run.specs.Stopping.{KeepsStop, StopsTo, TellsStop};
-ghost use Rattle.sim_run.specs.BeforeAnswerLine.{BeforeAnswerLine, LeavesStore, PutOrLost};
+ghost use Rattle.sim_run.specs.BeforeAnswerLine.{BeforeAnswerLine, LeavesStore, PutsReply};
 
 use crate::assembly::asm;
+use crate::auditing::audit;
 use crate::command::{Command, words_of};
+use crate::finishes::serial;
 use crate::input::input_for;
 use crate::make::make;
 use crate::packing::{dis, pack};
@@ -25,7 +27,7 @@ use std::alloc::Global;
 use std::rc::RcStr;
 
 /// What a command replies to an input.
-#[tactic(auto, unfolding(crate::specs::Replies::reply))]
+#[tactic(auto, unfolding(crate::specs::Replies::Replies))]
 fn answer<K: Sink, F: Fram>(
     alloc: Global,
     command: Command,
@@ -33,9 +35,10 @@ fn answer<K: Sink, F: Fram>(
     out: &mut K,
     dev: &mut F,
 ) -> Status
-    requires { length input.now ≤ MAX_INPUT }
-    ensures replied { let reply = reply command (store F.start F.log F.lost dev.old) input.now in
-        PutOrLost reply (K.seen out.old) (K.seen out.new) result }
+    requires input { length input.now ≤ MAX_INPUT }
+    requires within { IsWithin command }
+    ensures replied { let old = store F.start F.log F.lost dev.old in
+        PutsReply (Replies command old input.now) (K.seen out.old) (K.seen out.new) result }
     ensures store { let old = store F.start F.log F.lost dev.old in
         LeavesStore (how_of command) old (store F.start F.log F.lost dev.new) result }
     ensures headline { let words = words_in (store F.start F.log F.lost dev.old) in
@@ -55,6 +58,8 @@ fn answer<K: Sink, F: Fram>(
         Command::Asm => asm(alloc, input, out),
         Command::Dis => dis(alloc, input, out),
         Command::Pack => pack(alloc, input, out),
+        Command::Serial(count) => serial(alloc, count, input, out),
+        Command::Audit => audit(alloc, input, out),
         Command::Make(seed) => make(alloc, seed, input, out, dev),
     }
 }
@@ -100,7 +105,7 @@ fn carry_out<S: Source, K: Sink, F: Fram>(
 /// Carries out a command: reads the source to its end, but for `make`, and puts what the command replies to the input. Every other
 /// answer is named by a line, and then nothing else was put, but for a sink that failed on the way, or a device that lost
 /// a call. `run` formats the device, `resume` goes on from what it holds, and each puts the event machine's report, of which
-/// the headline holds; `make` runs a script of its own as `run` does, and puts a summary of the report. What the device holds is known at each of its writes. No other command touches it. It waits for nobody, and takes all its memory before
+/// the headline holds; `make` runs a script of its own as `run` does, and puts a summary of the report. `serial` puts the first finishes of the script's tasks, each run whole, and `audit` says whether what a report lists is serial and leaves what it tells. What the device holds is known at each of its writes. No other command touches it. It waits for nobody, and takes all its memory before
 /// anything is put or written.
 pub fn simulate<S: Source, K: Sink, F: Fram>(
     alloc: Global,

@@ -1,11 +1,14 @@
 //! The commands, by their words.
 
-ghost use Rattle.std.specs.Prelude.{◌≡◌, map, Some, None, MatchResult};
+ghost use Rattle.std.specs.Prelude.{◌≡◌, map, IfOk, IfSome, Some, None, MatchResult};
 ghost use Rattle.std.specs.Rc.{rc_str_bytes};
-ghost use Rattle.sim_run.specs.Commands.{command_of, named, numbered};
+ghost use Rattle.sim_run.specs.Commands.{IsWithin, command_of, named, numbered};
 
 use plain_text::number_in;
 use std::rc::RcStr;
+
+/// The most finishes that `serial` is asked for.
+pub const MOST_SERIAL: u32 = 10_000;
 
 /// What `simulate` is asked for.
 #[derive(Clone, Copy, PartialEq, Eq, Debug)]
@@ -20,6 +23,10 @@ pub enum Command {
     Dis,
     /// `pack`: a script in, its packed set out.
     Pack,
+    /// `serial N`: a script in, its first N finishes out, each run whole, the least open id first.
+    Serial(u32),
+    /// `audit`: a script and a report of it in, out how many finishes agree with their serial replay.
+    Audit,
     /// `make N`: nothing in, the summary of a run out, whose steps are drawn with this seed.
     Make(u32),
 }
@@ -44,6 +51,8 @@ fn named(word: &str) -> Option<Command>
         Some(Command::Dis)
     } else if word == "pack" {
         Some(Command::Pack)
+    } else if word == "audit" {
+        Some(Command::Audit)
     } else {
         None
     }
@@ -55,6 +64,11 @@ fn numbered(word: &str, number: &str) -> Option<Command>
     if word == "make" {
         match number_in(0, u32::MAX, number.as_bytes()) {
             Ok(seed) => Some(Command::Make(seed)),
+            Err(_) => None,
+        }
+    } else if word == "serial" {
+        match number_in(1, MOST_SERIAL, number.as_bytes()) {
+            Ok(count) => Some(Command::Serial(count)),
             Err(_) => None,
         }
     } else {
@@ -74,8 +88,9 @@ fn or_usage(found: Option<Command>) -> Result<Command, WordsRefusal>
 
 /// The command that these words name. `Usage` exactly where they name none. Takes no memory.
 pub fn words_of(words: &[RcStr]) -> Result<Command, WordsRefusal>
-    ensures { let named = command_of (map rc_str_bytes words.now) in
+    ensures named { let named = command_of (map rc_str_bytes words.now) in
         MatchResult result (λ c. named ≡ Some c) (λ e. named ≡ None) }
+    ensures within { IfOk result IsWithin }
 {
     match words {
         [word] => or_usage(named(word.as_str())),

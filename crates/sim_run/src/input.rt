@@ -51,7 +51,13 @@ fn seed_of(command: Command) -> Option<u32>
 {
     match command {
         Command::Make(seed) => Some(seed),
-        Command::Run | Command::Resume | Command::Asm | Command::Dis | Command::Pack => None,
+        Command::Run
+        | Command::Resume
+        | Command::Asm
+        | Command::Dis
+        | Command::Pack
+        | Command::Serial(_)
+        | Command::Audit => None,
     }
 }
 

@@ -2,9 +2,11 @@
 #![tactic(auto)]
 
 mod assembly;
+mod auditing;
 mod call;
 pub mod chains;
 mod command;
+mod finishes;
 mod input;
 mod made_script;
 mod make;

@@ -1,4 +1,4 @@
-//! The summary of a run whose lines were counted.
+//! The summary of a run whose lines were counted, and how many finishes agree.
 
 ghost use Rattle.std.specs.Prelude.{◌≡◌, ◌≤◌, ◌+◌, ◌++◌, length, codes};
 ghost use Rattle.arrayvec.specs.ArrayString.{array_string_len};
@@ -31,6 +31,15 @@ fn push_line(lines: &mut ArrayString<ROOM>, word: &str, n: u32)
     push(lines, word);
     push(lines, digits.format(n));
     push(lines, "\n");
+}
+
+/// The line that tells how many finishes agree with their serial replay. Takes no memory.
+pub(crate) fn agreed(count: u32) -> ArrayString<ROOM>
+    ensures { result.bytes ≡ number_line (codes "agreed ") count }
+{
+    let mut lines = ArrayString::new();
+    push_line(&mut lines, "agreed ", count);
+    lines
 }
 
 /// The seven lines that sum up a run with this seed. Takes no memory.
