@@ -13,3 +13,5 @@ pub mod Chained
 pub mod StoppedChains
 pub mod MadeRead
 pub mod Summing
+pub mod FirstFit
+pub mod OneAudit
