@@ -35,6 +35,7 @@ use task_model::{Final, Objects, serial_first};
 use task_set::TaskSet;
 
 /// A text of lines, each of which is made in one buffer.
+#[derive(Drop)]
 struct Text {
     bytes: Vec<u8>,
     line: LineBuf,
