@@ -85,12 +85,12 @@ within c s input r l h =
     let short : ltb most_input (length input) ≡ false = le-ltb _ _ l in
     subst (λ b. RepliesUnless b c s input r) (sym short) h
 
-pub by_reply : (c : Command) (s : Store) (input : List ℕ) (r : Reply) (o q : Stream) (status : Status) → length input ≤ most_input → RepliesWithin c s input r → PutOrLost r o q status → PutsSome PutOrLost (Replies c s input) o q status
-by_reply c s input r o q status l h p = inr (r, within c s input r l h, p)
+pub by_reply : (c d : Command) (s : Store) (input : List ℕ) (r : Reply) (o q : Stream) (status : Status) → c ≡ d → length input ≤ most_input → RepliesWithin d s input r → PutOrLost r o q status → PutsSome PutOrLost (Replies c s input) o q status
+by_reply c d s input r o q status e l h p = inr (r, within c s input r l (subst (λ (x : Command). RepliesWithin x s input r) (sym e) h), p)
 
-pub by_some : (c : Command) (s : Store) (input : List ℕ) (o q : Stream) (status : Status) → length input ≤ most_input → PutsSome PutReply (RepliesWithin c s input) o q status → PutsSome PutOrLost (Replies c s input) o q status
-by_some c s input o q status l (inl h) = inl h
-by_some c s input o q status l (inr h) = by_reply c s input h.0 o q status l h.1 (none_lost h.0 o q status h.2)
+pub by_some : (c d : Command) (s : Store) (input : List ℕ) (o q : Stream) (status : Status) → c ≡ d → length input ≤ most_input → PutsSome PutReply (RepliesWithin d s input) o q status → PutsSome PutOrLost (Replies c s input) o q status
+by_some c d s input o q status e l (inl h) = inl h
+by_some c d s input o q status e l (inr h) = by_reply c d s input h.0 o q status e l h.1 (none_lost h.0 o q status h.2)
 
 pub name_counts : (status : Status) (o q : Stream) → PutsName status o q → o.faults ≤ q.faults
 name_counts status o q (inl h) = stood o.faults q.faults h.still

@@ -15,3 +15,5 @@ pub mod MadeRead
 pub mod Summing
 pub mod FirstFit
 pub mod OneAudit
+pub mod Audited
+pub mod FinishLines

@@ -15,7 +15,7 @@ use Rattle.sim_run.proofs.Promising.{images_unread}
 use Rattle.sim_run.proofs.call.carry_out.Goals as goal
 
 pub returns-in-Err-clause-answer : goal.returns-in-Err-clause-answer
-returns-in-Err-clause-answer g c = rw c.in-Ok.ensures (not_given c.in-Ok.command _ c.in-Err.status refl refl c.in-Err.ensures.not_given)
+returns-in-Err-clause-answer g c = rw c.in-Ok.ensures.named (not_given c.in-Ok.command _ c.in-Err.status refl refl c.in-Err.ensures.not_given)
 
 pub returns-in-Err-clause-few : goal.returns-in-Err-clause-few
 returns-in-Err-clause-few g c = not_given_few (own_input c.in-Ok.command) _ _ c.in-Err.status c.in-Err.ensures.not_given
@@ -28,7 +28,7 @@ returns-in-Err-clause-never_falls g c = record { source = not_given_counts (own_
 
 pub returns-in-Ok-input_for-clause-answer : goal.returns-in-Ok-input_for-clause-answer
 returns-in-Ok-input_for-clause-answer g c =
-    rw c.in-Ok.ensures (replied c.in-Ok.command _ c.in-Ok-input_for.input.items c.answer.result c.in-Ok-input_for.ensures.given
+    rw c.in-Ok.ensures.named (replied c.in-Ok.command _ c.in-Ok-input_for.input.items c.answer.result c.in-Ok-input_for.ensures.given
     (subst (λ b. PutsSome PutOrLost (Replies c.in-Ok.command (store g.F.Fram.start g.F.Fram.log g.F.Fram.lost c.args.dev.now) b) (g.K.Sink.seen c.args.out.now) (g.K.Sink.seen c.answer.new.out) c.answer.result) c.as_slice.ensures.value c.answer.ensures.replied)
     c.answer.ensures.store)
 
@@ -44,29 +44,29 @@ returns-in-Ok-input_for-clause-never_falls g c = record { source = stood _ _ (gi
 pub returns-in-Ok-input_for-clause-headline : goal.returns-in-Ok-input_for-clause-headline
 returns-in-Ok-input_for-clause-headline g c =
     let old = store g.F.Fram.start g.F.Fram.log g.F.Fram.lost c.args.dev.now in
-    rw c.in-Ok.ensures (of_input (own_input c.in-Ok.command) _ _ c.in-Ok-input_for.input.items (PromisesTo c.in-Ok.command (words_in old) c.answer.result) c.in-Ok-input_for.ensures.given
+    rw c.in-Ok.ensures.named (of_input (own_input c.in-Ok.command) _ _ c.in-Ok-input_for.input.items (PromisesTo c.in-Ok.command (words_in old) c.answer.result) c.in-Ok-input_for.ensures.given
     (subst (PromisesTo c.in-Ok.command (words_in old) c.answer.result) c.as_slice.ensures.value c.answer.ensures.headline))
 
 pub returns-in-Ok-input_for-clause-images : goal.returns-in-Ok-input_for-clause-images
 returns-in-Ok-input_for-clause-images g c =
     let old = store g.F.Fram.start g.F.Fram.log g.F.Fram.lost c.args.dev.now in
     let new = store g.F.Fram.start g.F.Fram.log g.F.Fram.lost c.answer.new.dev in
-    rw c.in-Ok.ensures (of_input (own_input c.in-Ok.command) _ _ c.in-Ok-input_for.input.items (ImagesTo c.in-Ok.command old new c.answer.result) c.in-Ok-input_for.ensures.given
+    rw c.in-Ok.ensures.named (of_input (own_input c.in-Ok.command) _ _ c.in-Ok-input_for.input.items (ImagesTo c.in-Ok.command old new c.answer.result) c.in-Ok-input_for.ensures.given
     (subst (ImagesTo c.in-Ok.command old new c.answer.result) c.as_slice.ensures.value c.answer.ensures.images))
 
 pub returns-in-Ok-input_for-clause-stops : goal.returns-in-Ok-input_for-clause-stops
 returns-in-Ok-input_for-clause-stops g c =
     let old = store g.F.Fram.start g.F.Fram.log g.F.Fram.lost c.args.dev.now in
     let new = store g.F.Fram.start g.F.Fram.log g.F.Fram.lost c.answer.new.dev in
-    rw c.in-Ok.ensures (of_input (own_input c.in-Ok.command) _ _ c.in-Ok-input_for.input.items (StopsTo c.in-Ok.command old new (g.K.Sink.seen c.args.out.now) (g.K.Sink.seen c.answer.new.out) c.answer.result) c.in-Ok-input_for.ensures.given
+    rw c.in-Ok.ensures.named (of_input (own_input c.in-Ok.command) _ _ c.in-Ok-input_for.input.items (StopsTo c.in-Ok.command old new (g.K.Sink.seen c.args.out.now) (g.K.Sink.seen c.answer.new.out) c.answer.result) c.in-Ok-input_for.ensures.given
     (subst (StopsTo c.in-Ok.command old new (g.K.Sink.seen c.args.out.now) (g.K.Sink.seen c.answer.new.out) c.answer.result) c.as_slice.ensures.value c.answer.ensures.stops))
 
 pub returns-in-Err-clause-images : goal.returns-in-Err-clause-images
 returns-in-Err-clause-images g c =
     let old = store g.F.Fram.start g.F.Fram.log g.F.Fram.lost c.args.dev.now in
-    rw c.in-Ok.ensures (images_unread c.in-Ok.command old c.in-Err.status _ (not_given_undone (own_input c.in-Ok.command) _ _ c.in-Err.status c.in-Err.ensures.not_given))
+    rw c.in-Ok.ensures.named (images_unread c.in-Ok.command old c.in-Err.status _ (not_given_undone (own_input c.in-Ok.command) _ _ c.in-Err.status c.in-Err.ensures.not_given))
 
 pub returns-in-Err-clause-headline : goal.returns-in-Err-clause-headline
 returns-in-Err-clause-headline g c =
     let old = store g.F.Fram.start g.F.Fram.log g.F.Fram.lost c.args.dev.now in
-    rw c.in-Ok.ensures (unread_promised c.in-Ok.command (words_in old) (own_input c.in-Ok.command) _ _ c.in-Err.status _ c.in-Err.ensures.not_given)
+    rw c.in-Ok.ensures.named (unread_promised c.in-Ok.command (words_in old) (own_input c.in-Ok.command) _ _ c.in-Err.status _ c.in-Err.ensures.not_given)
