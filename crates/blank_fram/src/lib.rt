@@ -6,3 +6,5 @@ mod words;
 
 pub use device::BlankFram;
 
+#[cfg(test)]
+mod tests;

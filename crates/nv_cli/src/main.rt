@@ -11,6 +11,7 @@ ghost use Rattle.std.specs.Process.{exit_status};
 ghost use Rattle.std.specs.Rc.{rc_str_bytes};
 ghost use Rattle.std.specs.Vec.Iter.{into_iter_items};
 ghost use Rattle.answers.specs.Exits.{exit_of};
+ghost use Rattle.blank_fram.specs.Device.{Passes as PassesBlank};
 ghost use Rattle.fram_dev.specs.Memory.{Passes};
 ghost use Rattle.simulation.specs.Stores.{store};
 ghost use Rattle.sim_run.specs.Answers.{exchange};
@@ -21,6 +22,7 @@ ghost use Rattle.nv_cli.specs.Images.{command_part, exit_unready, unwritten};
 mod image;
 
 use answers::Status;
+use blank_fram::BlankFram;
 use fram_dev::{Fram, MemFram};
 use image::{Unready, command_part, image_path};
 use image_file::ImageFile;
@@ -116,12 +118,11 @@ fn exit_code(ended: Result<Status, Unready>) -> ExitCode
 
 /// A new device of so many words, all 0, that passes so many writes.
 #[tactic(auto, unfolding(crate::specs::Calls::IsZeros))]
-fn new_device(alloc: Global, words: u32, writes: u32) -> Result<MemFram, NoMemory>
-    requires { words ≤ 65536 }
+fn new_device(alloc: Global, words: u32, writes: u32) -> Result<BlankFram, NoMemory>
     ensures zeros { IfOk result (IsZeros words) }
-    ensures writes { IfOk result (Passes writes) }
+    ensures writes { IfOk result (PassesBlank writes) }
 {
-    MemFram::zeros(alloc, words, writes)
+    BlankFram::new(alloc, words, writes)
 }
 
 /// A device that has the words of a file, and passes so many writes.
@@ -143,10 +144,10 @@ fn device_in(
 }
 
 /// The answer to a call on this device, with the process's streams.
-fn answer(
+fn answer<F: Fram>(
     rt: &HostRuntime,
     words: &Result<Vec<RcStr>, NoMemory>,
-    device: &mut MemFram,
+    device: &mut F,
 ) -> Result<Status, Unready>
     ensures { IfErr result (λ why. why ≡ Unready.NoMemory) }
 {
