@@ -1,14 +1,10 @@
--- A device in memory whose words were all 0 at first: this project's own.
-use Rattle.std.specs.Prelude.{◌≡◌, ℕ, List, [], replicate}
+-- A device in memory, given or of zeros: this project's own.
+use Rattle.std.specs.Prelude.{◌≡◌, ℕ, List, []}
 use Rattle.blank_fram.specs.declared.device.BlankFram.{BlankFram}
 
--- its words at the start
-abbrev pub start_of : BlankFram → List ℕ
-start_of m = replicate m.count 0
-
--- so many words, all 0; nothing was written yet, and nothing lost
-pub record IsNew (words : ℕ) (m : BlankFram) : Type 0 where
-  pub start : start_of m ≡ replicate words 0
+-- these words at the start; nothing was written yet, and nothing lost
+pub record IsNew (words : List ℕ) (m : BlankFram) : Type 0 where
+  pub start : m.start.items ≡ words
   pub log : m.log.items ≡ []
   pub lost : m.lost ≡ 0
 

@@ -1,7 +1,8 @@
-// A memory of words that begins with zeros, of which only those up to the last one written are kept.
+// A memory of words with zeros behind them: only those up to the last one given or written are kept.
 #![tactic(auto)]
 
 mod device;
+mod start;
 mod words;
 
 pub use device::BlankFram;

@@ -9,7 +9,7 @@ use std::test::Fail;
 
 #[test]
 fn a_word_far_behind_leaves_zeros_between(rt: HostRuntime) -> Result<(), Fail> {
-    let mut device = BlankFram::new(rt.alloc(), 65_536, 3)?;
+    let mut device = BlankFram::zeros(rt.alloc(), 65_536, 3)?;
     assert_eq!(rt; device.len(), 65_536);
     assert!(rt; matches!(device.read(65_535), Ok(0)));
     assert!(rt; matches!(device.write(40_000, 7), Ok(())));
@@ -25,15 +25,30 @@ fn a_word_far_behind_leaves_zeros_between(rt: HostRuntime) -> Result<(), Fail> {
 
 #[test]
 fn every_call_behind_the_last_write_is_lost(rt: HostRuntime) -> Result<(), Fail> {
-    let mut device = BlankFram::new(rt.alloc(), 3, 1)?;
+    let mut device = BlankFram::zeros(rt.alloc(), 3, 1)?;
     assert!(rt; matches!(device.read(2), Ok(0)));
     assert_eq!(rt; device.losses(), 0);
     assert!(rt; matches!(device.write(2, 5), Ok(())));
     assert!(rt; device.write(0, 1).is_err());
     assert!(rt; device.read(2).is_err());
     assert_eq!(rt; device.losses(), 2);
-    let none = BlankFram::new(rt.alloc(), 0, 0)?;
+    assert!(rt; device.into_words().as_slice() == [0, 0, 5].as_slice());
+    let none = BlankFram::zeros(rt.alloc(), 0, 0)?;
     assert_eq!(rt; none.len(), 0);
+    Ok(())
+}
+
+#[test]
+fn given_words_are_read_and_written(rt: HostRuntime) -> Result<(), Fail> {
+    let mut device = BlankFram::given(rt.alloc(), &[7, 8, 9], 2)?;
+    assert_eq!(rt; device.len(), 3);
+    assert!(rt; matches!(device.write(1, 5), Ok(())));
+    assert!(rt; matches!(device.read(1), Ok(5)));
+    assert!(rt; matches!(device.read(2), Ok(9)));
+    assert!(rt; device.into_words().as_slice() == [7, 5, 9].as_slice());
+    let mut zeros = BlankFram::zeros(rt.alloc(), 4, 2)?;
+    assert!(rt; matches!(zeros.write(1, 5), Ok(())));
+    assert!(rt; zeros.into_words().as_slice() == [0, 5, 0, 0].as_slice());
     Ok(())
 }
 
@@ -59,7 +74,7 @@ fn answer_alike<A: Fram, B: Fram>(one: &mut A, other: &mut B, at: u32, word: Opt
 
 #[test]
 fn it_answers_as_a_device_that_keeps_all_words(rt: HostRuntime) -> Result<(), Fail> {
-    let mut device = BlankFram::new(rt.alloc(), 61, 150)?;
+    let mut device = BlankFram::zeros(rt.alloc(), 61, 150)?;
     let mut plain = MemFram::zeros(rt.alloc(), 61, 150)?;
     let mut numbers = Lcg64Xsh32::new(3, 0);
     for _ in 0..500 {

@@ -1,4 +1,4 @@
-//! Words that are zero at first: only those up to the last one written are kept.
+//! Words with zeros behind them: only those up to the last one given or written are kept.
 
 ghost use Rattle.std.specs.Prelude.{◌≡◌, ◌+◌, ◌-◌, ◌<◌, ◌≤◌, [], ◌∷◌, ◌++◌, IfOk, length, replicate, slice_index, slice_set, vec_capacity};
 
@@ -6,7 +6,7 @@ use nv_base::NoMemory;
 use std::alloc::Global;
 use std::marker::Model;
 
-/// A fixed number of words, all zero at first. Contracts see the words.
+/// A fixed number of words. Contracts see the words.
 #[derive(Debug, Drop)]
 pub(crate) struct BlankWords {
     // there is room for the words behind these, too, but it is not touched
@@ -27,8 +27,18 @@ impl Model for BlankWords {
 }
 
 impl BlankWords {
+    /// These words. `NoMemory` where there is no room for them.
+    pub(crate) fn given(alloc: Global, words: &[u32]) -> Result<BlankWords, NoMemory>
+        ensures { IfOk result (λ w. w.items ≡ words.now) }
+    {
+        Ok(BlankWords {
+            kept: words.to_vec(alloc)?,
+            zeros: 0,
+        })
+    }
+
     /// So many zeros. `NoMemory` where there is no room for other words in their place.
-    pub(crate) fn new(alloc: Global, count: usize) -> Result<BlankWords, NoMemory>
+    pub(crate) fn zeros(alloc: Global, count: usize) -> Result<BlankWords, NoMemory>
         ensures { IfOk result (λ w. w.items ≡ replicate count 0) }
     {
         Ok(BlankWords {
@@ -61,6 +71,15 @@ impl BlankWords {
             self.zeros -= reach(&mut self.kept, at, word);
         }
     }
+
+    /// The list of all words.
+    pub(crate) fn into_vec(self) -> Vec<u32>
+        ensures { result.items ≡ self.items }
+    {
+        let mut kept = self.kept;
+        push_zeros(&mut kept, self.zeros);
+        kept
+    }
 }
 
 // Puts a word behind those that are kept, and zeros between. How many words more are kept then.
@@ -75,9 +94,18 @@ fn reach(kept: &mut Vec<u32>, at: usize, word: u32) -> usize
     ensures room { vec_capacity kept.new ≡ vec_capacity kept.old }
 {
     let between = at - kept.len();
-    for _ in 0..between {
-        kept.push_reserved(0);
-    }
+    push_zeros(kept, between);
     kept.push_reserved(word);
     between + 1
+}
+
+// Puts so many zeros behind the words that are kept.
+fn push_zeros(kept: &mut Vec<u32>, count: usize)
+    requires { length kept.old.items + count ≤ vec_capacity kept.old }
+    ensures words { kept.new.items ≡ kept.old.items ++ replicate count 0 }
+    ensures room { vec_capacity kept.new ≡ vec_capacity kept.old }
+{
+    for _ in 0..count {
+        kept.push_reserved(0);
+    }
 }

@@ -1,5 +1,5 @@
 -- How the program ends, and on which device it runs. This project's own.
-use Rattle.std.specs.Prelude.{ℕ, Option}
+use Rattle.std.specs.Prelude.{ℕ, Option, replicate}
 use Rattle.blank_fram.specs.Device.{IsNew}
 use Rattle.blank_fram.specs.declared.device.BlankFram.{BlankFram}
 use Rattle.sim_run.specs.Answers.{Answered, Exchange, HasReadFew, IsComplete, LeavesDevice, NeverFalls, TellsReadFault}
@@ -22,4 +22,4 @@ pub record EndsAs (command : Option Command) (x : Exchange) (status : Status) : 
 
 -- a new device has so many words, and each is 0
 unfoldable pub IsZeros : ℕ → BlankFram → Type 0
-IsZeros words m = IsNew words m
+IsZeros words m = IsNew (replicate words 0) m

@@ -1,5 +1,5 @@
 use Rattle.std.proofs.Common.{◌≡◌, ◌++◌, replicate, vec_capacity}
-use Rattle.blank_fram.proofs.words.reach.Given as goal
+use Rattle.blank_fram.proofs.words.push_zeros.Given as goal
 
 abbrev pub invariant-loop : goal.invariant-loop
 invariant-loop l = record {
