@@ -134,9 +134,9 @@ fn text_of(
 ) -> Result<Vec<u8>, NoMemory>
     requires { IsFit set.now (state_of end.now) }
     ensures { let f : Finished = record {
-          entries = map entry_of entries.now;
-          state = state_of end.now;
-        } in
+      entries = map entry_of entries.now;
+      state = state_of end.now;
+    } in
         IfOk result (λ bytes. bytes.items ≡ finishes_text set.now f) }
 {
     let mut text = Text::new(alloc)?;

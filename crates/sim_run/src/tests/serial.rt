@@ -30,7 +30,15 @@ fn first_finishes_are_put(rt: HostRuntime) -> Result<(), Fail> {
         assert!(rt; answers(&rt, &["serial", count], COPY_AND_PUT, 2, "error usage\n")?);
     }
     assert!(rt; answers(&rt, &["serial"], COPY_AND_PUT, 2, "error usage\n")?);
-    assert!(rt; answers(&rt, &["serial", "1"], "nvk 3\n", 3, "error script 1 range\n")?);
+    assert!(rt;
+        answers(
+            &rt,
+            &["serial", "1"],
+            "nvk 3\n",
+            3,
+            "error script 1 range\n"
+        )?
+    );
     Ok(())
 }
 
@@ -92,7 +100,15 @@ fn reports_are_audited(rt: HostRuntime) -> Result<(), Fail> {
     for (report, exit, expected) in CHANGES {
         assert!(rt; audited(&rt, report, exit, expected)?);
     }
-    assert!(rt; answers(&rt, &["audit"], "nvk 1\ncores 9\n", 3, "error script 2 range\n")?);
+    assert!(rt;
+        answers(
+            &rt,
+            &["audit"],
+            "nvk 1\ncores 9\n",
+            3,
+            "error script 2 range\n"
+        )?
+    );
     assert!(rt; answers(&rt, &["audit", "1"], COPY_AND_PUT, 2, "error usage\n")?);
     // it touches no device, so it needs none
     let text = format!(in rt.alloc(); "{COPY_AND_PUT}{REPORT}")?;
@@ -111,7 +127,9 @@ fn made_run(rt: &HostRuntime, seed: u32) -> Result<Vec<u8>, Fail> {
     let zeros = vec![in rt.alloc(); 0u32; 4096]?;
     let mut dev = MemFram::new(rt.alloc(), zeros.as_slice(), 40_000)?;
     let status = simulate(rt.alloc(), words.as_slice(), &mut src, &mut out, &mut dev);
-    assert!(rt; status == Status::Done);
+    if status != Status::Done {
+        return Err(Fail::new("a run that is done is wanted"));
+    }
     let mut both = Vec::from_slice(rt.alloc(), script.as_bytes())?;
     both.extend_from_slice(out.bytes())?;
     Ok(both)
