@@ -31,11 +31,7 @@ fn each_answer_has_its_exit_and_its_line(rt: HostRuntime) -> Result<(), Fail> {
             3,
             "error packed 4294967295\n",
         ),
-        (
-            Status::Report(1_048_576),
-            3,
-            "error report 1048576\n",
-        ),
+        (Status::Report(1_048_576), 3, "error report 1048576\n"),
         (Status::ReadFault, 4, "error read\n"),
         (Status::WriteFault, 5, ""),
         (Status::NoMemory, 6, "error memory\n"),

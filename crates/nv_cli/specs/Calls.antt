@@ -1,7 +1,7 @@
 -- How the program ends, and on which device it runs. This project's own.
 use Rattle.std.specs.Prelude.{ℕ, Option, replicate}
-use Rattle.fram_dev.specs.Memory.{IsNew}
-use Rattle.fram_dev.specs.declared.memory.MemFram.{MemFram}
+use Rattle.blank_fram.specs.Device.{IsNew}
+use Rattle.blank_fram.specs.declared.device.BlankFram.{BlankFram}
 use Rattle.sim_run.specs.Answers.{Answered, Exchange, HasReadFew, IsComplete, LeavesDevice, NeverFalls, TellsReadFault}
 use Rattle.sim_run.specs.Promises.{KeepsHeadline, KeepsImages}
 use Rattle.sim_run.specs.Stopping.{TellsStop}
@@ -21,5 +21,5 @@ pub record EndsAs (command : Option Command) (x : Exchange) (status : Status) : 
   pub never_falls : NeverFalls x
 
 -- a new device has so many words, and each is 0
-unfoldable pub IsZeros : ℕ → MemFram → Type 0
+unfoldable pub IsZeros : ℕ → BlankFram → Type 0
 IsZeros words m = IsNew (replicate words 0) m

@@ -11,7 +11,7 @@ ghost use Rattle.std.specs.Process.{exit_status};
 ghost use Rattle.std.specs.Rc.{rc_str_bytes};
 ghost use Rattle.std.specs.Vec.Iter.{into_iter_items};
 ghost use Rattle.answers.specs.Exits.{exit_of};
-ghost use Rattle.fram_dev.specs.Memory.{Passes};
+ghost use Rattle.blank_fram.specs.Device.{Passes};
 ghost use Rattle.simulation.specs.Stores.{store};
 ghost use Rattle.sim_run.specs.Answers.{exchange};
 ghost use Rattle.sim_run.specs.Commands.{command_of};
@@ -21,7 +21,8 @@ ghost use Rattle.nv_cli.specs.Images.{command_part, exit_unready, unwritten};
 mod image;
 
 use answers::Status;
-use fram_dev::{Fram, MemFram};
+use blank_fram::BlankFram;
+use fram_dev::Fram;
 use image::{Unready, command_part, image_path};
 use image_file::ImageFile;
 use nv_base::{NoMemory, Sink, SinkFailed, Source, StdSink, StdSource};
@@ -116,12 +117,11 @@ fn exit_code(ended: Result<Status, Unready>) -> ExitCode
 
 /// A new device of so many words, all 0, that passes so many writes.
 #[tactic(auto, unfolding(crate::specs::Calls::IsZeros))]
-fn new_device(alloc: Global, words: u32, writes: u32) -> Result<MemFram, NoMemory>
-    requires { words ≤ 65536 }
+fn new_device(alloc: Global, words: u32, writes: u32) -> Result<BlankFram, NoMemory>
     ensures zeros { IfOk result (IsZeros words) }
     ensures writes { IfOk result (Passes writes) }
 {
-    MemFram::zeros(alloc, words, writes)
+    BlankFram::zeros(alloc, words, writes)
 }
 
 /// A device that has the words of a file, and passes so many writes.
@@ -130,13 +130,13 @@ fn device_in(
     file: &ImageFile,
     words: u32,
     writes: u32,
-) -> Result<MemFram, Unready>
+) -> Result<BlankFram, Unready>
     requires { words ≤ 65536 }
-    ensures length { IfOk result (λ device. length (⟦<MemFram as Fram>⟧.start device) ≡ words) }
+    ensures length { IfOk result (λ device. length (⟦<BlankFram as Fram>⟧.start device) ≡ words) }
     ensures writes { IfOk result (Passes writes) }
 {
     let start = file.load(rt, rt.alloc(), words)?;
-    match MemFram::new(rt.alloc(), start.as_slice(), writes) {
+    match BlankFram::given(rt.alloc(), start.as_slice(), writes) {
         Ok(device) => Ok(device),
         Err(NoMemory) => Err(Unready::NoMemory),
     }
@@ -146,7 +146,7 @@ fn device_in(
 fn answer(
     rt: &HostRuntime,
     words: &Result<Vec<RcStr>, NoMemory>,
-    device: &mut MemFram,
+    device: &mut BlankFram,
 ) -> Result<Status, Unready>
     ensures { IfErr result (λ why. why ≡ Unready.NoMemory) }
 {
@@ -177,7 +177,7 @@ fn on_file(
     let mut file = ImageFile::at(rt, rt.alloc(), path, DEVICE_WORDS)?;
     let mut device = device_in(rt, &file, DEVICE_WORDS, DEVICE_WRITES)?;
     let status = answer(rt, words, &mut device)?;
-    file.store(rt, device.words())?;
+    file.store(rt, device.into_words().as_slice())?;
     Ok(status)
 }
 

@@ -1,16 +1,17 @@
 -- From what a call has done, and the line that names its answer, to the answer.
-use Rattle.std.proofs.Common.{◌≡◌, ℕ, ◌≤◌, ◌⊎◌, List, [], Option, Some, None, inl, inr, refl, ap, sym, subst, arith}
+use Rattle.std.proofs.Common.{◌≡◌, ℕ, ◌≤◌, ◌⊎◌, false, List, [], length, ltb, Option, Some, None, inl, inr, refl, ap, sym, subst, arith}
+use Rattle.std.proofs.lemmas.Bool.{le-ltb}
 use Rattle.nv_base.specs.Streams.{PutsFront, PutsText, FaultCounted, Stream}
-use Rattle.sim_run.specs.Replies.{Finds, Puts, Refuses, Reply, refused_by, status_of}
+use Rattle.sim_run.specs.Replies.{Finds, Puts, Refuses, Replies, RepliesUnless, RepliesWithin, Reply, most_input, refused_by, status_of}
 use Rattle.answers.specs.Names.{PutsName}
-use Rattle.sim_run.specs.Answers.{Answered, AnsweredTo, Exchange, IsComplete, IsCutOff, IsDone, IsSpared, IsStopped, NoFault, OfInput, input_of, reply_in}
-use Rattle.sim_run.specs.BeforeAnswerLine.{BeforeAnswerLine, LeavesStore, PutOrLost, PutReply}
+use Rattle.sim_run.specs.Answers.{Answered, AnsweredTo, Exchange, IsComplete, IsCutOff, IsDone, IsRefused, IsReplied, IsSpared, IsStopped, NoFault, OfInput, RepliesIn, input_of}
+use Rattle.sim_run.specs.BeforeAnswerLine.{BeforeAnswerLine, LeavesStore, PutOrLost, PutReply, PutsSome}
 use Rattle.simulation.specs.Stores.{Store}
 use Rattle.kernel_core.specs.declared.open.How.{How}
 use Rattle.kernel_core.specs.declared.open.How.TheVariants.{Fresh, Again}
 use Rattle.sim_run.specs.declared.command.Command.{Command}
 use Rattle.answers.specs.declared.status.Status.{Status}
-use Rattle.answers.specs.declared.status.Status.TheVariants.{Done, Usage, ReadFault, WriteFault, NoMemory, DeviceLost, Image, Small, Script, Packed}
+use Rattle.answers.specs.declared.status.Status.TheVariants.{Done, Usage, ReadFault, WriteFault, NoMemory, DeviceLost, Image, Small, Script, Packed, Differs, Report}
 use Rattle.simulation.proofs.Fronts.{nothing_cut, nothing_put}
 
 -- ---- counts
@@ -32,6 +33,8 @@ reply_counts r o q (Small need len) h = same_count o q h.1
 reply_counts r o q (Image fault) h = same_count o q h.1
 reply_counts r o q (Script e) h = same_count o q h.1
 reply_counts r o q (Packed p) h = same_count o q h.1
+reply_counts r o q (Report p) h = same_count o q h.1
+reply_counts r o q (Differs p) h = same_count o q h.1
 
 -- a command that uses no device
 pub none_lost : (r : Reply) (o q : Stream) (status : Status) → PutReply r o q status → PutOrLost r o q status
@@ -45,6 +48,8 @@ none_lost r o q (Small need len) h = (ap refused_by h.0, h.1)
 none_lost r o q (Image fault) h = (ap refused_by h.0, h.1)
 none_lost r o q (Script e) h = h
 none_lost r o q (Packed p) h = h
+none_lost r o q (Report p) h = h
+none_lost r o q (Differs p) h = h
 
 spared_same : (how : How) (s : Store) → IsSpared how s s
 spared_same Fresh s = refl
@@ -61,6 +66,31 @@ none_left how r o q s (Small need len) h = spared_same how s
 none_left how r o q s (Image fault) h = spared_same how s
 none_left how r o q s (Script e) h = refl
 none_left how r o q s (Packed p) h = refl
+none_left how r o q s (Report p) h = refl
+none_left how r o q s (Differs p) h = refl
+
+-- by way of some reply
+pub some_counts : (Of : Reply → Type 0) (o q : Stream) (status : Status) → PutsSome PutOrLost Of o q status → o.faults ≤ q.faults
+some_counts Of o q status (inl h) = same_count o q h.1
+some_counts Of o q status (inr h) = reply_counts h.0 o q status h.2
+
+pub some_left : (how : How) (Of : Reply → Type 0) (o q : Stream) (s : Store) (status : Status) → PutsSome PutReply Of o q status → LeavesStore how s s status
+some_left how Of o q s status (inl h) = subst (LeavesStore how s s) (sym h.0) refl
+some_left how Of o q s status (inr h) = none_left how h.0 o q s status h.2
+
+-- an input that is not too long
+pub within : (c : Command) (s : Store) (input : List ℕ) (r : Reply) → length input ≤ most_input → RepliesWithin c s input r → Replies c s input r
+unfolding Replies
+within c s input r l h =
+    let short : ltb most_input (length input) ≡ false = le-ltb _ _ l in
+    subst (λ b. RepliesUnless b c s input r) (sym short) h
+
+pub by_reply : (c d : Command) (s : Store) (input : List ℕ) (r : Reply) (o q : Stream) (status : Status) → c ≡ d → length input ≤ most_input → RepliesWithin d s input r → PutOrLost r o q status → PutsSome PutOrLost (Replies c s input) o q status
+by_reply c d s input r o q status e l h p = inr (r, within c s input r l (subst (λ (x : Command). RepliesWithin x s input r) (sym e) h), p)
+
+pub by_some : (c d : Command) (s : Store) (input : List ℕ) (o q : Stream) (status : Status) → c ≡ d → length input ≤ most_input → PutsSome PutReply (RepliesWithin d s input) o q status → PutsSome PutOrLost (Replies c s input) o q status
+by_some c d s input o q status e l (inl h) = inl h
+by_some c d s input o q status e l (inr h) = by_reply c d s input h.0 o q status e l h.1 (none_lost h.0 o q status h.2)
 
 pub name_counts : (status : Status) (o q : Stream) → PutsName status o q → o.faults ≤ q.faults
 name_counts status o q (inl h) = stood o.faults q.faults h.still
@@ -94,7 +124,9 @@ still_cut c x new input e d = record { text = d.text; replies = d.replies; put =
 still_stopped : (c : Command) (x : Exchange) (new : Stream) (input : List ℕ) → PutsName DeviceLost x.sink_now new → IsStopped (λ from status. x.sink_now ≡ from) c x input → IsStopped (λ from status. PutsName status from new) c (later x new) input
 still_stopped c x new input name d = record {
   text = d.text;
+  reply = d.reply;
   replies = d.replies;
+  with_text = d.with_text;
   middle = d.middle;
   put = d.put;
   named = subst (λ (s : Stream). PutsName DeviceLost s new) d.named name;
@@ -125,6 +157,8 @@ answered_to c x new (Small need len) name h = (h.0, h.1, h.2, named x new (Small
 answered_to c x new (Image fault) name h = (h.0, h.1, h.2, named x new (Image fault) h.3 name)
 answered_to c x new (Script e) name h = (h.0, h.1, h.2, named x new (Script e) h.3 name)
 answered_to c x new (Packed place) name h = (h.0, h.1, h.2, named x new (Packed place) h.3 name)
+answered_to c x new (Report place) name h = (h.0, h.1, h.2, named x new (Report place) h.3 name)
+answered_to c x new (Differs place) name h = (h.0, h.1, h.2, named x new (Differs place) h.3 name)
 
 pub answered : (command : Option Command) (x : Exchange) (new : Stream) (status : Status)
     → PutsName status x.sink_now new → BeforeAnswerLine command x status → Answered command (later x new) status
@@ -133,26 +167,26 @@ answered None x new status name h = (h.0, h.1, h.2, named x new Usage h.3 (subst
 
 -- ---- what a reply names
 
-abbrev IsReplied : Exchange → Command → Status → List ℕ → Type 0
-IsReplied x c status input = (status ≡ status_of (reply_in x c input)) ⊎ (status ≡ NoMemory)
+abbrev IsReply : Exchange → Command → Status → List ℕ → Type 0
+IsReply x c status input = IsReplied c x status input ⊎ (status ≡ NoMemory)
 
-out_of_memory : (x : Exchange) (c : Command) (left : Option (List ℕ)) → OfInput left (IsReplied x c NoMemory)
+out_of_memory : (x : Exchange) (c : Command) (left : Option (List ℕ)) → OfInput left (IsReply x c NoMemory)
 out_of_memory x c None = tt
 out_of_memory x c (Some input) = inr refl
 
-refused : (c : Command) (x : Exchange) (status : Status) → OfInput (input_of c x) (λ input. reply_in x c input ≡ Refuses status) → OfInput (input_of c x) (IsReplied x c status)
-refused c x status h = on_input (input_of c x) (λ input. reply_in x c input ≡ Refuses status) (IsReplied x c status) (λ input d. inl (sym (ap status_of d))) h
+refused : (c : Command) (x : Exchange) (status : Status) → OfInput (input_of c x) (λ input. RepliesIn x c input (Refuses status)) → OfInput (input_of c x) (IsReply x c status)
+refused c x status h = on_input (input_of c x) (λ input. RepliesIn x c input (Refuses status)) (IsReply x c status) (λ input d. inl (Refuses status, d, refl)) h
 
 by_refused : (r : Reply) (status : Status) → refused_by r ≡ Some status → status ≡ status_of r
 by_refused (Puts text) status e = absurd (cc e)
 by_refused (Refuses other) status e = cc e
 by_refused (Finds other) status e = cc e
 
-found : (c : Command) (x : Exchange) (status : Status) → OfInput (input_of c x) (λ input. refused_by (reply_in x c input) ≡ Some status) → OfInput (input_of c x) (IsReplied x c status)
-found c x status h = on_input (input_of c x) (λ input. refused_by (reply_in x c input) ≡ Some status) (IsReplied x c status) (λ input d. inl (by_refused (reply_in x c input) status d)) h
+found : (c : Command) (x : Exchange) (status : Status) → OfInput (input_of c x) (IsRefused c x status) → OfInput (input_of c x) (IsReply x c status)
+found c x status h = on_input (input_of c x) (IsRefused c x status) (IsReply x c status) (λ input d. inl (d.0, d.1, by_refused d.0 status d.2)) h
 
-complete_to : (Names : Stream → Status → Type 0) (c : Command) (x : Exchange) (status : Status) → AnsweredTo Names c x status → NoFault x → OfInput (input_of c x) (IsReplied x c status)
-complete_to Names c x Done h ok = on_input (input_of c x) (IsDone c x) (IsReplied x c Done) (λ input d. inl (sym (ap status_of d.replies))) h.1
+complete_to : (Names : Stream → Status → Type 0) (c : Command) (x : Exchange) (status : Status) → AnsweredTo Names c x status → NoFault x → OfInput (input_of c x) (IsReply x c status)
+complete_to Names c x Done h ok = on_input (input_of c x) (IsDone c x) (IsReply x c Done) (λ input d. inl (Puts d.text, d.replies, refl)) h.1
 complete_to Names c x Usage h ok = absurd h
 complete_to Names c x ReadFault h ok = absurd (ok.0 h.1)
 complete_to Names c x WriteFault h ok = absurd (ok.1 h.0)
@@ -162,6 +196,8 @@ complete_to Names c x (Small need len) h ok = found c x (Small need len) h.2
 complete_to Names c x (Image fault) h ok = found c x (Image fault) h.2
 complete_to Names c x (Script e) h ok = refused c x (Script e) h.2
 complete_to Names c x (Packed p) h ok = refused c x (Packed p) h.2
+complete_to Names c x (Report p) h ok = refused c x (Report p) h.2
+complete_to Names c x (Differs p) h ok = refused c x (Differs p) h.2
 
 pub complete : (command : Option Command) (x : Exchange) (status : Status) → Answered command x status → IsComplete command x status
 complete (Some c) x status h = complete_to (λ from named. PutsName named from x.sink_now) c x status h

@@ -5,30 +5,30 @@ use Rattle.nv_base.specs.Streams.{AreGone, GaveAll, Stream}
 use Rattle.nv_base.specs.WholeInputs.{Stops}
 use Rattle.nv_base.specs.declared.whole.ReadRefusal.{ReadRefusal}
 use Rattle.nv_base.specs.declared.whole.ReadRefusal.TheVariants as reading
-use Rattle.sim_run.specs.Replies.{Refuses, refused_by, reply, reply_within, too_long, most_input}
-use Rattle.sim_run.specs.Answers.{Exchange, HasReadFew, IsCutOff, IsDone, IsReadUnless, IsStopped, OfInput, TellsReadFault, how_of, input_of, or_given, own_input, reply_in}
-use Rattle.sim_run.specs.BeforeAnswerLine.{BeforeAnswerLine, IsGiven, IsNotGiven, LeavesStore, PutOrLost, Unread}
+use Rattle.sim_run.specs.Replies.{Puts, Refuses, Replies, RepliesUnless, Reply, too_long, most_input}
+use Rattle.sim_run.specs.Answers.{Exchange, HasReadFew, IsCutOff, IsDone, IsReadUnless, IsRefused, IsStopped, OfInput, RepliesIn, TellsReadFault, how_of, input_of, or_given, own_input}
+use Rattle.sim_run.specs.BeforeAnswerLine.{BeforeAnswerLine, IsGiven, IsNotGiven, LeavesStore, PutOrLost, PutsSome, Unread}
 use Rattle.simulation.specs.Stores.{Store}
 use Rattle.sim_run.specs.Halts.{unread_as}
 use Rattle.device_model.specs.Words.{Words}
-use Rattle.sim_run.specs.Promises.{PromisesTo}
+use Rattle.sim_run.specs.Promises.{MeansAudit, PromisesTo}
 use Rattle.sim_run.specs.declared.command.Command.{Command}
-use Rattle.sim_run.specs.declared.command.Command.TheVariants.{Run, Resume, Asm, Dis, Pack, Make}
+use Rattle.sim_run.specs.declared.command.Command.TheVariants.{Run, Resume, Asm, Dis, Pack, Serial, Audit, Make}
 use Rattle.answers.specs.declared.status.Status.{Status}
-use Rattle.answers.specs.declared.status.Status.TheVariants.{Done, Usage, ReadFault, WriteFault, NoMemory, DeviceLost, Image, Small, Script, Packed}
+use Rattle.answers.specs.declared.status.Status.TheVariants.{Done, Usage, ReadFault, WriteFault, NoMemory, DeviceLost, Image, Small, Script, Packed, Differs, Report}
 use Rattle.sim_run.proofs.Answering.{stood}
 use Rattle.sim_run.proofs.Gone.{all_gone, none_gone}
 
 -- ---- an input that was not read
 
 -- more bytes than a call reads
-refuses_long : (c : Command) (s : Store) (input : List ℕ) → most_input + 1 ≤ length input → reply c s input ≡ Refuses (Script too_long)
-unfolding reply
+refuses_long : (c : Command) (s : Store) (input : List ℕ) → most_input + 1 ≤ length input → Replies c s input (Refuses (Script too_long))
+unfolding Replies
 refuses_long c s input h =
     let long : ltb most_input (length input) ≡ true = lt-ltb _ _ (omega arith) in
-    ap (λ b. cond b (Refuses (Script too_long)) (reply_within c s input)) long
+    subst (λ b. RepliesUnless b c s input (Refuses (Script too_long))) (sym long) refl
 
-long_input : (c : Command) (s : Store) (left now : Option (List ℕ)) → AreGone left now (most_input + 1) → OfInput left (λ input. reply c s input ≡ Refuses (Script too_long))
+long_input : (c : Command) (s : Store) (left now : Option (List ℕ)) → AreGone left now (most_input + 1) → OfInput left (λ input. Replies c s input (Refuses (Script too_long)))
 long_input c s None now h = tt
 long_input c s (Some input) now h = refuses_long c s input h.0
 
@@ -37,8 +37,8 @@ unread c x ReadFault o e f h = (o, h.1, f, e)
 unread c x (Script s) o e f h = (
   inr (o, h.1.0),
   f,
-  subst (λ own. OfInput (or_given own x.source.bytes) (λ input. reply_in x c input ≡ Refuses (Script s))) (sym o)
-      (subst (λ t. OfInput x.source.bytes (λ input. reply_in x c input ≡ Refuses (Script t))) (sym h.0) (long_input c x.device x.source.bytes x.source_now.bytes h.1.0)),
+  subst (λ own. OfInput (or_given own x.source.bytes) (λ input. RepliesIn x c input (Refuses (Script s)))) (sym o)
+      (subst (λ t. OfInput x.source.bytes (λ input. RepliesIn x c input (Refuses (Script t)))) (sym h.0) (long_input c x.device x.source.bytes x.source_now.bytes h.1.0)),
   e,
 )
 unread c x NoMemory o e f h = (f, e)
@@ -49,6 +49,8 @@ unread c x DeviceLost o e f h = absurd h
 unread c x (Small need len) o e f h = absurd h
 unread c x (Image fault) o e f h = absurd h
 unread c x (Packed p) o e f h = absurd h
+unread c x (Report p) o e f h = absurd h
+unread c x (Differs p) o e f h = absurd h
 
 pub unread_stops : (old new : Stream) (r : ReadRefusal) → Stops most_input old new r → Unread old new (unread_as r)
 unread_stops old new reading.ReadFault h = h
@@ -74,6 +76,8 @@ unread_few old new DeviceLost h = absurd h
 unread_few old new (Small need len) h = absurd h
 unread_few old new (Image fault) h = absurd h
 unread_few old new (Packed p) h = absurd h
+unread_few old new (Report p) h = absurd h
+unread_few old new (Differs p) h = absurd h
 
 unread_told : (old new : Stream) (status : Status) → Unread old new status → TellsReadFault old new status
 unread_told old new ReadFault h = inr refl
@@ -86,6 +90,8 @@ unread_told old new DeviceLost h = absurd h
 unread_told old new (Small need len) h = absurd h
 unread_told old new (Image fault) h = absurd h
 unread_told old new (Packed p) h = absurd h
+unread_told old new (Report p) h = absurd h
+unread_told old new (Differs p) h = absurd h
 
 unread_counts : (old new : Stream) (status : Status) → Unread old new status → old.faults ≤ new.faults
 unread_counts old new ReadFault h = h.1.0
@@ -98,6 +104,8 @@ unread_counts old new DeviceLost h = absurd h
 unread_counts old new (Small need len) h = absurd h
 unread_counts old new (Image fault) h = absurd h
 unread_counts old new (Packed p) h = absurd h
+unread_counts old new (Report p) h = absurd h
+unread_counts old new (Differs p) h = absurd h
 
 pub not_given_few : (own : Option (List ℕ)) (old new : Stream) (status : Status) → IsNotGiven own old new status → HasReadFew old new status
 not_given_few None old new status h = unread_few old new status h
@@ -115,18 +123,38 @@ pub not_given_undone : (own : Option (List ℕ)) (old new : Stream) (status : St
 not_given_undone None old new status h e = subst (Unread old new) e h
 not_given_undone (Some text) old new status h e = let same : Done ≡ NoMemory = sym e ∙ h.0 in cc same
 
--- what is promised of Done
-promise_undone : (c : Command) (words : Words) (status : Status) (input : List ℕ) → (status ≡ Done → ⊥) → PromisesTo c words status input
-promise_undone Run words status input ne = λ e. absurd (ne e)
-promise_undone Resume words status input ne = λ e. absurd (ne e)
-promise_undone Asm words status input ne = tt
-promise_undone Dis words status input ne = tt
-promise_undone Pack words status input ne = tt
-promise_undone (Make seed) words status input ne = λ e. absurd (ne e)
+-- what is promised of answers that come once an input was read
+audit_unread : (old new : Stream) (status : Status) (input : List ℕ) → Unread old new status → MeansAudit status input
+audit_unread old new ReadFault input h = λ s n e. tt
+audit_unread old new (Script e) input h = λ s n r. tt
+audit_unread old new NoMemory input h = λ s n e. tt
+audit_unread old new Done input h = absurd h
+audit_unread old new Usage input h = absurd h
+audit_unread old new WriteFault input h = absurd h
+audit_unread old new DeviceLost input h = absurd h
+audit_unread old new (Small need len) input h = absurd h
+audit_unread old new (Image fault) input h = absurd h
+audit_unread old new (Packed p) input h = absurd h
+audit_unread old new (Report p) input h = absurd h
+audit_unread old new (Differs p) input h = absurd h
 
-pub undone_promised : (c : Command) (words : Words) (status : Status) (left : Option (List ℕ)) → (status ≡ Done → ⊥) → OfInput left (PromisesTo c words status)
-undone_promised c words status None ne = tt
-undone_promised c words status (Some input) ne = promise_undone c words status input ne
+audit_not_given : (own : Option (List ℕ)) (old new : Stream) (status : Status) (input : List ℕ) → IsNotGiven own old new status → MeansAudit status input
+audit_not_given None old new status input h = audit_unread old new status input h
+audit_not_given (Some text) old new status input h = subst (λ (s : Status). MeansAudit s input) (sym h.0) (λ s n e. tt)
+
+promise_unread : (c : Command) (words : Words) (own : Option (List ℕ)) (old new : Stream) (status : Status) (input : List ℕ) → IsNotGiven own old new status → PromisesTo c words status input
+promise_unread Run words own old new status input h = λ e. absurd (not_given_undone own old new status h e)
+promise_unread Resume words own old new status input h = λ e. absurd (not_given_undone own old new status h e)
+promise_unread Asm words own old new status input h = tt
+promise_unread Dis words own old new status input h = tt
+promise_unread Pack words own old new status input h = tt
+promise_unread (Serial count) words own old new status input h = λ e. absurd (not_given_undone own old new status h e)
+promise_unread Audit words own old new status input h = audit_not_given own old new status input h
+promise_unread (Make seed) words own old new status input h = λ e. absurd (not_given_undone own old new status h e)
+
+pub unread_promised : (c : Command) (words : Words) (own : Option (List ℕ)) (old new : Stream) (status : Status) (left : Option (List ℕ)) → IsNotGiven own old new status → OfInput left (PromisesTo c words status)
+unread_promised c words own old new status None h = tt
+unread_promised c words own old new status (Some input) h = promise_unread c words own old new status input h
 
 -- ---- an input that was read
 
@@ -147,28 +175,36 @@ was_read : (own : Option (List ℕ)) (old new : Stream) (bytes : List ℕ) → I
 was_read None old new bytes g = all_read old.bytes new.bytes bytes g.gave
 was_read (Some text) old new bytes g = g.1
 
-found : (c : Command) (x : Exchange) (bytes : List ℕ) (status : Status) → IsGiven (own_input c) bytes x.source x.source_now → refused_by (reply_in x c bytes) ≡ Some status
-    → OfInput (input_of c x) (λ input. refused_by (reply_in x c input) ≡ Some status)
-found c x bytes status g e = of_input (own_input c) x.source x.source_now bytes (λ input. refused_by (reply_in x c input) ≡ Some status) g e
+found : (c : Command) (x : Exchange) (bytes : List ℕ) (status : Status) → IsGiven (own_input c) bytes x.source x.source_now → IsRefused c x status bytes → OfInput (input_of c x) (IsRefused c x status)
+found c x bytes status g e = of_input (own_input c) x.source x.source_now bytes (IsRefused c x status) g e
 
-refused : (c : Command) (x : Exchange) (bytes : List ℕ) (status : Status) → IsGiven (own_input c) bytes x.source x.source_now → reply_in x c bytes ≡ Refuses status
-    → OfInput (input_of c x) (λ input. reply_in x c input ≡ Refuses status)
-refused c x bytes status g e = of_input (own_input c) x.source x.source_now bytes (λ input. reply_in x c input ≡ Refuses status) g e
+refused : (c : Command) (x : Exchange) (bytes : List ℕ) (r : Reply) (status : Status) → IsGiven (own_input c) bytes x.source x.source_now → RepliesIn x c bytes r → r ≡ Refuses status
+    → OfInput (input_of c x) (λ input. RepliesIn x c input (Refuses status))
+refused c x bytes r status g s e = of_input (own_input c) x.source x.source_now bytes (λ input. RepliesIn x c input (Refuses status)) g (subst (RepliesIn x c bytes) e s)
 
-pub replied : (c : Command) (x : Exchange) (bytes : List ℕ) (status : Status) → IsGiven (own_input c) bytes x.source x.source_now → PutOrLost (reply_in x c bytes) x.sink x.sink_now status
+by_reply : (c : Command) (x : Exchange) (bytes : List ℕ) (r : Reply) (status : Status) → IsGiven (own_input c) bytes x.source x.source_now → RepliesIn x c bytes r → PutOrLost r x.sink x.sink_now status
     → LeavesStore (how_of c) x.device x.device_now status → BeforeAnswerLine (Some c) x status
-replied c x bytes Done g h f = (was_read (own_input c) x.source x.source_now bytes g, of_input (own_input c) x.source x.source_now bytes (IsDone c x) g (record { text = h.0; replies = h.1; put = h.2 }))
-replied c x bytes Usage g h f = absurd h
-replied c x bytes ReadFault g h f = absurd h
-replied c x bytes WriteFault g h f =
-    (h.2.counted, was_read (own_input c) x.source x.source_now bytes g, of_input (own_input c) x.source x.source_now bytes (IsCutOff c x) g (record { text = h.0; replies = h.1; put = h.2 }))
-replied c x bytes NoMemory g h f = (f, h)
-replied c x bytes DeviceLost g h f =
-    (f, was_read (own_input c) x.source x.source_now bytes g, of_input (own_input c) x.source x.source_now bytes (IsStopped (λ from status. x.sink_now ≡ from) c x) g (record { text = h.0; replies = h.1; middle = x.sink_now; put = h.2; named = refl }))
-replied c x bytes (Small need len) g h f = (inl (was_read (own_input c) x.source x.source_now bytes g), f, found c x bytes (Small need len) g h.0, h.1)
-replied c x bytes (Image fault) g h f = (inl (was_read (own_input c) x.source x.source_now bytes g), f, found c x bytes (Image fault) g h.0, h.1)
-replied c x bytes (Script s) g h f = (inl (was_read (own_input c) x.source x.source_now bytes g), f, refused c x bytes (Script s) g h.0, h.1)
-replied c x bytes (Packed p) g h f = (inl (was_read (own_input c) x.source x.source_now bytes g), f, refused c x bytes (Packed p) g h.0, h.1)
+by_reply c x bytes r Done g s h f = (was_read (own_input c) x.source x.source_now bytes g, of_input (own_input c) x.source x.source_now bytes (IsDone c x) g (record { text = h.0; replies = subst (RepliesIn x c bytes) h.1 s; put = h.2 }))
+by_reply c x bytes r Usage g s h f = absurd h
+by_reply c x bytes r ReadFault g s h f = absurd h
+by_reply c x bytes r WriteFault g s h f =
+    (h.2.counted, was_read (own_input c) x.source x.source_now bytes g, of_input (own_input c) x.source x.source_now bytes (IsCutOff c x) g (record { text = h.0; replies = subst (RepliesIn x c bytes) h.1 s; put = h.2 }))
+by_reply c x bytes r NoMemory g s h f = (f, h)
+by_reply c x bytes r DeviceLost g s h f =
+    (f, was_read (own_input c) x.source x.source_now bytes g, of_input (own_input c) x.source x.source_now bytes (IsStopped (λ from status. x.sink_now ≡ from) c x) g (record { text = h.0; reply = r; replies = s; with_text = h.1; middle = x.sink_now; put = h.2; named = refl }))
+by_reply c x bytes r (Small need len) g s h f = (inl (was_read (own_input c) x.source x.source_now bytes g), f, found c x bytes (Small need len) g (r, s, h.0), h.1)
+by_reply c x bytes r (Image fault) g s h f = (inl (was_read (own_input c) x.source x.source_now bytes g), f, found c x bytes (Image fault) g (r, s, h.0), h.1)
+by_reply c x bytes r (Script e) g s h f = (inl (was_read (own_input c) x.source x.source_now bytes g), f, refused c x bytes r (Script e) g s h.0, h.1)
+by_reply c x bytes r (Packed p) g s h f = (inl (was_read (own_input c) x.source x.source_now bytes g), f, refused c x bytes r (Packed p) g s h.0, h.1)
+by_reply c x bytes r (Report p) g s h f = (inl (was_read (own_input c) x.source x.source_now bytes g), f, refused c x bytes r (Report p) g s h.0, h.1)
+by_reply c x bytes r (Differs p) g s h f = (inl (was_read (own_input c) x.source x.source_now bytes g), f, refused c x bytes r (Differs p) g s h.0, h.1)
+
+pub replied : (c : Command) (x : Exchange) (bytes : List ℕ) (status : Status) → IsGiven (own_input c) bytes x.source x.source_now → PutsSome PutOrLost (RepliesIn x c bytes) x.sink x.sink_now status
+    → LeavesStore (how_of c) x.device x.device_now status → BeforeAnswerLine (Some c) x status
+replied c x bytes status g (inl h) f =
+    let left : LeavesStore (how_of c) x.device x.device_now NoMemory = subst (LeavesStore (how_of c) x.device x.device_now) h.0 f in
+    subst (λ (s : Status). BeforeAnswerLine (Some c) x s) (sym h.0) (left, h.1)
+replied c x bytes status g (inr h) f = by_reply c x bytes h.0 status g h.1 h.2 f
 
 pub given_few : (own : Option (List ℕ)) (old new : Stream) (bytes : List ℕ) (status : Status) → IsGiven own bytes old new → length bytes ≤ most_input → HasReadFew old new status
 given_few None old new bytes status g l = inl (all_gone old.bytes new.bytes bytes most_input g.gave l)

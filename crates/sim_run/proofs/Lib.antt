@@ -13,3 +13,7 @@ pub mod Chained
 pub mod StoppedChains
 pub mod MadeRead
 pub mod Summing
+pub mod FirstFit
+pub mod OneAudit
+pub mod Audited
+pub mod FinishLines

@@ -21,33 +21,40 @@ use Rattle.answers.specs.Refusals.{script_answer}
 use Rattle.answers.specs.declared.status.Status.{Status}
 use Rattle.answers.specs.declared.status.Status.TheVariants.{Done, Script}
 use Rattle.sim_run.specs.declared.command.Command.{Command}
-use Rattle.sim_run.specs.declared.command.Command.TheVariants.{Run, Resume, Asm, Dis, Pack, Make}
+use Rattle.sim_run.specs.declared.command.Command.TheVariants.{Run, Resume, Asm, Dis, Pack, Serial, Audit, Make}
 use Rattle.sim_run.specs.Origins.{begin_on, fresh_run}
 use Rattle.sim_run.specs.MadeScript.{made_text}
 use Rattle.sim_run.specs.Summary.{summary_text}
-use Rattle.sim_run.specs.Replies.{Finds, Puts, Refuses, Reply, device_reply, in_place, made_reply, most_input, reply, run_reply, too_long}
+use Rattle.sim_run.specs.Replies.{Finds, Puts, Refuses, Replies, RepliesUnless, RepliesWithin, Reply, device_reply, in_place, made_reply, most_input, run_reply, too_long}
 use Rattle.sim_run.specs.Answers.{Answered, Exchange, IsDone, OfInput, input_of}
-use Rattle.sim_run.specs.Promises.{ImagesTo, IsHeadlined, IsImaged, IsPromised, IsSummedUp, KeepsHeadline, KeepsImages, KeepsPromise}
+use Rattle.sim_run.specs.Promises.{HasSerialFinishes, ImagesTo, IsHeadlined, IsImaged, IsPromised, IsSummedUp, KeepsHeadline, KeepsImages, KeepsPromise, MeansAudit, PromisesTo}
 use Rattle.nv_base.specs.Streams.{PutsText, Stream}
 use Rattle.sim_run.proofs.Amid.{unopened}
-use Rattle.sim_run.proofs.Answering.{later}
+use Rattle.sim_run.proofs.Answering.{later, on_input}
 use Rattle.sim_run.proofs.Sizes.{text_begun}
 
 -- what a run puts is the report from where it begins
-by_length : (long : Bool) (how : How) (d : Store) (r : Result scripts.Script ScriptError) (s : scripts.Script) (o : Origin) (text : List ℕ) → r ≡ Ok s → begin_on how s.set (words_in d) ≡ Some o → cond long (Refuses (Script too_long)) (run_reply how d r) ≡ Puts text
-    → report_text o (events_of s.schedule) ≡ text
-by_length true how d r s o text e b h = absurd (cc h)
-by_length false how d r s o text e b h = text_begun how (length d.start) s.set (words_in d) (events_of s.schedule) o text b (sym (ap (run_reply how d) e) ∙ h)
+ran : (how : How) (d : Store) (r : Result scripts.Script ScriptError) (s : scripts.Script) (o : Origin) (text : List ℕ) → r ≡ Ok s → begin_on how s.set (words_in d) ≡ Some o → run_reply how d r ≡ Puts text → report_text o (events_of s.schedule) ≡ text
+ran how d r s o text e b h = text_begun how (length d.start) s.set (words_in d) (events_of s.schedule) o text b (sym (ap (run_reply how d) e) ∙ h)
 
 -- commands that run
 record Runs (c : Command) (how : How) : Type 0 where
-  says : (d : Store) (input : List ℕ) → reply c d input ≡ cond (ltb most_input (length input)) (Refuses (Script too_long)) (run_reply how d (read input))
+  says : (d : Store) (input text : List ℕ) → Replies c d input (Puts text) → run_reply how d (read input) ≡ Puts text
+
+-- a text is put of no input that is too long
+short : (long : Bool) (c : Command) (d : Store) (input text : List ℕ) → RepliesUnless long c d input (Puts text) → RepliesWithin c d input (Puts text)
+short true c d input text h = absurd (cc h)
+short false c d input text h = h
+
+text_within : (c : Command) (d : Store) (input text : List ℕ) → Replies c d input (Puts text) → RepliesWithin c d input (Puts text)
+unfolding Replies
+text_within c d input text h = short (ltb most_input (length input)) c d input text h
 
 headlined : (c : Command) (how : How) (x : Exchange) (input : List ℕ) → Runs c how → IsPromised how (words_in x.device) input → IsDone c x input → IsHeadlined how x input
 headlined c how x input r p d =
     let o = p.run.origin in
     let events = events_of p.script.schedule in
-    let same = by_length (ltb most_input (length input)) how x.device (read input) p.script o d.text p.reads p.run.begins (sym (r.says x.device input) ∙ d.replies) in record {
+    let same = ran how x.device (read input) p.script o d.text p.reads p.run.begins (r.says x.device input d.text d.replies) in record {
       script = p.script;
       reads = p.reads;
       origin = o;
@@ -63,12 +70,10 @@ both c how x status None r e p d = tt
 both c how x status (Some input) r e p d = headlined c how x input r (p e) d
 
 run_is : Runs Run Fresh
-unfolding reply
-run_is = record { says = λ d input. refl }
+run_is = record { says = λ d input text h. text_within Run d input text h }
 
 resume_is : Runs Resume Again
-unfolding reply
-resume_is = record { says = λ d input. refl }
+resume_is = record { says = λ d input text h. text_within Resume d input text h }
 
 -- the summary is that of the report of which the headline holds
 other_text : (text put : List ℕ) (r : Reply) → in_place text r ≡ Puts put → text ≡ put
@@ -76,23 +81,18 @@ other_text text put (Puts report) e = cc e
 other_text text put (Refuses status) e = absurd (cc e)
 other_text text put (Finds status) e = absurd (cc e)
 
-summary_is : (seed : ℕ) (long : Bool) (d : Store) (r : Result scripts.Script ScriptError) (s : scripts.Script) (o : Origin) (text : List ℕ) → r ≡ Ok s → begin_on Fresh s.set (words_in d) ≡ Some o → cond long (Refuses (Script too_long)) (made_reply seed d r) ≡ Puts text
+summary_is : (seed : ℕ) (d : Store) (r : Result scripts.Script ScriptError) (s : scripts.Script) (o : Origin) (text : List ℕ) → r ≡ Ok s → begin_on Fresh s.set (words_in d) ≡ Some o → made_reply seed d r ≡ Puts text
     → summary_text seed (tally_of (all_lines o (events_of s.schedule))) ≡ text
-summary_is seed true d r s o text e b h = absurd (cc h)
-summary_is seed false d r s o text e b h =
+summary_is seed d r s o text e b h =
     let same : fresh_run s.set ≡ o = cc b in
     let put = sym (ap (made_reply seed d) e) ∙ h in
     ap (λ (x : Origin). summary_text seed (tally_of (all_lines x (events_of s.schedule)))) (sym same) ∙ other_text (summary_text seed (tally_of (all_lines (fresh_run s.set) (events_of s.schedule)))) text (device_reply Fresh d s.set (events_of s.schedule)) put
-
-make_is : (seed : ℕ) (d : Store) (input : List ℕ) → reply (Make seed) d input ≡ cond (ltb most_input (length input)) (Refuses (Script too_long)) (made_reply seed d (read input))
-unfolding reply
-make_is seed d input = refl
 
 summed_up : (seed : ℕ) (x : Exchange) (input : List ℕ) → IsPromised Fresh (words_in x.device) input → IsDone (Make seed) x input → IsSummedUp seed x input
 summed_up seed x input p d =
     let o = p.run.origin in
     let events = events_of p.script.schedule in
-    let same = summary_is seed (ltb most_input (length input)) x.device (read input) p.script o d.text p.reads p.run.begins (sym (make_is seed x.device input) ∙ d.replies) in record {
+    let same = summary_is seed x.device (read input) p.script o d.text p.reads p.run.begins (text_within (Make seed) x.device input d.text d.replies) in record {
       script = p.script;
       reads = p.reads;
       origin = o;
@@ -112,6 +112,8 @@ keeps_headline (Some Resume) x status h p = λ e. both Resume Again x status x.s
 keeps_headline (Some Asm) x status h p = tt
 keeps_headline (Some Dis) x status h p = tt
 keeps_headline (Some Pack) x status h p = tt
+keeps_headline (Some (Serial count)) x status h p = λ e. on_input x.source.bytes (PromisesTo (Serial count) (words_in x.device) status) (HasSerialFinishes count) (λ input q. q e) p
+keeps_headline (Some Audit) x status h p = on_input x.source.bytes (PromisesTo Audit (words_in x.device) status) (MeansAudit status) (λ input q. q) p
 keeps_headline (Some (Make seed)) x status h p = λ e. summed_up seed x (made_text seed) (p e) (done_at (Make seed) x status e h)
 
 -- also behind the line that names the answer
@@ -142,6 +144,8 @@ none_imaged (Make seed) old status input never = λ s e. none_written Fresh s.se
 none_imaged Asm old status input never = tt
 none_imaged Dis old status input never = tt
 none_imaged Pack old status input never = tt
+none_imaged (Serial count) old status input never = tt
+none_imaged Audit old status input never = tt
 
 pub images_unread : (c : Command) (old : Store) (status : Status) (left : Option (List ℕ)) → (status ≡ Done → ⊥) → OfInput left (ImagesTo c old old status)
 images_unread c old status None never = tt

@@ -16,7 +16,7 @@ use Rattle.script.specs.Parts as scripts
 use Rattle.script.specs.Causes.{ScriptError}
 use Rattle.answers.specs.Names.{PutsName}
 use Rattle.answers.specs.declared.status.Status.{Status}
-use Rattle.answers.specs.declared.status.Status.TheVariants.{Done, Usage, ReadFault, WriteFault, NoMemory, DeviceLost, Image, Small, Script, Packed}
+use Rattle.answers.specs.declared.status.Status.TheVariants.{Done, Usage, ReadFault, WriteFault, NoMemory, DeviceLost, Image, Small, Script, Packed, Differs, Report}
 use Rattle.sim_run.specs.Answers.{Exchange, input_of}
 use Rattle.sim_run.specs.Halts.{status_at}
 use Rattle.sim_run.specs.Promises.{HasOpenedPart, IsBegun}
@@ -36,6 +36,8 @@ stopped_before how set events old new sink (Image fault) ne part = tt
 stopped_before how set events old new sink (Small need len) ne part = tt
 stopped_before how set events old new sink (Script e) ne part = tt
 stopped_before how set events old new sink (Packed p) ne part = tt
+stopped_before how set events old new sink (Report p) ne part = tt
+stopped_before how set events old new sink (Differs p) ne part = tt
 
 -- the run stopped
 pub stopped_then : (how : How) (set : TaskSet) (events : List Event) (old mid new : Store) (k : Kernel) (sink now : Stream) (h : Halt) (status : Status) (b : IsBegun how set events old mid k) → Stops b.origin events mid new sink now h → status ≡ status_at h → StoppedAs how set events old new sink now status

@@ -17,7 +17,7 @@ use Rattle.script.specs.Parts as scripts
 use Rattle.script.specs.Causes.{ScriptError}
 use Rattle.simulation.proofs.Halting.{no_start}
 use Rattle.answers.specs.declared.status.Status.{Status}
-use Rattle.answers.specs.declared.status.Status.TheVariants.{Done, Usage, ReadFault, WriteFault, NoMemory, DeviceLost, Image, Small, Script, Packed}
+use Rattle.answers.specs.declared.status.Status.TheVariants.{Done, Usage, ReadFault, WriteFault, NoMemory, DeviceLost, Image, Small, Script, Packed, Differs, Report}
 use Rattle.sim_run.specs.BeforeAnswerLine.{LeavesStore, PutOrLost, PutReply}
 use Rattle.sim_run.specs.Origins.{fresh_run}
 use Rattle.sim_run.specs.Promises.{HasRunAll, IsBegun}
@@ -50,6 +50,8 @@ same_answer text r o (Small need len) d w h = (same_refusal text r (Small need l
 same_answer text r o (Image fault) d w h = (same_refusal text r (Image fault) h.0, h.1)
 same_answer text r o (Script e) d w h = (ap (in_place text) h.0, h.1)
 same_answer text r o (Packed place) d w h = (ap (in_place text) h.0, h.1)
+same_answer text r o (Report place) d w h = (ap (in_place text) h.0, h.1)
+same_answer text r o (Differs place) d w h = (ap (in_place text) h.0, h.1)
 
 -- ---- the run
 
@@ -88,6 +90,8 @@ untold_before set events old new o (Image fault) w = tt
 untold_before set events old new o (Small need len) w = tt
 untold_before set events old new o (Script e) w = tt
 untold_before set events old new o (Packed place) w = tt
+untold_before set events old new o (Report place) w = tt
+untold_before set events old new o (Differs place) w = tt
 
 -- a script is read as one alone
 pub same_untold : (a b : scripts.Script) (r : Result scripts.Script ScriptError) (old new : Store) (sink now : Stream) (status : Status) → r ≡ Ok a → r ≡ Ok b → StoppedUntold a.set (events_of a.schedule) old new sink now status → StoppedUntold b.set (events_of b.schedule) old new sink now status

@@ -59,6 +59,6 @@ PutOrLost r old new (Small need len) = (refused_by r ≡ Some (Small need len)) 
 PutOrLost r old new (Image fault) = (refused_by r ≡ Some (Image fault)) × (new ≡ old)
 PutOrLost r old new status = PutReply r old new status
 
--- the same by way of a reply of which this holds; where memory ran out, nothing was put
-abbrev pub PutsReply : (Reply → Type 0) → Stream → Stream → Status → Type 0
-PutsReply Of old new status = ((status ≡ NoMemory) × (new ≡ old)) ⊎ ((r : Reply) × Of r × PutOrLost r old new status)
+-- what was put by way of a reply of which this holds; where memory ran out, nothing was put
+abbrev pub PutsSome : (Put : Reply → Stream → Stream → Status → Type 0) → (Of : Reply → Type 0) → Stream → Stream → Status → Type 0
+PutsSome Put Of old new status = ((status ≡ NoMemory) × (new ≡ old)) ⊎ ((r : Reply) × Of r × Put r old new status)

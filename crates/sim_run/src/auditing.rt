@@ -6,7 +6,7 @@ ghost use Rattle.script.specs.Fronts.{read_front as front_read};
 ghost use Rattle.task_model.specs.Shape.{HasShape};
 ghost use Rattle.report.specs.Sizes.{IsShort};
 ghost use Rattle.report_text.specs.Reports.{IsReportOf};
-ghost use Rattle.sim_run.specs.BeforeAnswerLine.{PutsReply};
+ghost use Rattle.sim_run.specs.BeforeAnswerLine.{PutReply, PutsSome};
 ghost use Rattle.sim_run.specs.Promises.{MeansAudit, MeansReport};
 ghost use Rattle.sim_run.specs.Replies.{AuditReplies, Audits};
 
@@ -31,7 +31,7 @@ fn audit_report<K: Sink>(
     requires report { IsReportOf set.now report.now bytes.now }
     requires short { IsShort report.now }
     requires shape { HasShape set.now report.now.state.objects }
-    ensures replied { PutsReply (Audits set.now bytes.now) (K.seen out.old) (K.seen out.new) result }
+    ensures replied { PutsSome PutReply (Audits set.now bytes.now) (K.seen out.old) (K.seen out.new) result }
     ensures means { MeansReport set.now bytes.now result }
 {
     match audit::audit(alloc, set, report) {
@@ -43,7 +43,7 @@ fn audit_report<K: Sink>(
 /// The same of the bytes behind a script, or answers with the first line of them that cannot stand in a report.
 fn audit_bytes<K: Sink>(alloc: Global, set: &TaskSet, bytes: &[u8], out: &mut K) -> Status
     requires { length bytes.now ≤ MAX_INPUT }
-    ensures replied { PutsReply (Audits set.now bytes.now) (K.seen out.old) (K.seen out.new) result }
+    ensures replied { PutsSome PutReply (Audits set.now bytes.now) (K.seen out.old) (K.seen out.new) result }
     ensures means { MeansReport set.now bytes.now result }
 {
     match read_report(alloc, set, bytes) {
@@ -56,7 +56,7 @@ fn audit_bytes<K: Sink>(alloc: Global, set: &TaskSet, bytes: &[u8], out: &mut K)
 pub(crate) fn audit<K: Sink>(alloc: Global, input: &[u8], out: &mut K) -> Status
     requires { length input.now ≤ MAX_INPUT }
     ensures replied { let read = front_read input.now in
-        PutsReply (AuditReplies input.now read) (K.seen out.old) (K.seen out.new) result }
+        PutsSome PutReply (AuditReplies input.now read) (K.seen out.old) (K.seen out.new) result }
     ensures means { MeansAudit result input.now }
 {
     match read_front(alloc, input) {

@@ -8,7 +8,7 @@ ghost use Rattle.sim_run.specs.Replies.{Replies};
 ghost use Rattle.sim_run.specs.Answers.{Answered, HasReadFew, IsComplete, LeavesDevice, MayUse, NeverFalls, TellsReadFault, exchange, how_of};
 ghost use Rattle.sim_run.specs.Promises.{ImagesTo, KeepsHeadline, KeepsImages, KeepsPromise, PromisesTo};
 ghost use Rattle.sim_run.specs.Stopping.{KeepsStop, StopsTo, TellsStop};
-ghost use Rattle.sim_run.specs.BeforeAnswerLine.{BeforeAnswerLine, LeavesStore, PutsReply};
+ghost use Rattle.sim_run.specs.BeforeAnswerLine.{BeforeAnswerLine, LeavesStore, PutOrLost, PutsSome};
 
 use crate::assembly::asm;
 use crate::auditing::audit;
@@ -38,7 +38,7 @@ fn answer<K: Sink, F: Fram>(
     requires input { length input.now ≤ MAX_INPUT }
     requires within { IsWithin command }
     ensures replied { let old = store F.start F.log F.lost dev.old in
-        PutsReply (Replies command old input.now) (K.seen out.old) (K.seen out.new) result }
+        PutsSome PutOrLost (Replies command old input.now) (K.seen out.old) (K.seen out.new) result }
     ensures store { let old = store F.start F.log F.lost dev.old in
         LeavesStore (how_of command) old (store F.start F.log F.lost dev.new) result }
     ensures headline { let words = words_in (store F.start F.log F.lost dev.old) in

@@ -12,7 +12,7 @@ ghost use Rattle.report_text.specs.Lines.{open_text};
 ghost use Rattle.report_text.specs.Report.{end_part, lines_text, objects_text};
 ghost use Rattle.script.specs.Reading.{read};
 ghost use Rattle.task_model.specs.Finals.{IsFit, runs_of, state_of};
-ghost use Rattle.task_model.specs.FirstFinishes.{first_finishes};
+ghost use Rattle.task_model.specs.FirstFinishes.{Finished, first_finishes};
 ghost use Rattle.task_model.specs.Shape.{HasShape};
 ghost use Rattle.answers.specs.declared.status.Status.TheVariants as Status;
 ghost use Rattle.sim_run.specs.BeforeAnswerLine.{PutReply};
@@ -35,6 +35,7 @@ use task_model::{Final, Objects, serial_first};
 use task_set::TaskSet;
 
 /// A text of lines, each of which is made in one buffer.
+#[derive(Drop)]
 struct Text {
     bytes: Vec<u8>,
     line: LineBuf,
@@ -132,7 +133,10 @@ fn text_of(
     end: &Final,
 ) -> Result<Vec<u8>, NoMemory>
     requires { IsFit set.now (state_of end.now) }
-    ensures { let f = record { entries = map entry_of entries.now; state = state_of end.now } in
+    ensures { let f : Finished = record {
+      entries = map entry_of entries.now;
+      state = state_of end.now;
+    } in
         IfOk result (λ bytes. bytes.items ≡ finishes_text set.now f) }
 {
     let mut text = Text::new(alloc)?;
@@ -149,6 +153,8 @@ fn put_first<K: Sink>(alloc: Global, set: &TaskSet, count: u32, out: &mut K) -> 
     ensures serial { let f = first_finishes set.now count (formatted set.now) in
         result ≡ Status.Done → Serial (runs_of set.now) (formatted set.now) f.entries f.state }
 {
+    // that the set keeps its limits
+    let _ = set.format();
     first_state_is_fit();
     let Ok((entries, end)) = serial_first(alloc, set, count) else {
         return Status::NoMemory;

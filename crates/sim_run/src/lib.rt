@@ -8,6 +8,7 @@ pub mod chains;
 mod command;
 mod finishes;
 mod input;
+pub mod laws;
 mod made_script;
 mod make;
 mod opening;

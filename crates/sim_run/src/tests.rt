@@ -1,5 +1,7 @@
 // The call over memory: each answer, with the bytes that it puts. `tables/` has many more texts, which the program answers.
 
+mod serial;
+
 use crate::{Status, simulate};
 use fram_dev::{Fram, Lost, MemFram};
 use nv_base::{MemSink, MemSource, NoMemory};
