@@ -78,6 +78,7 @@ def main():
             return bench.stands()
 
         add_once, forty = EXAMPLES / "add_once.nvk", EXAMPLES / "forty_failures.nvk"
+        pipeline = EXAMPLES / "pipeline.nvk"
         first, second, third = sorted(CHAIN.glob("*.nvk"))
         begun = leaves("run", first, None)
         then = leaves("resume", second, begun)
@@ -92,6 +93,8 @@ def main():
             ("asm", ["asm"], b"loop: addi a0, a0, -1\nbnez a0, loop\n", None),
             ("pack, add_once", ["pack"], add_once.read_bytes(), None),
             ("dis of it", ["dis"], packed, None),
+            ("serial 9, pipeline", ["serial", "9"], pipeline.read_bytes(), None),
+            ("audit, pipeline", ["audit"], pipeline.read_bytes() + pipeline.with_suffix(".report").read_bytes(), None),
         ]
         return 1 if sum(bench.refuse(*row) for row in rows) else 0
 
