@@ -37,6 +37,12 @@ def build(folder, name, uses, words):
     os.makedirs(folder, exist_ok=True)
     plain = os.path.join(folder, "plain")
     subprocess.run(["cc", "-O2", "-o", plain, os.path.join(ROOT, "bench", name + ".c")], check=True)
+    return [plain, prove(folder, name, uses, words)]
+
+
+def prove(folder, name, uses, words):
+    """The program of the bench, proved and built; with these words it has little to do."""
+    os.makedirs(folder, exist_ok=True)
     copy_crates(folder, name, uses)
     crate = os.path.join(folder, "crates", name + "_bench")
     print("proving and building the program, which takes long the first time", flush=True)
@@ -46,7 +52,7 @@ def build(folder, name, uses, words):
     if ran.returncode != 0:
         with open(os.path.join(folder, "log")) as log:
             sys.exit("the program was not built:\n" + log.read()[-3000:])
-    return [plain, os.path.join(crate, "out", name + "_bench")]
+    return os.path.join(crate, "out", name + "_bench")
 
 
 def spent():
