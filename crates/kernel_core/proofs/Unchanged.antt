@@ -1,11 +1,10 @@
 -- A step that leaves the device alone and tells nothing.
 use Rattle.std.proofs.Common.{◌≡◌, ℕ, ◌<◌, ◌≤◌, Bool, true, false, IsTrue, not, ◌||◌, cond, eqb, nat_eq, List, [], ◌∷◌, length, set, map, get_or, is_some, Option, Some, None, refl, sym, ap, ap₂, ◌∙◌, subst, arith}
-use Rattle.std.specs.List.{find, list_any}
+use Rattle.std.specs.List.{list_any}
 use Rattle.std.specs.Global.{Vec}
 use Rattle.std.specs.Vec.{with_item}
 use Rattle.std.proofs.Math.Nat.{ℕ_set}
 use Rattle.std.proofs.Math.Bridge.{le_prop}
-use Rattle.rv_core.specs.State.{MachineState}
 use Rattle.nv_base.specs.declared.lines.TaskRec as base
 use Rattle.nv_base.specs.declared.lines.Line.TheVariants.{Nothing}
 use Rattle.kernel_model.specs.Replay.{TaskRec}
@@ -19,7 +18,6 @@ use Rattle.vol_copy.specs.Doings.{doing_in}
 use Rattle.vol_copy.specs.Stages.{is_waiting}
 use Rattle.vol_copy.specs.declared.attempt.Stage.{Stage}
 use Rattle.vol_copy.specs.declared.attempt.Stage.TheVariants as stage
-use Rattle.vol_copy.specs.declared.doing.Doing.{Doing}
 use Rattle.vol_copy.specs.declared.doing.Doing.TheVariants as doing
 use Rattle.core_seats.specs.declared.seat.Seat as own
 use Rattle.core_seats.specs.Steps.{RunsOn}

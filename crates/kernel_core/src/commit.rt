@@ -1,6 +1,6 @@
 //! One write of a core's commit, and its finish that joins.
 
-ghost use Rattle.std.specs.Prelude.{◌≡◌, ◌<◌, ◌≤◌, ◌⊎◌, IfOk, OnErr, OnOk, false, true, length};
+ghost use Rattle.std.specs.Prelude.{◌≡◌, ◌<◌, ◌≤◌, ◌⊎◌, OnErr, OnOk, false, true, length};
 ghost use Rattle.nv_base.specs.Streams.{FaultCounted};
 ghost use Rattle.rv_core.specs.State.{MachineState};
 ghost use Rattle.device_model.specs.Devices.{need_on};
@@ -21,8 +21,8 @@ use nv_base::{CoreId, Entry, Line, ObjSet, Point};
 use vol_copy::Attempt;
 
 impl Kernel {
-    /// One write of the core's commit. `Lost` where the device lost it: then it is made, or it is not.
-    pub(crate) fn write<F: Fram>(&mut self, dev: &mut F, core: CoreId) -> Result<Line, Lost>
+    /// One write of the core's commit, which tells nothing. `Lost` where the device lost it: then it is made, or it is not.
+    pub(crate) fn write<F: Fram>(&mut self, dev: &mut F, core: CoreId) -> Result<(), Lost>
         requires lawful { let words = words_of (F.log dev.old) (F.start dev.old) in
             (t : Tables MachineState) × Keeps self.old words t × IsLawful self.old words t }
         requires saving { IsSavingAt self.old core.0 false }
@@ -30,8 +30,7 @@ impl Kernel {
             need_on (device_at self.old.set words) ≤ length (F.start dev.old) }
         ensures turns { let words = words_of (F.log dev.old) (F.start dev.old) in
             let later = words_of (F.log dev.new) (F.start dev.new) in
-            IfOk result (CoreTurns self.old core.0 self.new words later) }
-        ensures tells { IfOk result (λ line. line ≡ Line.Nothing) }
+            OnOk result (CoreTurns self.old core.0 self.new words later Line.Nothing) }
         ensures written { let words = words_of (F.log dev.old) (F.start dev.old) in
             let later = words_of (F.log dev.new) (F.start dev.new) in
             OnOk result (CoreWrites self.old core.0 words later (F.log dev.old) (F.log dev.new)) }
@@ -49,10 +48,10 @@ impl Kernel {
     {
         let seat = usize::from(core.0);
         match self.writer.turn(dev, &self.set, &self.seats[seat].attempt) {
-            Ok(Turn::Wrote) => Ok(Line::Nothing),
+            Ok(Turn::Wrote) => Ok(()),
             Ok(Turn::Flipped) => {
                 self.seats[seat].complete();
-                Ok(Line::Nothing)
+                Ok(())
             }
             Err(lost) => Err(lost),
         }

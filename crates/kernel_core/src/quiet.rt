@@ -56,7 +56,7 @@ impl Kernel {
         }
         match self.seats[usize::from(core.0)].saving {
             Some(saving) if !saving.is_whole => match self.write(dev, core) {
-                Ok(_) => Ok(true),
+                Ok(()) => Ok(true),
                 Err(lost) => Err(lost),
             },
             _ => Ok(false),

@@ -90,7 +90,10 @@ impl Kernel {
         match self.seats[usize::from(core.0)].saving {
             None => self.step_try(dev, core),
             Some(saving) if saving.is_whole => Ok(self.join(core)),
-            Some(_) => self.write(dev, core),
+            Some(_) => match self.write(dev, core) {
+                Ok(()) => Ok(Line::Nothing),
+                Err(lost) => Err(lost),
+            },
         }
     }
 

@@ -1,6 +1,6 @@
 // The steps that a generator draws, by number and in order.
 
-ghost use Rattle.std.specs.Prelude.{◌≡◌, ℕ, ◌<◌, ◌≤◌, map, slice_get, Some};
+ghost use Rattle.std.specs.Prelude.{◌≡◌, ◌⊎◌, ℕ, ◌<◌, ◌≤◌, IsTrue, map, slice_get, Some};
 ghost use Rattle.std.specs.Iterator.{YieldsFirst};
 ghost use Rattle.schedule_model.specs.CoreSteps.{core_of_word, generator_of, words};
 ghost use Rattle.power_trace.specs.Filling.{Fills};
@@ -81,6 +81,27 @@ impl Draw {
             return None;
         }
         self.count -= 1;
-        Some((self.generator.next_word() % u32::from(self.cores)) as u8)
+        Some(core_of(self.generator.next_word(), self.cores))
     }
+}
+
+// The core that a word draws: a remainder, which is a mask where the number of cores is a power of two.
+#[inline(always)]
+fn core_of(word: u32, cores: u8) -> u8
+    requires { 1 ≤ cores }
+    ensures { result ≡ core_of_word cores word }
+{
+    if is_power(cores) {
+        (word & u32::from(cores - 1)) as u8
+    } else {
+        (word % u32::from(cores)) as u8
+    }
+}
+
+// Whether a number of cores is a power of two.
+#[inline(always)]
+fn is_power(cores: u8) -> bool
+    ensures { IsTrue result → (cores ≡ 1) ⊎ (cores ≡ 2) ⊎ (cores ≡ 4) ⊎ (cores ≡ 8) }
+{
+    matches!(cores, 1 | 2 | 4 | 8)
 }

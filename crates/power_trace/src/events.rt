@@ -10,7 +10,7 @@ ghost use Rattle.power_trace.specs.Events.{event_of};
 use crate::ahead::Ahead;
 use crate::event::Event;
 use crate::items::StepItem;
-use crate::remaining::Remaining;
+use crate::remaining::{Next, Remaining};
 use nv_base::CoreId;
 use std::marker::Model;
 
@@ -52,7 +52,11 @@ impl<'a> Events<'a> {
         if let Some(core) = self.ahead.next_core() {
             return Some(Event::Core(CoreId(core)));
         }
-        self.behind.next_event(&mut self.ahead)
+        match self.behind.next_event(&mut self.ahead) {
+            Next::Core(core) => Some(Event::Core(core)),
+            Next::Fail => Some(Event::Fail),
+            Next::End => None,
+        }
     }
 }
 

@@ -7,14 +7,24 @@ ghost use Rattle.schedule_model.specs.CoreSteps.{core_steps};
 ghost use Rattle.schedule_model.specs.Failures.{with_failures};
 ghost use Rattle.power_trace.specs.Items.{item_of};
 ghost use Rattle.power_trace.specs.DueTimes.{due_times};
-ghost use Rattle.power_trace.specs.Events.{event_of};
+ghost use Rattle.power_trace.specs.Events.{event_if, event_of};
 
 use crate::ahead::Ahead;
 use crate::core_steps::CoreSteps;
-use crate::event::Event;
 use crate::items::StepItem;
 use nv_base::CoreId;
 use std::marker::Model;
+
+/// What comes next.
+#[derive(Clone, Copy, Debug)]
+pub(crate) enum Next {
+    /// A core takes one step.
+    Core(CoreId),
+    /// Power fails.
+    Fail,
+    /// No event is left.
+    End,
+}
 
 /// Steps, and the failures of power among them, which contracts see as the list of events.
 #[derive(Debug, Drop)]
@@ -55,21 +65,23 @@ impl<'a> Remaining<'a> {
     /// The next event: a failure, or the first of steps that are worked out now, up to the next failure.
     #[cold]
     #[inline(never)]
-    pub(crate) fn next_event(&mut self, ahead: &mut Ahead) -> Option<Event>
+    pub(crate) fn next_event(&mut self, ahead: &mut Ahead) -> Next
         requires { ahead.old ≡ [] }
         ensures { YieldsFirstBy event_of (λ events. events)
-            self.old result (map CoreStep ahead.new ++ self.new) }
+            self.old (event_if result) (map CoreStep ahead.new ++ self.new) }
     {
         if is_due(self.due) {
             let (due, later) = first_due(self.later);
             self.due = due;
             self.later = later;
-            return Some(Event::Fail);
+            return Next::Fail;
         }
         let count = ahead.fill(&mut self.steps, most_before(self.due));
         self.due = due_after(self.due, count);
-        let core = ahead.next_core()?;
-        Some(Event::Core(CoreId(core)))
+        match ahead.next_core() {
+            Some(core) => Next::Core(CoreId(core)),
+            None => Next::End,
+        }
     }
 }
 

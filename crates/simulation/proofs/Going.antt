@@ -33,7 +33,7 @@ use Rattle.kernel_core.specs.Events.{CutsEvent, IsAt, SimulatesEvent}
 use Rattle.kernel_core.specs.Steps.{KeepsSet}
 use Rattle.kernel_core.specs.declared.kernel.Kernel.{Kernel}
 use Rattle.kernel_core.proofs.Lawful.{listed_at}
-use Rattle.simulation.specs.Runs.{Begins, Goes, HasDone, IsHalted, PutsStart, Stops, StopsAfter, first_lines_text, found_text, tail_text}
+use Rattle.simulation.specs.Runs.{Begins, Goes, HasDone, IsHalted, PutsStart, Stops, StopsAfter, first_lines_text, tail_text}
 use Rattle.simulation.specs.Stores.{Store, words_in}
 use Rattle.simulation.specs.declared.halt.Halt.{Halt}
 use Rattle.simulation.specs.declared.halt.Halt.TheVariants as halt
@@ -84,6 +84,21 @@ pub some_left : (all left : List Event) (n : ℕ) → left ≡ drop n all → n 
 some_left [] left n h l e = absurd (omega (arith, l))
 some_left (x ∷ all) left zero h l e = let same : x ∷ all ≡ [] = sym h ∙ e in cc same
 some_left (x ∷ all) left (suc n) h l e = some_left all left n h (omega (arith, l)) e
+
+pub next_below : (all : List Event) (n : ℕ) (e : Event) (rest : List Event) → drop n all ≡ e ∷ rest → n < length all
+next_below [] zero e rest h = absurd (cc h)
+next_below [] (suc n) e rest h = absurd (cc h)
+next_below (x ∷ all) zero e rest h = omega arith
+next_below (x ∷ all) (suc n) e rest h = let below = next_below all n e rest h in omega (arith, below)
+
+pub next_within : (all : List Event) (n : ℕ) (e : Event) (rest : List Event) → drop n all ≡ e ∷ rest → n + 1 ≤ length all
+next_within all n e rest h = let below = next_below all n e rest h in omega (arith, below)
+
+-- nothing is left where all were done
+pub none_left : (all : List Event) (n : ℕ) → drop n all ≡ [] → n ≤ length all → n ≡ length all
+none_left [] n h few = omega (arith, few)
+none_left (x ∷ all) zero h few = absurd (cc h)
+none_left (x ∷ all) (suc n) h few = let same = none_left all n h (omega (arith, few)) in omega (arith, same)
 
 -- a line is added
 one_line_more : (o : Origin) (events : List Event) (n : ℕ) (e : Event) (l : base.Line) → slice_get events n ≡ Some e → line_of l ≡ (event_step (world_from o) (after o (take n events)) e).1

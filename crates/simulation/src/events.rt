@@ -58,11 +58,10 @@ fn put_events<K: Sink, F: Fram>(
     kernel_is_at_state();
     images_follow_events();
     each_event_is_of_cores();
+    // that the schedule keeps its limits, so that each event is one of its cores
+    let _ = schedule.len();
     let mut events = schedule.events();
-    for _ in 0..schedule.len() {
-        let Some(event) = events.next() else {
-            unreachable!();
-        };
+    while let Some(event) = events.next() {
         // most events tell nothing
         let Ok(taken) = kernel.pass(dev, event) else {
             return Err(Halt::DeviceLost);

@@ -1,4 +1,4 @@
-use Rattle.std.proofs.Common.{◌≡◌, ◌+◌, ⊎_elim, inl, inr, Ok, ap, ap₂, ◌∙◌, subst, arith}
+use Rattle.std.proofs.Common.{◌+◌, ⊎_elim, inl, inr, Ok, ap, ap₂, ◌∙◌, subst}
 use Rattle.std.proofs.lemmas.Bool.{ne_eqb}
 use Rattle.recovery.specs.Reading.{IsRefusedAt}
 use Rattle.recovery.specs.Images.{words_of}

@@ -1,4 +1,4 @@
-use Rattle.std.proofs.Common.{List, ap, ap₂, ◌∙◌, is_some, not}
+use Rattle.std.proofs.Common.{List, ap, ◌∙◌, is_some, not}
 use Rattle.std.specs.List.{list_any}
 use Rattle.kernel_model.specs.Replay.{TaskRec}
 use Rattle.task_queue.specs.Queues.{next_ready}

@@ -1,6 +1,4 @@
-use Rattle.std.proofs.Common.{refl, sym, ap, ◌∙◌}
-use Rattle.core_seats.specs.Others.{saves_in}
-use Rattle.vol_copy.specs.declared.attempt.Stage.{Stage}
+use Rattle.std.proofs.Common.{refl, sym, ◌∙◌}
 use Rattle.kernel_core.proofs.Unchanged.{idles, is_false, none_there, stands_on, try_passes, waits}
 use Rattle.kernel_core.proofs.kernel.Kernel.is_still.Goals as goal
 

@@ -1,4 +1,4 @@
-use Rattle.std.proofs.Common.{◌≡◌, ◌<◌, length, true, Ok, ap₂, sym, subst, ◌∙◌}
+use Rattle.std.proofs.Common.{◌<◌, length, ap₂, sym, subst, ◌∙◌}
 use Rattle.rv_core.specs.State.{MachineState}
 use Rattle.nv_base.specs.declared.lines.Line.TheVariants.{Nothing}
 use Rattle.table_machine.specs.Tables.{Tables}

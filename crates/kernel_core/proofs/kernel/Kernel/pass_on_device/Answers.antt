@@ -1,7 +1,6 @@
-use Rattle.std.proofs.Common.{sym, subst, false}
-use Rattle.nv_base.specs.declared.lines.Line.{Line}
+use Rattle.std.proofs.Common.{false}
+use Rattle.nv_base.specs.declared.lines.Line.TheVariants as line
 use Rattle.recovery.specs.Images.{words_of}
-use Rattle.kernel_core.specs.Steps.{Steps}
 use Rattle.kernel_core.proofs.Stepping.{saving_at, saving_cut, saving_image, saving_steps, saving_writes}
 use Rattle.kernel_core.proofs.Unchanged.{is_false}
 use Rattle.kernel_core.proofs.kernel.Kernel.pass_on_device.Goals as goal
@@ -13,7 +12,7 @@ returns-in-Ok-clause-steps g c = λ yes.
     let words = words_of (g.F.Fram.log c.args.dev.now) (g.F.Fram.start c.args.dev.now) in
     let later = words_of (g.F.Fram.log c.write.new.dev) (g.F.Fram.start c.write.new.dev) in
     let at = saving_at k n c.from.result c.index.result.now c.in-Some.saving false c.in_default.not-Boot c.requires.core c.requires.lawful.1.cores c.from.ensures c.index.ensures c.in-Some.is (is_false c.in-Some.saving.is_whole c.if-not-saving.true) in
-    subst (λ (l : Line). Steps k n words c.write.new.self later l) c.in-Ok.ensures.tells (saving_steps k c.write.new.self words later n false c.in-Ok.field-0 at c.in-Ok.ensures.turns)
+    saving_steps k c.write.new.self words later n false line.Nothing at c.in-Ok.ensures.turns
 
 pub returns-in-Ok-clause-written : goal.returns-in-Ok-clause-written
 returns-in-Ok-clause-written g c = λ yes.

@@ -1,4 +1,4 @@
-use Rattle.std.proofs.Common.{◌≡◌, eqb, refl, sym, subst, ◌∙◌, arith}
+use Rattle.std.proofs.Common.{eqb, sym, subst, arith}
 use Rattle.rv_core.specs.State.{MachineState}
 use Rattle.device_model.specs.Words.{Words}
 use Rattle.table_machine.specs.Tables.{Tables}

@@ -1,9 +1,10 @@
 use Rattle.std.proofs.Common.{ap₂, sym, subst, true, false}
-use Rattle.std.proofs.lemmas.Result.{IfOk-weaker, on_ok_weaker, on_err_weaker}
+use Rattle.std.proofs.lemmas.Result.{IfOk-weaker}
 use Rattle.device_model.specs.Words.{Words}
+use Rattle.nv_base.specs.declared.lines.Line.TheVariants as line
 use Rattle.recovery.specs.Images.{words_of}
 use Rattle.kernel_core.specs.Steps.{HasImage, HasWritten, MayHaveWritten, Steps}
-use Rattle.kernel_core.specs.Turns.{CoreTurns, TurnsOn}
+use Rattle.kernel_core.specs.Turns.{TurnsOn}
 use Rattle.kernel_core.proofs.Stepping.{join_image, join_writes, on_err_here, on_ok_here, saving_at, saving_cut, saving_image, saving_steps, saving_writes, try_at, try_cut, try_image, try_steps, try_writes}
 use Rattle.kernel_core.proofs.kernel.Kernel.step.Goals as goal
 
@@ -66,18 +67,17 @@ returns-in-Some-clause-image g c =
     let words = words_of (g.F.Fram.log c.args.dev.now) (g.F.Fram.start c.args.dev.now) in
     join_image k words n (saving_at k n c.from.result c.index.result.now c.in-Some.saving true c.in_default.not-Boot c.requires.core c.requires.lawful.1.cores c.from.ensures c.index.ensures c.in-Some.is c.if-saving.true)
 
-pub returns-in-Some-2-clause-steps : goal.returns-in-Some-2-clause-steps
-returns-in-Some-2-clause-steps g c =
+pub returns-in-Ok-clause-steps : goal.returns-in-Ok-clause-steps
+returns-in-Ok-clause-steps g c =
     let k = c.args.self.now in
     let n = c.args.core.0 in
     let words = words_of (g.F.Fram.log c.args.dev.now) (g.F.Fram.start c.args.dev.now) in
     let later = words_of (g.F.Fram.log c.write.new.dev) (g.F.Fram.start c.write.new.dev) in
     let at = saving_at k n c.from.result c.index.result.now c.in-Some.saving false c.in_default.not-Boot c.requires.core c.requires.lawful.1.cores c.from.ensures c.index.ensures c.in-Some.is c.if-saving.false in
-    IfOk-weaker c.write.result (CoreTurns k n c.write.new.self words later) (Steps k n words c.write.new.self later)
-    (λ line turns. saving_steps k c.write.new.self words later n false line at turns) c.write.ensures.turns
+    saving_steps k c.write.new.self words later n false line.Nothing at c.in-Ok.ensures.turns
 
-pub returns-in-Some-2-clause-written : goal.returns-in-Some-2-clause-written
-returns-in-Some-2-clause-written g c =
+pub returns-in-Ok-clause-written : goal.returns-in-Ok-clause-written
+returns-in-Ok-clause-written g c =
     let k = c.args.self.now in
     let n = c.args.core.0 in
     let log = g.F.Fram.log c.args.dev.now in
@@ -85,10 +85,10 @@ returns-in-Some-2-clause-written g c =
     let words = words_of log (g.F.Fram.start c.args.dev.now) in
     let later = words_of grown (g.F.Fram.start c.write.new.dev) in
     let at = saving_at k n c.from.result c.index.result.now c.in-Some.saving false c.in_default.not-Boot c.requires.core c.requires.lawful.1.cores c.from.ensures c.index.ensures c.in-Some.is c.if-saving.false in
-    on_ok_weaker c.write.result (saving_writes k words later n false log grown at) c.write.ensures.written
+    saving_writes k words later n false log grown at c.in-Ok.ensures.written
 
-pub returns-in-Some-2-clause-image : goal.returns-in-Some-2-clause-image
-returns-in-Some-2-clause-image g c =
+pub returns-in-Ok-clause-image : goal.returns-in-Ok-clause-image
+returns-in-Ok-clause-image g c =
     let k = c.args.self.now in
     let n = c.args.core.0 in
     let log = g.F.Fram.log c.args.dev.now in
@@ -96,10 +96,10 @@ returns-in-Some-2-clause-image g c =
     let words = words_of log (g.F.Fram.start c.args.dev.now) in
     let later = words_of grown (g.F.Fram.start c.write.new.dev) in
     let at = saving_at k n c.from.result c.index.result.now c.in-Some.saving false c.in_default.not-Boot c.requires.core c.requires.lawful.1.cores c.from.ensures c.index.ensures c.in-Some.is c.if-saving.false in
-    on_ok_weaker c.write.result (saving_image k words later n false log grown at) c.write.ensures.written
+    saving_image k words later n false log grown at c.in-Ok.ensures.written
 
-pub returns-in-Some-2-clause-cut : goal.returns-in-Some-2-clause-cut
-returns-in-Some-2-clause-cut g c =
+pub returns-in-Err-clause-cut : goal.returns-in-Err-clause-cut
+returns-in-Err-clause-cut g c =
     let k = c.args.self.now in
     let n = c.args.core.0 in
     let log = g.F.Fram.log c.args.dev.now in
@@ -107,4 +107,4 @@ returns-in-Some-2-clause-cut g c =
     let words = words_of log (g.F.Fram.start c.args.dev.now) in
     let later = words_of grown (g.F.Fram.start c.write.new.dev) in
     let at = saving_at k n c.from.result c.index.result.now c.in-Some.saving false c.in_default.not-Boot c.requires.core c.requires.lawful.1.cores c.from.ensures c.index.ensures c.in-Some.is c.if-saving.false in
-    on_err_weaker c.write.result (saving_cut k words later n false log grown at) c.write.ensures.lost
+    saving_cut k words later n false log grown at c.in-Err.ensures.lost

@@ -8,7 +8,7 @@ returns-then-self-eq0 c =
     (over, over)
 
 pub returns : goal.returns
-returns c = rw c.from.ensures
+returns c = rw c.core_of.ensures
     (sym c.self.view_is
     ∙ draw_goes_on c.self.inside.cores c.self.inside.count c.next_word.result c.self.inside.generator c.next_word.new.self
     c.if-self-eq0.false c.next_word.ensures)

@@ -1,6 +1,7 @@
 use Rattle.std.proofs.Common.{◌≡◌, ◌≤◌, ℕ, Bool, true, false, Option, Some, refl, sym, ◌∙◌, subst}
 use Rattle.power_trace.proofs.NextEvent.{fails_now, steps_now, none_now}
 use Rattle.power_trace.proofs.remaining.Remaining.next_event.Goals as goal
+use Rattle.power_trace.proofs.remaining.Remaining.next_event.Goals.{in-Some, in-None}
 
 not_due : (due : Option ℕ) → (due ≡ Some 0 → (let b : Bool = false in b ≡ true)) → due ≡ Some 0 → ⊥
 not_due due p h =
@@ -14,19 +15,19 @@ returns-then-is_due c =
     (sym c.self.view_is
     ∙ fails_now a.due c.first_due-due.result.0 a.later.now c.first_due-due.result.1.now a.steps (c.if-is_due.ensures.0 refl) c.first_due-due.ensures)
 
-pub returns-in_err-core : goal.returns-in_err-core
-returns-in_err-core c =
-    let a = c.self.inside in
-    let f = c.fill-count in
-    let none = none_now a.due c.due_after-self-inside.result a.later.now a.steps f.new.self f.new.steps f.result (not_due a.due c.if-is_due.ensures.1)
-    f.ensures.steps f.ensures.count c.due_after-self-inside.ensures c.in_err-core.ensures.0 f.ensures.some in
-    rw (c.from_residual.ensures, c.in_err-core.ensures.1) (sym c.self.view_is ∙ none.0, none.1)
-
 pub returns : goal.returns
 returns c =
     let a = c.self.inside in
     let f = c.fill-count in
-    sym c.self.view_is
-    ∙ steps_now a.due c.due_after-self-inside.result a.later.now a.steps f.new.self f.new.steps c.next_core.new.self c.in_ok-core.core f.result
-    f.ensures.steps f.ensures.count (λ n is. subst (λ m. f.result ≤ m) (c.most_before.ensures.before n is) f.ensures.most)
-    c.due_after-self-inside.ensures c.in_ok-core.ensures
+    elim c.match-next_core.branch [
+      | in-Some w ↦
+          rw w.result-is
+          (sym c.self.view_is
+          ∙ steps_now a.due c.due_after-self-inside.result a.later.now a.steps f.new.self f.new.steps c.next_core.new.self w.in-Some.core f.result
+          f.ensures.steps f.ensures.count (λ n is. subst (λ m. f.result ≤ m) (c.most_before.ensures.before n is) f.ensures.most)
+          c.due_after-self-inside.ensures w.in-Some.ensures)
+      | in-None w ↦
+          let none = none_now a.due c.due_after-self-inside.result a.later.now a.steps f.new.self f.new.steps f.result (not_due a.due c.if-is_due.ensures.1)
+          f.ensures.steps f.ensures.count c.due_after-self-inside.ensures w.in-None.ensures.0 f.ensures.some in
+          rw (w.result-is, w.in-None.ensures.1) (sym c.self.view_is ∙ none.0, none.1)
+    ]
