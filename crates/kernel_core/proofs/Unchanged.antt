@@ -6,6 +6,8 @@ use Rattle.std.specs.Vec.{with_item}
 use Rattle.std.proofs.Math.Nat.{ℕ_set}
 use Rattle.std.proofs.Math.Bridge.{le_prop}
 use Rattle.nv_base.specs.declared.lines.TaskRec as base
+use Rattle.rv_core.specs.State.{MachineState, Next}
+use Rattle.rv_core.specs.Machine.{step_of}
 use Rattle.nv_base.specs.declared.lines.Line.TheVariants.{Nothing}
 use Rattle.kernel_model.specs.Replay.{TaskRec}
 use Rattle.set_model.specs.Views.{task_of}
@@ -25,7 +27,7 @@ use Rattle.vol_copy.specs.Tries.{IsFor}
 use Rattle.core_seats.specs.Others.{listed_if, saves_in, task_in, tasks_in, with_task}
 use Rattle.kernel_core.specs.Events.{SimulatesEvent}
 use Rattle.kernel_core.specs.Steps.{KeepsSet, Passes}
-use Rattle.kernel_core.specs.Turns.{IsAtStage, SeatPasses}
+use Rattle.kernel_core.specs.Turns.{GoesAlone, IsAtStage, SeatPasses}
 use Rattle.kernel_core.specs.declared.kernel.Kernel.{Kernel}
 use Rattle.kernel_core.specs.declared.kernel.Power.TheVariants as power
 use Rattle.kernel_core.proofs.AtStage.{same_set}
@@ -34,7 +36,7 @@ use Rattle.kernel_core.proofs.Turned.{seated}
 use Rattle.kernel_core.proofs.Booting.{other_image, other_steps, other_writes}
 use Rattle.kernel_core.proofs.Starting.{HeldLaw, starts_none}
 use Rattle.kernel_core.proofs.Stepping.{core_turns, on_words, try_image, try_steps, try_writes}
-use Rattle.kernel_core.proofs.Waiting.{waits_on}
+use Rattle.kernel_core.proofs.Waiting.{same_item, waits_on}
 
 pub is_false : (b : Bool) → IsTrue (not b) → b ≡ false
 is_false true h = absurd (cc h)
@@ -127,6 +129,13 @@ pub goes : (k : Kernel) (core : CoreId) (at : ℕ) (s new : own.Seat) → k.powe
 goes k core at s new on inside cores e is trying running kept runs =
     let g = runs_at k core.0 at s on inside cores e is trying running in
     subst (λ (m : ℕ). Passes k core.0 (seated k m new)) (sym e) (try_passes k (seated k core.0 new) core.0 (stands_on k core.0 at s on inside cores e is trying) (runs_on k core new g kept runs))
+
+-- a core whose seat took no step has no step that its machine takes alone
+pub went : (k : Kernel) (n at : ℕ) (s : own.Seat) → at ≡ n → s ≡ get_or k.seats.items at s → (s.saving ≡ None → s.attempt.stage ≡ stage.Running → (m : MachineState) → step_of s.attempt.machine ≡ Next m → ⊥) → GoesAlone k n → ⊥
+went k n at s e is stops g =
+    let item = subst (λ (m : ℕ). s ≡ get_or k.seats.items m s) e is in
+    let same = same_item k.seats.items n s g.at.seat g.at.inside item g.at.seat_is in
+    subst (λ (x : own.Seat). x.saving ≡ None → x.attempt.stage ≡ stage.Running → (m : MachineState) → step_of x.attempt.machine ≡ Next m → ⊥) same stops g.at.trying g.at.stage g.state g.next
 
 -- where its seat stays as it is, all does
 same_vec : (v : Vec own.Seat) (xs : List own.Seat) (ok : (v.len ≡ length xs) × (v.len ≤ v.cap)) → xs ≡ v.items → record v { items = xs; ok = ok } ≡ v

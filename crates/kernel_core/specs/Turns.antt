@@ -1,6 +1,7 @@
 -- What a turn is in the kernel over tables. This project's own.
 use Rattle.std.specs.Prelude.{◌≡◌, ℕ, ◌<◌, ◌++◌, Bool, List, set, get_or, length, Some, None}
-use Rattle.rv_core.specs.State.{MachineState}
+use Rattle.rv_core.specs.State.{MachineState, Next}
+use Rattle.rv_core.specs.Machine.{step_of}
 use Rattle.nv_base.specs.declared.lines.Line.{Line}
 use Rattle.nv_base.specs.declared.lines.Line.TheVariants.{Nothing}
 use Rattle.kernel_model.specs.Cores.{all_but}
@@ -10,6 +11,7 @@ use Rattle.table_machine.specs.Tables.{Seat, Vacant, Tables}
 use Rattle.table_machine.specs.Seats.{SeatTurn, seat_turn}
 use Rattle.table_machine.specs.Events.{Answer, core_answer}
 use Rattle.vol_copy.specs.declared.attempt.Stage.{Stage}
+use Rattle.vol_copy.specs.declared.attempt.Stage.TheVariants.{Running}
 use Rattle.task_queue.specs.Queues.{is_held}
 use Rattle.core_seats.specs.declared.seat.Seat as own
 use Rattle.core_seats.specs.Others.{listed_if, task_in}
@@ -27,6 +29,12 @@ pub record IsAtStage (k : Kernel) (n : ℕ) (is_stage : Stage → Type 0) : Type
   pub seat_is : seat ≡ get_or k.seats.items n seat
   pub trying : seat.saving ≡ None
   pub stage : is_stage seat.attempt.stage
+
+-- core n runs a try, and its machine's next step is one that it takes alone: neither a service nor the try's end
+pub record GoesAlone (k : Kernel) (n : ℕ) : Type 0 where
+  pub at : IsAtStage k n (λ s. s ≡ Running)
+  pub state : MachineState
+  pub next : step_of at.seat.attempt.machine ≡ Next state
 
 -- core n of a kernel with its power on has a finish that commits, of which all writes are made, or not all
 pub record IsSavingAt (k : Kernel) (n : ℕ) (is_whole : Bool) : Type 0 where

@@ -16,7 +16,7 @@ ghost use Rattle.core_seats.specs.Others.{saves_in, tasks_in};
 ghost use Rattle.kernel_core.specs.Events.{CutsEvent, SimulatesEvent, Stands};
 ghost use Rattle.kernel_core.specs.Keeping.{IsLawful, Keeps};
 ghost use Rattle.kernel_core.specs.Steps.{KeepsSet, Passes};
-ghost use Rattle.kernel_core.specs.Turns.{is_on};
+ghost use Rattle.kernel_core.specs.Turns.{GoesAlone, is_on};
 ghost use Rattle.kernel_core.specs.declared.kernel.Power.TheVariants.{On};
 
 use crate::kernel::{Kernel, Power};
@@ -29,8 +29,8 @@ use vol_copy::Doing;
 
 impl Kernel {
     /// Takes an event that tells nothing, where a few looks show that it is one: a step of a machine, or of a core that has
-    /// nothing to do, or that waits, a write of a commit, a word that a boot reads. Whether it was taken: if not, nothing
-    /// has changed, and the event is a `turn`. `Lost` as of `turn`.
+    /// nothing to do, or that waits, a write of a commit, a word that a boot reads. Whether it was taken, as each step is
+    /// that a machine takes alone: if not, nothing has changed, and the event is a `turn`. `Lost` as of `turn`.
     #[inline(always)]
     pub fn pass<F: Fram>(&mut self, dev: &mut F, event: Event) -> Result<bool, Lost>
         requires at { Stands self.old (words_of (F.log dev.old) (F.start dev.old)) }
@@ -44,6 +44,8 @@ impl Kernel {
             let later = words_of (F.log dev.new) (F.start dev.new) in result ≡ Ok true
             → SimulatesEvent self.old event words (F.log dev.old) self.new later (F.log dev.new)
             Nothing }
+        ensures goes { result ≡ Ok false → (core : CoreId) → event ≡ Event.Core core
+            → GoesAlone self.old core.0 → ⊥ }
         ensures kept { result ≡ Ok false → (self.new ≡ self.old) × (dev.new ≡ dev.old) }
         ensures cut { let words = words_of (F.log dev.old) (F.start dev.old) in
             let later = words_of (F.log dev.new) (F.start dev.new) in
@@ -78,6 +80,7 @@ impl Kernel {
             × IsLawful self.old words t }
         requires core { core.0 < self.old.set.cores }
         ensures passes { IsTrue result → Passes self.old core.0 self.new }
+        ensures goes { result ≡ false → GoesAlone self.old core.0 → ⊥ }
         ensures kept { result ≡ false → self.new ≡ self.old }
         ensures rest { KeepsSet self.old self.new }
         ensures live { self.new.lost ≡ self.old.lost }

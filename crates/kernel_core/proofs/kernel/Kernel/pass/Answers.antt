@@ -1,4 +1,4 @@
-use Rattle.std.proofs.Common.{◌<◌, length, ap₂, sym, subst, ◌∙◌}
+use Rattle.std.proofs.Common.{◌≡◌, ◌<◌, length, ap₂, sym, subst, ◌∙◌}
 use Rattle.rv_core.specs.State.{MachineState}
 use Rattle.nv_base.specs.declared.lines.Line.TheVariants.{Nothing}
 use Rattle.table_machine.specs.Tables.{Tables}
@@ -6,7 +6,9 @@ use Rattle.recovery.specs.Images.{words_of}
 use Rattle.power_trace.specs.declared.event.Event.{Event}
 use Rattle.power_trace.specs.declared.event.Event.TheVariants as event
 use Rattle.kernel_core.specs.Keeping.{IsLawful, Keeps}
+use Rattle.nv_base.specs.declared.ids.CoreId.{CoreId}
 use Rattle.kernel_core.specs.Events.{CutsEvent, SimulatesEvent}
+use Rattle.kernel_core.specs.Turns.{GoesAlone}
 use Rattle.kernel_core.specs.declared.kernel.Kernel.{Kernel}
 use Rattle.kernel_core.proofs.Lawful.{lawful_at}
 use Rattle.kernel_core.proofs.Stepping.{core_cut, core_turns}
@@ -55,3 +57,10 @@ returns-in-Err-clause-cut g c =
     subst (λ (x : Event). CutsEvent k x words log later grown) (sym c.in-Core.is)
     (subst (λ (x : Kernel). CutsEvent x (event.Core c.in-Core.core) words log later grown) same
     (core_cut j c.in-Core.core words later log grown (λ e. ap₂ words_of e c.in-Err.ensures.start) c.in-Err.ensures.cut))
+
+same_core : (a b : CoreId) → event.Core a ≡ event.Core b → a ≡ b
+same_core a b e = cc e
+
+pub returns-in-Ok-clause-goes : goal.returns-in-Ok-clause-goes
+returns-in-Ok-clause-goes g c = λ no. λ core. λ is. λ alone.
+    c.pass_step.ensures.goes c.if-pass_step.false (subst (λ (x : CoreId). GoesAlone c.args.self.now x.0) (same_core core c.in-Core.core (sym is ∙ c.in-Core.is)) alone)

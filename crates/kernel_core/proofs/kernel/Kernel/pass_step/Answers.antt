@@ -1,4 +1,4 @@
-use Rattle.std.proofs.Common.{eqb, sym, subst, arith}
+use Rattle.std.proofs.Common.{eqb, sym, subst, ◌∙◌, arith}
 use Rattle.rv_core.specs.State.{MachineState}
 use Rattle.device_model.specs.Words.{Words}
 use Rattle.table_machine.specs.Tables.{Tables}
@@ -9,7 +9,7 @@ use Rattle.kernel_core.proofs.Stepping.{power_on}
 use Rattle.vol_copy.specs.Tries.{IsFor}
 use Rattle.core_seats.specs.declared.seat.Seat as own
 use Rattle.kernel_core.proofs.Turned.{all_at}
-use Rattle.kernel_core.proofs.Unchanged.{goes, is_false, other_passes, same_kernel}
+use Rattle.kernel_core.proofs.Unchanged.{goes, is_false, other_passes, same_kernel, went}
 use Rattle.kernel_core.proofs.kernel.Kernel.pass_step.Goals as goal
 
 pub returns-in-Boot-clause-passes : goal.returns-in-Boot-clause-passes
@@ -44,3 +44,9 @@ returns-clause-kept c = λ no.
     let cores = c.requires.lawful.2.cores in
     let inside = c.requires.core in
     same_kernel k c.from.result c.index_mut.result.now c.go.new.self (omega (arith, c.from.ensures, cores, inside)) c.index_mut.ensures.value (c.go.ensures.rests c.if-go.false)
+
+pub returns-in-Boot-clause-goes : goal.returns-in-Boot-clause-goes
+returns-in-Boot-clause-goes c = λ no. λ g. absurd (cc (sym g.at.power ∙ c.in-Boot.is))
+
+pub returns-clause-goes : goal.returns-clause-goes
+returns-clause-goes c = λ no. λ g. went c.args.self.now c.args.core.0 c.from.result c.index_mut.result.now c.from.ensures c.index_mut.ensures.value (c.go.ensures.stops c.if-go.false) g
